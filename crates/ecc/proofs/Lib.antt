@@ -1,0 +1,12 @@
+pub mod Xor
+pub mod Tests
+pub mod Codes
+pub mod Linear
+pub mod Syndrome
+pub mod Locate
+pub mod Laws
+pub mod Fresh
+pub mod Flips
+pub mod OneFlip
+pub mod TwoFlips
+pub mod Numbers

@@ -1,0 +1,4 @@
+pub mod Code
+pub mod Judge
+pub mod Flip
+pub mod Claims

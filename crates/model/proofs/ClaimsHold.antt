@@ -1,0 +1,163 @@
+-- Every claim of specs/Claims holds.
+use Prim.Native.Nat.{suc, zero, ℕ}
+use mathlib.Core.Bool.{Bool, cond, false, true}
+use mathlib.Core.Logic.{_⊎_, inl, inr}
+use mathlib.Core.Option.{some}
+use mathlib.Core.Path.{_∙_, _≡_, ap, fun-ext, refl, sym}
+use native.Mathlib.Omega.{arith}
+use Rattle.model.specs.Change.{Change, Rules, create, delete, makeDirectory, path, removeDirectory, replace, standingAfter}
+use Rattle.model.specs.Claims.{Accepted, AcceptedExactly, ChangeKeeps, CheckIsHolding, Commute, CountsAddUp, Demand3, Kept, Order, clustersBack, givenBack}
+use Rattle.model.specs.Counts.{totalBelow}
+use Rattle.model.specs.Lookup.{Found, absent, found, lookUp, tell}
+use Rattle.model.specs.Names.{Path, beginning, samePath}
+use Rattle.model.specs.Perform.{Answer, decide, done, perform, performOn, refused, write}
+use Rattle.model.specs.Plan.{after, freeOf, planOf}
+use Rattle.model.specs.Refusal.{needed, refusal}
+use Rattle.model.specs.Standing.{standingsOf, treeOf}
+use Rattle.model.specs.Tree.{Slot, reached}
+use Rattle.model.specs.View.{View}
+use Rattle.model.proofs.AbstractCards.{abstractOf, noRoom, roomOfSlot}
+use Rattle.model.proofs.ChangeActs.{acts}
+use Rattle.model.proofs.ChangeOperations.{Both, demand-3, op}
+use Rattle.model.proofs.CheckHolds.{check-holds, holds-check}
+use Rattle.model.proofs.CountLaws.{counts}
+use Rattle.model.proofs.Equality.{Eq-path, bool}
+use Rattle.model.proofs.Operations.{AbstractCard, Accepts, effect, need}
+use Rattle.model.proofs.PerformLaws.{Sound, abs-is, absR, abstract, machine, performs, ran, viewOf}
+use Rattle.model.proofs.Refusals.{needed-is, refusal-accepts}
+
+pub check-is-holding : CheckIsHolding
+check-is-holding =
+    record {
+      sound = λ v r m e. let h = check-holds v r m e in (h .0, fun-ext (h .1));
+      complete = λ v r h. holds-check v r h;
+    }
+
+pub counts-add-up : CountsAddUp
+counts-add-up allocEnd v r m e = counts v r ((check-holds v r m e) .0) allocEnd
+
+module _ (y : Rules) (v : View) (a : Accepted y v) where
+  abbrev pub sound-of : Sound y v
+  sound-of = (a .root, (check-holds v (a .root) (a .marks) (a .checked)) .0, a .noWords)
+
+  pub tree-is : (q : Path) → treeOf v q ≡ (abstract y v) .look q
+  unfolding treeOf abstract
+  tree-is q = ap (λ x. standingsOf x q) (a .checked) ∙ ap (λ x. (absR y v x) .look q) (sym (a .checked))
+
+  pub free-is : (abstract y v) .free ≡ freeOf y v
+  unfolding abstract
+  free-is = ap (λ x. (absR y v x) .free) (a .checked)
+
+accepted-of : (y : Rules) (v : View) → Sound y v → Accepted y v
+accepted-of y v s = record { root = s .0; marks = reached (s .0); checked = holds-check v (s .0) (s .1); noWords = s .2 }
+
+view-done : (x : Answer) (w : View) → x ≡ done w → viewOf x ≡ some w
+view-done x w e = ap viewOf e
+
+done-view : (x : Answer) (w : View) → viewOf x ≡ some w → x ≡ done w
+done-view (refused n p) w e = absurd (let z : _≡_ {A = ℕ} 0 1 = cc in omega arith)
+done-view (done u) w e = let z : u ≡ w = cc in ap done z
+
+-- ---- one change
+
+module _ (y : Rules) (v : View) (a : Accepted y v) (c : Change) (w : View) (e : perform y c v ≡ done w) where
+  ran-so : Sound y w × Accepts (op y c) (abstract y v) × (abstract y w ≡ effect (op y c) (abstract y v))
+  ran-so = ran y c v w (sound-of y v a) (view-done (perform y c v) w e)
+
+  again : Accepted y w
+  again = accepted-of y w (ran-so .0)
+
+  passed : Accepts (op y c) (abstractOf y v (a .root))
+  passed = rw (abs-is y v (sound-of y v a)) at (ran-so .1)
+
+  need-is : need (op y c) (abstract y v) ≡ needed c (a .root)
+  need-is = ap (need (op y c)) (abs-is y v (sound-of y v a)) ∙ sym (needed-is y v (a .root) (sound-of y v a .1) c (passed .0))
+
+  paths : (q : Path) → treeOf w q ≡ cond (samePath q (path c)) (standingAfter c (treeOf v q)) (treeOf v q)
+  unfolding effect
+  paths q =
+      tree-is y w again q ∙ ap (λ (s : AbstractCard). s .look q) (ran-so .2)
+      ∙ own-path (bool (samePath q (path c)))
+      ∙ ap (λ o. cond (samePath q (path c)) (standingAfter c o) o) (sym (tree-is y v a q))
+    where
+      own-path : (samePath q (path c) ≡ true) ⊎ (samePath q (path c) ≡ false)
+          → cond (samePath q (path c)) (standingAfter c ((abstract y v) .look (path c))) ((abstract y v) .look q)
+          ≡ cond (samePath q (path c)) (standingAfter c ((abstract y v) .look q)) ((abstract y v) .look q)
+      own-path (inl i) = rw i (ap (λ z. standingAfter c ((abstract y v) .look z)) (sym (Eq-path .sound q (path c) i)))
+      own-path (inr i) = rw i
+
+  back-is : (op y c) .freed (abstract y v) ≡ givenBack y c (a .root)
+  back-is = ap ((op y c) .freed) (abs-is y v (sound-of y v a)) ∙ go c
+    where
+      at : (g : Found) → (tell (roomOfSlot y) noRoom g) .back ≡ tell (clustersBack y) 0 g
+      at absent = refl
+      at (found Slot.dead s) = sym (nothing (y .allocEnd))
+        where
+          none-of : (b : Bool) → _≡_ {A = ℕ} (cond b 0 0) 0
+          none-of true = refl
+          none-of false = refl
+
+          nothing : (k : ℕ) → totalBelow (λ c. cond (y .mayTake c) 0 0) k ≡ 0
+          nothing zero = refl
+          nothing (suc k) = omega (arith, nothing k, none-of (y .mayTake k))
+      at (found (Slot.file e cs ds) s) = refl
+      at (found (Slot.directory e cs) s) = refl
+
+      go : (c : Change) → (op y c) .freed (abstractOf y v (a .root)) ≡ givenBack y c (a .root)
+      go (create p t b) = refl
+      go (makeDirectory p t) = refl
+      go (replace p t b) = at (lookUp (a .root) p)
+      go (delete p) = at (lookUp (a .root) p)
+      go (removeDirectory p) = at (lookUp (a .root) p)
+
+  pub kept : Kept y c v w (a .root)
+  unfolding effect
+  kept =
+      record {
+        again = again;
+        paths = paths;
+        room = let n = ran-so .1 .1 in omega (arith, need-is, free-is y v a);
+        free =
+            sym (free-is y w again) ∙ ap (λ (s : AbstractCard). s .free) (ran-so .2)
+            ∙ rw (need-is, free-is y v a, back-is);
+      }
+
+pub change-keeps : ChangeKeeps
+change-keeps y v a c w e = kept y v a c w e
+
+pub accepted-exactly : AcceptedExactly
+unfolding perform
+accepted-exactly y v a c = (
+  (λ z. let s = sound-of y v a in (after v ((acts y v (s .0) (s .1) (s .2) c (refusal-accepts y v (s .0) (s .1) c z)) .plan), performs y c v s (refusal-accepts y v (s .0) (s .1) c z))),
+  (λ n z. refuses n z),
+)
+  where
+    refuses : (n : ℕ) → refusal y c v (a .root) ≡ suc n → perform y c v ≡ refused (suc n) 0
+    refuses n z = ap (performOn y c v) (a .checked) ∙ ap (λ m. decide m (write v (planOf y c v (a .root)))) z
+
+-- ---- demand 3
+
+module _ (y : Rules) (v : View) where
+  abbrev to-both : (a b : Change) → Order y v a b → Both y (machine y) v a b
+  to-both a b o = (o .between, o .final, view-done (perform y a v) (o .between) (o .firstDone), view-done (perform y b (o .between)) (o .final) (o .thenDone))
+
+  abbrev of-both : (a b : Change) → Both y (machine y) v a b → Order y v a b
+  of-both a b o = record { between = o .0; final = o .1; firstDone = done-view (perform y a v) (o .0) (o .2); thenDone = done-view (perform y b (o .0)) (o .1) (o .3) }
+
+  module _ (s : Sound y v) (a b : Change) (h : beginning (path a) (path b) ≡ false) (k : beginning (path b) (path a) ≡ false) where
+    end-sound : (x z : Change) (o : Order y v x z) → Accepted y (o .final)
+    end-sound x z o =
+        let w = to-both x z o in
+        accepted-of y (o .final) ((ran y z (o .between) (o .final) ((ran y x v (o .between) s (w .2)) .0) (w .3)) .0)
+
+    pub commute : Commute y v a b
+    commute =
+        let d = demand-3 y (machine y) v s a b h k in
+        record {
+          tree = λ m n q. tree-is y (m .final) (end-sound a b m) q ∙ (d .0 (to-both a b m) (to-both b a n)) .0 q ∙ sym (tree-is y (n .final) (end-sound b a n) q);
+          free = λ m n x. sym (free-is y (m .final) (end-sound a b m)) ∙ (d .0 (to-both a b m) (to-both b a n)) .1 x ∙ free-is y (n .final) (end-sound b a n);
+          creations = λ p q. let t = d .1 p q in ((λ o. of-both b a (t .0 (to-both a b o))), (λ o. of-both a b (t .1 (to-both b a o))));
+        }
+
+pub demand-3-holds : Demand3
+demand-3-holds y v a x z h k = commute y v (sound-of y v a) x z h k

@@ -1,0 +1,184 @@
+-- Creating a file and making a directory: each has its plan, which does what the operation says.
+use Prim.Native.Nat.{_*_, _+_, _-_, _<_, _≤_, suc, ℕ}
+use mathlib.Core.Bool.{Bool, _&&_, cond, false, true}
+use mathlib.Core.List.{List, [], _∷_}
+use mathlib.Core.Path.{_∙_, _≡_, ap, refl, sym}
+use native.Mathlib.Omega.{arith}
+use lib.Dec.{leb, leb→le, ltb, ltb→lt}
+use lib.ListN.{drop, length, length-drop, length-take, take}
+use Rattle.model.specs.Change.{Change, Rules, create, directoryMode, makeDirectory}
+use Rattle.model.specs.Check.{ok}
+use Rattle.model.specs.Entry.{clustersFor, isFile, isSubdirectory}
+use Rattle.model.specs.Holds.{HoldsCard, deepest}
+use Rattle.model.specs.Lookup.{Found, firstDead, pageOf}
+use Rattle.model.specs.Names.{Path, dotDotName, dotName, goodName, goodPath, lastName, parent}
+use Rattle.model.specs.Plan.{Plan, after, firstOf, freeBelow, growthWithOne, lengthWithOne, made, newDirectory, newEntry, newFile, ownClusters, planAt, returned, takeable}
+use Rattle.model.specs.Refusal.{first, static}
+use Rattle.model.specs.Time.{validTime}
+use Rattle.model.specs.Tree.{Root, nameUses, reached}
+use Rattle.model.specs.View.{Link, View, pagesOf}
+use Rattle.model.proofs.AbstractCards.{abstractOf}
+use Rattle.model.proofs.Allocation.{length-free}
+use Rattle.model.proofs.ChangeOperations.{op, standingLack, standingWay}
+use Rattle.model.proofs.Directories.{Where, first-0, good-last, length-parent, must-lack, where-is}
+use Rattle.model.proofs.Equality.{and-l, and-r, to-T}
+use Rattle.model.proofs.NewClusters.{empty-or, grow-new, held-dir, held-file, p-used}
+use Rattle.model.proofs.Operations.{AbstractCard, Accepts, Room, effect, grown, need, taken, take₁, worked}
+use Rattle.model.proofs.Outcome.{Deed, Outcome, Work, created, room-at}
+use Rattle.model.proofs.PageBytes.{length-data}
+use Rattle.model.proofs.PlanActs.{back-new, fs-long, fs-low, gs-low, new-free, start-of}
+use Rattle.model.proofs.PlanFits.{rep-length}
+use Rattle.model.proofs.PlanHolds.{Fits}
+use Rattle.model.proofs.SlotOfName.{fd-le}
+
+module _ (y : Rules) where
+  pub plus-0 : (R : Room) → _≡_ {A = Room} (record { dead = R .dead + 0; length = R .length; back = R .back }) R
+  plus-0 R = ap (λ (n : ℕ). record { dead = n; length = R .length; back = R .back }) (omega arith)
+
+  pub back-fs : (v : View) (γ k : ℕ) → γ + k ≤ length (freeBelow (takeable (y .mayTake) (v .link)) (y .allocEnd)) → returned (y .allocEnd) (y .mayTake) (ownClusters (y .allocEnd) (y .mayTake) v γ k) ≡ k
+  back-fs v γ k room = back-new y v (ownClusters (y .allocEnd) (y .mayTake) v γ k) (λ c. omega (arith, new-free y v γ k c)) (fs-low y v γ k) ∙ fs-long y v γ k room
+
+  pub static-path : (b c : Bool) → _≡_ {A = ℕ} (first (cond b 0 8) (cond c 0 14)) 0 → b ≡ true
+  static-path true c e = refl
+  static-path false c e = absurd (omega arith)
+
+  pub static-path′ : (b : Bool) → _≡_ {A = ℕ} (cond b 0 8) 0 → b ≡ true
+  static-path′ true e = refl
+  static-path′ false e = absurd (omega arith)
+
+  pub static-time : (b c : Bool) → _≡_ {A = ℕ} (first (cond b 0 8) (cond c 0 14)) 0 → c ≡ true
+  static-time true true e = refl
+  static-time true false e = absurd (omega arith)
+  static-time false c e = absurd (omega arith)
+
+  pub drop-two : (l : List ℕ) → drop 2 (take 2 l) ≡ []
+  drop-two [] = refl
+  drop-two (a ∷ []) = refl
+  drop-two (a ∷ b ∷ l) = refl
+
+  pub path-pos : (k : ℕ) (p : Path) → goodPath k p ≡ true → (0 < length p) × (length p ≤ k) × (goodName (lastName p) ≡ true)
+  path-pos k p e =
+      let a : (ltb 0 (length p) && leb (length p) k) ≡ true = and-l _ _ e in
+      let c : ltb 0 (length p) ≡ true = and-l (ltb 0 (length p)) (leb (length p) k) a in
+      let b = ltb→lt 0 (length p) (to-T c) in
+      (b, leb→le (length p) k (to-T (and-r (ltb 0 (length p)) _ a)), good-last p b (and-r (ltb 0 (length p) && leb (length p) k) _ e))
+
+  module _ (v : View) (r : Root) (h : HoldsCard v r) (tab : (c : ℕ) → y .allocEnd ≤ c → v .link c ≡ Link.free) where
+    abbrev σ : AbstractCard
+    σ = abstractOf y v r
+
+    pub act-create : (p : Path) (t b : List ℕ) → Accepts (op y (create p t b)) σ → Outcome y v r (create p t b)
+    unfolding need grown worked taken
+    act-create p t b o =
+        record { plan = pl; planned = ap (λ (g : Found). planAt y a v P′ g) (wh .found-so); root = out .0 .0; card = out .0 .1; table = out .0 .2; same = out .0 .3; deed = deed }
+      where
+        a : Change
+        a = create p t b
+
+        m : (static a ≡ 0) × (first (standingWay (σ .look) p) (first (standingLack (σ .look p)) (y .locked a (σ .look (parent p)) (σ .look p))) ≡ 0)
+        m = first-0 (static a) _ (o .0)
+
+        m₂ : (standingWay (σ .look) p ≡ 0) × (standingLack (σ .look p) ≡ 0)
+        m₂ = let n = first-0 (standingWay (σ .look) p) _ (m .1) in (n .0, (first-0 (standingLack (σ .look p)) _ (n .1)) .0)
+
+        ok : (0 < length p) × (length p ≤ suc deepest) × (goodName (lastName p) ≡ true)
+        ok = path-pos (suc deepest) p (static-path (goodPath (suc deepest) p) (validTime t) (m .0))
+
+        wh : Where y v r a
+        wh = where-is y v r h a (ok .0) (m₂ .0)
+
+        P′ : ℕ
+        P′ = pageOf r (parent p)
+
+        γ : ℕ
+        γ = growthWithOne (wh .directoryEntry) (wh .directorySlots)
+
+        fs : List ℕ
+        fs = ownClusters (y .allocEnd) (y .mayTake) v γ (clustersFor (length b))
+
+        pl : Plan
+        pl = made (y .allocEnd) (y .mayTake) v P′ (wh .directoryEntry) (wh .directoryChain) (wh .directorySlots) (firstDead (wh .directorySlots)) (lengthWithOne (wh .directoryEntry) (wh .directorySlots)) γ (clustersFor (length b)) [] (newFile (lastName p) t b)
+
+        nd : clustersFor (length b) + γ ≡ need (op y a) σ
+        nd = rw (room-at y v r a wh) (omega (arith, grow-new y (wh .directoryEntry) (wh .directorySlots)))
+
+        room : γ + clustersFor (length b) ≤ length (freeBelow (takeable (y .mayTake) (v .link)) (y .allocEnd))
+        room = omega (arith, nd, o .1, length-free (takeable (y .mayTake) (v .link)) (y .allocEnd))
+
+        lack : nameUses (wh .directorySlots) (lastName p) ≡ 0
+        lack = must-lack y (wh .directorySlots) (lastName p) (rw (wh .at) at (m₂ .1))
+
+        fl : length fs ≡ clustersFor (length b)
+        fl = fs-long y v γ (clustersFor (length b)) room
+
+        isf : isFile (pl .slotEntry) ≡ true
+        isf = rw (ok .2) (empty-or y (length b) fs fl)
+
+        out : ((r′ : Root) × HoldsCard (after v pl) r′ × ((c : ℕ) → y .allocEnd ≤ c → (after v pl) .link c ≡ Link.free) × (abstractOf y (after v pl) r′ ≡ effect (op y a) σ)) × Fits v (reached r) pl
+        out =
+            created y v r h tab a wh (ok .0) (clustersFor (length b)) (newFile (lastName p) t b) refl (λ n. refl) refl refl lack room
+            (λ ft. held-file y v r pl ft (p-used y v r (parent p) P′ (wh .directoryEntry) (wh .directoryChain) (wh .directorySlots) (deepest - length (parent p)) (wh .st)) (deepest - length (parent p)) isf fl (start-of y fs (fs-low y v γ (clustersFor (length b)))) (length-data b ∙ ap (λ n. 2 * n) (sym fl)))
+            refl (ap (λ (n : ℕ). record { dead = 0; length = 0; back = n }) (back-fs v γ (clustersFor (length b)) room)) (λ R. plus-0 (take₁ (R .dead) (R .length) (R .back))) nd refl
+
+        deed : Deed y v r pl
+        deed = record { entered = wh .st .entered; used = p-used y v r (parent p) (pageOf r (parent p)) (wh .directoryEntry) (wh .directoryChain) (wh .directorySlots) (deepest - length (parent p)) (wh .st); fit = out .1; low = λ c u. omega (arith, fs-low y v γ (clustersFor (length b)) c u, gs-low y v γ c u); work = Work.file (lastName p) t b (ok .2) (static-time (goodPath (suc deepest) p) (validTime t) (m .0)) fl refl }
+
+    pub act-mkdir : (p : Path) (t : List ℕ) → Accepts (op y (makeDirectory p t)) σ → Outcome y v r (makeDirectory p t)
+    unfolding need grown worked taken
+    act-mkdir p t o =
+        record { plan = pl; planned = ap (λ (g : Found). planAt y a v P′ g) (wh .found-so); root = out .0 .0; card = out .0 .1; table = out .0 .2; same = out .0 .3; deed = deed }
+      where
+        a : Change
+        a = makeDirectory p t
+
+        m : (static a ≡ 0) × (first (standingWay (σ .look) p) (first (standingLack (σ .look p)) (y .locked a (σ .look (parent p)) (σ .look p))) ≡ 0)
+        m = first-0 (static a) _ (o .0)
+
+        m₂ : (standingWay (σ .look) p ≡ 0) × (standingLack (σ .look p) ≡ 0)
+        m₂ = let n = first-0 (standingWay (σ .look) p) _ (m .1) in (n .0, (first-0 (standingLack (σ .look p)) _ (n .1)) .0)
+
+        ok : (0 < length p) × (length p ≤ deepest) × (goodName (lastName p) ≡ true)
+        ok = path-pos deepest p (static-path (goodPath deepest p) (validTime t) (m .0))
+
+        wh : Where y v r a
+        wh = where-is y v r h a (ok .0) (m₂ .0)
+
+        P′ : ℕ
+        P′ = pageOf r (parent p)
+
+        γ : ℕ
+        γ = growthWithOne (wh .directoryEntry) (wh .directorySlots)
+
+        fs : List ℕ
+        fs = ownClusters (y .allocEnd) (y .mayTake) v γ 1
+
+        pl : Plan
+        pl = made (y .allocEnd) (y .mayTake) v P′ (wh .directoryEntry) (wh .directoryChain) (wh .directorySlots) (firstDead (wh .directorySlots)) (lengthWithOne (wh .directoryEntry) (wh .directorySlots)) γ 1 [] (newDirectory (lastName p) t (firstOf (wh .directoryChain)) (2 + firstDead (wh .directorySlots)))
+
+        nd : 1 + γ ≡ need (op y a) σ
+        nd = rw (room-at y v r a wh) (omega (arith, grow-new y (wh .directoryEntry) (wh .directorySlots)))
+
+        room : γ + 1 ≤ length (freeBelow (takeable (y .mayTake) (v .link)) (y .allocEnd))
+        room = omega (arith, nd, o .1, length-free (takeable (y .mayTake) (v .link)) (y .allocEnd))
+
+        lack : nameUses (wh .directorySlots) (lastName p) ≡ 0
+        lack = must-lack y (wh .directorySlots) (lastName p) (rw (wh .at) at (m₂ .1))
+
+        fl : length fs ≡ 1
+        fl = fs-long y v γ 1 room
+
+        isd : isSubdirectory (pl .slotEntry) ≡ true
+        isd = rw (ok .2)
+
+        deep : 0 < deepest - length (parent p)
+        deep = omega (arith, length-parent p, ok .0, ok .1)
+
+        out : ((r′ : Root) × HoldsCard (after v pl) r′ × ((c : ℕ) → y .allocEnd ≤ c → (after v pl) .link c ≡ Link.free) × (abstractOf y (after v pl) r′ ≡ effect (op y a) σ)) × Fits v (reached r) pl
+        out =
+            created y v r h tab a wh (ok .0) 1 (newDirectory (lastName p) t (firstOf (wh .directoryChain)) (2 + firstDead (wh .directorySlots))) refl (λ n. refl) refl (drop-two (pagesOf fs)) lack room
+            (λ ft. held-dir y v r pl ft (p-used y v r (parent p) P′ (wh .directoryEntry) (wh .directoryChain) (wh .directorySlots) (deepest - length (parent p)) (wh .st)) (deepest - length (parent p))
+            (newEntry directoryMode 0 (firstOf (wh .directoryChain)) (2 + firstDead (wh .directorySlots)) t dotName) (newEntry directoryMode 0 0 0 t dotDotName) isd deep fl fl (start-of y fs (fs-low y v γ 1)) refl refl refl)
+            refl (ap (λ (n : ℕ). record { dead = 0; length = 2; back = n }) (back-fs v γ 1 room)) (λ R. plus-0 (take₁ (R .dead) (R .length) (R .back))) nd refl
+
+        deed : Deed y v r pl
+        deed = record { entered = wh .st .entered; used = p-used y v r (parent p) (pageOf r (parent p)) (wh .directoryEntry) (wh .directoryChain) (wh .directorySlots) (deepest - length (parent p)) (wh .st); fit = out .1; low = λ c u. omega (arith, fs-low y v γ 1 c u, gs-low y v γ c u); work = Work.directory (lastName p) t (ok .2) (static-time (goodPath deepest p) (validTime t) (m .0)) (omega (arith, fd-le (wh .directorySlots), rep-length v _ _ (wh .directorySlots) (wh .st .rep), length-drop 2 (take (wh .directoryEntry .length) (pagesOf (wh .directoryChain))), length-take (wh .directoryEntry .length) (pagesOf (wh .directoryChain)), wh .st .two)) refl }

@@ -1,0 +1,20 @@
+-- The model of a card, in the order of document 01: what a reader must believe.
+pub mod Names
+pub mod Bytes
+pub mod Entry
+pub mod Time
+pub mod View
+pub mod Tree
+pub mod Holds
+pub mod Check
+pub mod Counts
+pub mod Lookup
+pub mod Standing
+pub mod Pages
+pub mod Change
+pub mod Plan
+pub mod Writes
+pub mod Refusal
+pub mod Perform
+pub mod Claims
+pub mod Bench

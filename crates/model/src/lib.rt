@@ -1,0 +1,42 @@
+// The model of a card is in specs/. Each claim about it is the contract of a function that does nothing.
+ghost use Rattle.model.specs.Claims.{CheckIsHolding, CountsAddUp, AcceptedExactly, ChangeKeeps, WritesGiveView, Demand3};
+ghost use Rattle.model.specs.Bench.{BenchNumbers, RuleNumbers};
+
+// The check answers a tree exactly when the view holds it.
+pub fn check_is_holding()
+    ensures { λ _. ⌜ CheckIsHolding ⌝ }
+{}
+
+// Free, reached and orphaned clusters add up to the allocatable ones.
+pub fn counts_add_up()
+    ensures { λ _. ⌜ CountsAddUp ⌝ }
+{}
+
+// A change is accepted exactly when it meets no refusal.
+pub fn accepted_exactly()
+    ensures { λ _. ⌜ AcceptedExactly ⌝ }
+{}
+
+// After an accepted change the card is accepted again, its own path is what the rules say, and every other path stays.
+pub fn change_keeps()
+    ensures { λ _. ⌜ ChangeKeeps ⌝ }
+{}
+
+// The page writes and table words of an accepted change give the view after it.
+pub fn writes_give_view()
+    ensures { λ _. ⌜ WritesGiveView ⌝ }
+{}
+
+// Demand 3: any two changes at paths of which neither is a beginning of the other commute.
+pub fn demand_3()
+    ensures { λ _. ⌜ Demand3 ⌝ }
+{}
+
+// The numbers of the bench card, and of words and times.
+pub fn bench_numbers()
+    ensures { λ _. ⌜ BenchNumbers ⌝ }
+{}
+
+pub fn rule_numbers()
+    ensures { λ _. ⌜ RuleNumbers ⌝ }
+{}

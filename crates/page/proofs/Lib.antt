@@ -1,0 +1,5 @@
+pub mod Lists
+pub mod Chunks
+pub mod Raw
+pub mod Puts
+pub mod Laws
