@@ -61,7 +61,7 @@ and-true p q = rw (p, q)
 and-false : {a : Bool} (b : Bool) → a ≡ false → (a && b) ≡ false
 and-false b p = rw p
 
-ok-inj : {A : Type 0} (a b : A) → ok a ≡ ok b → a ≡ b
+pub ok-inj : {A : Type 0} (a b : A) → ok a ≡ ok b → a ≡ b
 ok-inj a b e = cc
 
 -- a file is no directory

@@ -1,0 +1,216 @@
+-- What is known of a card that is open, for the layers above: each fact is won from the guard that was passed.
+use Prim.Native.Nat.{ℕ, _+_, _*_, _/_, _%_, _≤_, _<_}
+use mathlib.Core.Bool.{true}
+use mathlib.Core.List.{List, [], _∷_, _++_}
+use mathlib.Core.Path.{_≡_}
+use native.Mathlib.Omega.{arith}
+use borrow.Author.Tests.{eqb-true, leb-true, ltb-true}
+use lib.Dec.{eqb, leb, ltb}
+use lib.ListN.{length, getD}
+use Rattle.page.specs.Page.{pageAt}
+use Rattle.model.specs.Bytes.{word}
+use Rattle.model.specs.Check.{ok}
+use Rattle.model.specs.Tree.{times}
+use Rattle.model.specs.View.{mostClusters, pagesOf}
+use Rattle.model.proofs.Equality.{and-l, and-r}
+use Rattle.model.proofs.Frame.{hit-self}
+use Rattle.model.proofs.PlanFits.{length-pages}
+use Rattle.layout.specs.declared.Superblock.{Superblock}
+use Rattle.layout.specs.Superblock.{leastClusters, clustersIn, goodLength, goodText, goodVersion, fixedNumbers, goodNumbers, goodSuperblock, superblockOf}
+use Rattle.layout.specs.Table.{unless, withPage, inRange, goodNames, tableClusters, openTable, openCard, dataOf, namesOf, tablePage}
+use Rattle.layout.proofs.Names.{Named, name-good, name-once}
+use Rattle.layout.proofs.Stages.{Readable, unless-ok, page-ok, pages-ok, pages-pass, same-ok}
+use Rattle.layout.proofs.TablePages.{getD-pages}
+use Rattle.layout.proofs.UpTo.{length-upTo}
+
+-- ---- the guards that an open card passed
+pub record GoodTable (image : List ℕ) (s : Superblock) : Type 0 where
+  pub indirect-good : inRange (s .offset) (s .indirect) ≡ true
+  pub first-read : Readable image (2 * s .indirect)
+  pub second-read : Readable image (2 * s .indirect + 1)
+  pub names-good : goodNames (s .offset) (s .indirect ∷ []) (namesOf image s) ≡ true
+  pub table-read : (t : ℕ) → t < 2 * tableClusters (s .end) → Readable image (tablePage (namesOf image s) t)
+
+pub record GoodCard (image : List ℕ) (s : Superblock) : Type 0 where
+  pub length-good : goodLength (length image) ≡ true
+  pub page-read : Readable image 0
+  pub text-good : goodText (dataOf (pageAt image 0)) ≡ true
+  pub numbers-good : goodSuperblock (clustersIn (length image)) (dataOf (pageAt image 0)) ≡ true
+  pub superblock : superblockOf (dataOf (pageAt image 0)) ≡ s
+  pub table : GoodTable image s
+
+many : (image : List ℕ) (s : Superblock) → length (namesOf image s) ≡ tableClusters (s .end)
+many image s = length-upTo (λ i. word (dataOf (pageAt image (2 * s .indirect)) ++ dataOf (pageAt image (2 * s .indirect + 1))) (4 * i)) (tableClusters (s .end))
+
+pub table-good : (image : List ℕ) (s a : Superblock) → openTable image s ≡ ok a → (s ≡ a) × GoodTable image s
+unfolding openTable
+table-good image s a e =
+    let name = unless-ok (inRange (s .offset) (s .indirect)) 5 _ a e in
+    let first = page-ok (2 * s .indirect) (pageAt image (2 * s .indirect)) _ a (name .1) in
+    let second = page-ok (2 * s .indirect + 1) (pageAt image (2 * s .indirect + 1)) _ a (first .1) in
+    let names = unless-ok (goodNames (s .offset) (s .indirect ∷ []) (namesOf image s)) 5 _ a (second .1) in
+    let pages = pages-ok image (pagesOf (namesOf image s)) (ok s) a (names .1) in (
+      same-ok s a (pages .0),
+      record {
+        indirect-good = name .0;
+        first-read = first .0;
+        second-read = second .0;
+        names-good = names .0;
+        table-read = λ t h.
+            let inside : t < 2 * length (namesOf image s) = omega (arith, many image s) in
+            rw (getD-pages (namesOf image s) t inside) at (pages .1 t (omega (arith, length-pages (namesOf image s))));
+      },
+    )
+
+pub card-good : (image : List ℕ) (s : Superblock) → openCard image ≡ ok s → GoodCard image s
+unfolding openCard
+card-good image s e =
+    let size = unless-ok (goodLength (length image)) 1 _ s e in
+    let page = page-ok 0 (pageAt image 0) _ s (size .1) in
+    let text = unless-ok (goodText (dataOf (pageAt image 0))) 3 _ s (page .1) in
+    let numbers = unless-ok (goodSuperblock (clustersIn (length image)) (dataOf (pageAt image 0))) 4 _ s (text .1) in
+    let rest = table-good image (superblockOf (dataOf (pageAt image 0))) s (numbers .1) in
+    record {
+      length-good = size .0;
+      page-read = page .0;
+      text-good = text .0;
+      numbers-good = numbers .0;
+      superblock = rest .0;
+      table = rw (rest .0) at (rest .1);
+    }
+
+pub good-table : (image : List ℕ) (s : Superblock) → GoodTable image s → openTable image s ≡ ok s
+unfolding openTable unless withPage
+good-table image s g =
+    rw (g .indirect-good, g .first-read, g .second-read, g .names-good)
+    (pages-pass image (pagesOf (namesOf image s)) (ok s) (λ i h.
+    let inside : i < 2 * length (namesOf image s) = omega (arith, length-pages (namesOf image s)) in
+    rw (getD-pages (namesOf image s) i inside) (g .table-read i (omega (arith, many image s)))))
+
+pub good-card : (image : List ℕ) (s : Superblock) → GoodCard image s → openCard image ≡ ok s
+unfolding openCard unless withPage
+good-card image s g =
+    rw (g .length-good, g .page-read, g .text-good, g .numbers-good, g .superblock) (good-table image s (g .table))
+
+-- ---- the numbers
+pub record Numbers (bytes : ℕ) (s : Superblock) : Type 0 where
+  pub long : bytes ≡ 1056 * s .clusters
+  pub clusters-are : s .clusters ≡ bytes / 1056
+  pub least : leastClusters ≤ s .clusters
+  pub most : s .clusters ≤ mostClusters
+  pub some-end : 1 ≤ s .end
+  pub room : s .offset + s .end ≤ s .clusters
+
+numbers : (bytes : ℕ) (page : List ℕ) → goodLength bytes ≡ true → goodSuperblock (clustersIn bytes) page ≡ true → Numbers bytes (superblockOf page)
+numbers bytes page l n = go (superblockOf page) (and-r (fixedNumbers page) _ (and-r (goodVersion page) _ n))
+  where
+    go : (s : Superblock) → goodNumbers (clustersIn bytes) s ≡ true → Numbers bytes s
+    go s g =
+        let whole : bytes % 1056 ≡ 0 = eqb-true (bytes % 1056) 0 (and-l _ _ l) in
+        let range = and-r (eqb (bytes / 1056 % 8) 0) _ (and-r (eqb (bytes % 1056) 0) _ l) in
+        let low : 32 ≤ bytes / 1056 = leb-true 32 (bytes / 1056) (and-l _ _ range) in
+        let high : bytes / 1056 ≤ 8192 = leb-true (bytes / 1056) 8192 (and-r (leb 32 (bytes / 1056)) _ range) in
+        let count : s .clusters ≡ bytes / 1056 = eqb-true (s .clusters) (bytes / 1056) (and-l _ _ g) in
+        let more = and-r (eqb (s .clusters) (bytes / 1056)) _ g in
+        let some : 1 ≤ s .end = leb-true 1 (s .end) (and-l _ _ more) in
+        let fits : s .offset + s .end ≤ bytes / 1056 = leb-true (s .offset + s .end) (bytes / 1056) (and-l _ _ (and-r (leb 1 (s .end)) _ more)) in
+        record {
+          long = omega arith;
+          clusters-are = count;
+          least = omega arith;
+          most = omega arith;
+          some-end = some;
+          room = omega arith;
+        }
+
+pub end-most : (bytes : ℕ) (page : List ℕ) → goodLength bytes ≡ true → goodSuperblock (clustersIn bytes) page ≡ true
+    → superblockOf page .end ≤ mostClusters
+end-most bytes page l n = let z = numbers bytes page l n in omega (arith, z .room, z .most)
+
+card-numbers : (image : List ℕ) (s : Superblock) → GoodCard image s → Numbers (length image) s
+card-numbers image s g = rw (g .superblock) at (numbers (length image) (dataOf (pageAt image 0)) (g .length-good) (g .numbers-good))
+
+-- ---- all that is known of an open card
+pub record Geometry (image : List ℕ) (s : Superblock) : Type 0 where
+  -- N clusters of 1,056 bytes
+  pub long : length image ≡ 1056 * s .clusters
+  pub clusters-are : s .clusters ≡ length image / 1056
+  pub least : leastClusters ≤ s .clusters
+  pub most : s .clusters ≤ mostClusters
+  -- the allocatable clusters lie in the image
+  pub some-end : 1 ≤ s .end
+  pub room : s .offset + s .end ≤ s .clusters
+  -- the indirect cluster and the table's clusters lie before them, after cluster 0, and are all different
+  pub indirect-above : 1 ≤ s .indirect
+  pub indirect-below : s .indirect < s .offset
+  pub many : length (namesOf image s) ≡ tableClusters (s .end)
+  pub range : (i : ℕ) → i < tableClusters (s .end) → (1 ≤ getD (namesOf image s) i 0) × (getD (namesOf image s) i 0 < s .offset)
+  pub apart : (i : ℕ) → i < tableClusters (s .end) → getD (namesOf image s) i 0 ≡ s .indirect → ⊥
+  pub once : (i j : ℕ) → i < tableClusters (s .end) → j < tableClusters (s .end)
+      → getD (namesOf image s) i 0 ≡ getD (namesOf image s) j 0 → i ≡ j
+  -- every page of them that the check needs is readable
+  pub superblock-read : Readable image 0
+  pub superblock-is : superblockOf (dataOf (pageAt image 0)) ≡ s
+  pub first-read : Readable image (2 * s .indirect)
+  pub second-read : Readable image (2 * s .indirect + 1)
+  pub table-read : (t : ℕ) → t < 2 * tableClusters (s .end) → Readable image (tablePage (namesOf image s) t)
+
+pub open-facts : (image : List ℕ) (s : Superblock) → openCard image ≡ ok s → Geometry image s
+open-facts image s e = go (card-good image s e)
+  where
+    go : GoodCard image s → Geometry image s
+    go g =
+        let n = card-numbers image s g in
+        let t = g .table in
+        let size = many image s in
+        let name : (i : ℕ) → i < tableClusters (s .end) → Named (s .offset) (s .indirect ∷ []) (getD (namesOf image s) i 0) =
+        λ i h. name-good (s .offset) (s .indirect ∷ []) (namesOf image s) (t .names-good) i (omega arith) in
+        record {
+          long = n .long;
+          clusters-are = n .clusters-are;
+          least = n .least;
+          most = n .most;
+          some-end = n .some-end;
+          room = n .room;
+          indirect-above = leb-true 1 (s .indirect) (and-l (leb 1 (s .indirect)) (ltb (s .indirect) (s .offset)) (t .indirect-good));
+          indirect-below = ltb-true (s .indirect) (s .offset) (and-r (leb 1 (s .indirect)) (ltb (s .indirect) (s .offset)) (t .indirect-good));
+          many = size;
+          range = λ i h. (name i h .0, name i h .1);
+          apart = λ i h q. let z : times (s .indirect ∷ []) (s .indirect) ≡ 0 = rw q at (name i h .2) in omega (arith, hit-self (s .indirect));
+          once = λ i j h k. name-once (s .offset) (s .indirect ∷ []) (namesOf image s) (t .names-good) i j (omega arith) (omega arith);
+          superblock-read = g .page-read;
+          superblock-is = g .superblock;
+          first-read = t .first-read;
+          second-read = t .second-read;
+          table-read = t .table-read;
+        }
+
+-- ---- an image that keeps what the check up to the table goes by
+pub names-kept : (image other : List ℕ) (s : Superblock) → pageAt other (2 * s .indirect) ≡ pageAt image (2 * s .indirect)
+    → pageAt other (2 * s .indirect + 1) ≡ pageAt image (2 * s .indirect + 1) → namesOf other s ≡ namesOf image s
+names-kept image other s first second = rw (first, second)
+
+-- The check up to the table goes by the image's length, page 0, the indirect cluster's pages, and that the table's pages are readable.
+pub open-kept : (image other : List ℕ) (s : Superblock) → openCard image ≡ ok s → length other ≡ length image → pageAt other 0 ≡ pageAt image 0
+    → pageAt other (2 * s .indirect) ≡ pageAt image (2 * s .indirect) → pageAt other (2 * s .indirect + 1) ≡ pageAt image (2 * s .indirect + 1)
+    → ((t : ℕ) → t < 2 * tableClusters (s .end) → Readable other (tablePage (namesOf image s) t)) → openCard other ≡ ok s
+open-kept image other s e size zero first second reads = good-card other s (go (card-good image s e))
+  where
+    go : GoodCard image s → GoodCard other s
+    go g =
+        let t = g .table in
+        record {
+          length-good = rw size (g .length-good);
+          page-read = rw zero (g .page-read);
+          text-good = rw zero (g .text-good);
+          numbers-good = rw (size, zero) (g .numbers-good);
+          superblock = rw zero (g .superblock);
+          table =
+              record {
+                indirect-good = t .indirect-good;
+                first-read = rw first (t .first-read);
+                second-read = rw second (t .second-read);
+                names-good = rw (first, second) (t .names-good);
+                table-read = λ i h. rw (names-kept image other s first second) (reads i h);
+              };
+        }

@@ -1,0 +1,80 @@
+-- The loop's invariant: judging the pages from page t of the table on is judging them all.
+use Prim.Native.Nat.{ℕ, _-_, _*_, _≤_, _<_}
+use mathlib.Core.List.{_++_}
+use mathlib.Core.Path.{_≡_, refl, sym, _∙_}
+use native.Mathlib.Omega.{arith}
+use borrow.Author.Needs.{needs}
+use borrow.Author.Tests.{not-true, not-false}
+use lib.ListN.{length}
+use Rattle.page.specs.Page.{pageAt}
+use Rattle.page.proofs.Puts.{read-some, read-none}
+use denote.Ref.{now}
+use Rattle.model.specs.Bytes.{word}
+use Rattle.model.specs.Check.{ok}
+use Rattle.layout.specs.Table.{upTo, tableNames}
+use Rattle.layout.proofs.UpTo.{length-upTo}
+use Rattle.layout.proofs.TablePages.{pagesFrom, pages-stop, pages-more, pages-done}
+use Rattle.layout.proofs.table.judge_pages.Statement.{statement}
+use Rattle.layout.proofs.table.judge_pages.Tie as tie
+
+abbrev Inv-loop : tie.InvT-loop
+Inv-loop image first second count s page₀ t₀ page t = (t ≤ 2 * count) × (pagesFrom image (tableNames (first ++ second) count) (ok s) 0 ≡ pagesFrom image (tableNames (first ++ second) count) (ok s) t)
+
+abbrev μ-loop : tie.MeasureT-loop
+μ-loop image first second count s page₀ t₀ page t = 2 * count - t
+
+loop-holds : tie.Need-loop-holds Inv-loop μ-loop
+loop-holds c = (omega arith, refl)
+
+mul-loop : tie.Need-mul-loop Inv-loop μ-loop
+mul-loop c = omega arith
+
+table-page-requires : tie.Need-table-page-requires Inv-loop μ-loop
+table-page-requires c κs = (omega arith, omega arith)
+
+read-page-requires : tie.Need-read-page-requires Inv-loop μ-loop
+read-page-requires c κs = search needs
+
+returns : tie.Need-returns Inv-loop μ-loop
+returns c =
+    let a = c .before .before .before .before .before .before .before .args in
+    let f : ℕ → ℕ = λ i. word (now (a .first) ++ now (a .second)) (4 * i) in
+    let inside : c .before .before .before .before .before .loop .t < 2 * length (upTo f (a .count)) = omega (arith, length-upTo f (a .count)) in
+    let gone = read-none (pageAt (now (a .image)) (c .before .before .before .table-page .result)) (c .before .read-page .ensures) (not-true _ (c .if1 .taken)) in
+    sym (c .before .before .before .before .before .loop .inv .1 ∙ pages-stop (now (a .image)) (upTo f (a .count)) (ok (a .s)) (c .before .before .before .before .before .loop .t) inside (rw (c .before .before .before .table-page .ensures) at gone) ∙ rw (c .before .before .before .table-page .ensures))
+
+add-t : tie.Need-add-t Inv-loop μ-loop
+add-t c = omega arith
+
+loop-less : tie.Need-loop-less Inv-loop μ-loop
+loop-less c = omega arith
+
+loop-again : tie.Need-loop-again Inv-loop μ-loop
+loop-again c =
+    let a = c .before .before .before .before .before .before .before .args in
+    let f : ℕ → ℕ = λ i. word (now (a .first) ++ now (a .second)) (4 * i) in
+    let inside : c .before .before .before .before .before .loop .t < 2 * length (upTo f (a .count)) = omega (arith, length-upTo f (a .count)) in
+    let there = read-some (pageAt (now (a .image)) (c .before .before .before .table-page .result)) (c .before .read-page .ensures) (not-false _ (c .if1 .left)) in
+    (omega arith, c .before .before .before .before .before .loop .inv .1 ∙ pages-more (now (a .image)) (upTo f (a .count)) (ok (a .s)) (c .before .before .before .before .before .loop .t) inside (rw (c .before .before .before .table-page .ensures) at there))
+
+returns-2 : tie.Need-returns-2 Inv-loop μ-loop
+returns-2 c =
+    let a = c .before .before .before .args in
+    let names = tableNames (now (a .first) ++ now (a .second)) (a .count) in
+    sym (c .before .loop .inv .1 ∙ pages-done (now (a .image)) names (ok (a .s)) (c .before .loop .t) (omega (arith, length-upTo (λ i. word (now (a .first) ++ now (a .second)) (4 * i)) (a .count))))
+
+pub judge-pages-spec : {M : Type 1} → statement M
+judge-pages-spec =
+    tie.close
+    (tie.spec
+    Inv-loop
+    μ-loop
+    loop-holds
+    mul-loop
+    table-page-requires
+    read-page-requires
+    returns
+    add-t
+    loop-less
+    loop-again
+    returns-2)

@@ -1,0 +1,71 @@
+-- The superblock in page 0 (01, "Superblock and table"): refusals 1 to 4.
+use Prim.Native.Nat.{ℕ, _+_, _*_, _/_, _%_}
+use mathlib.Core.Bool.{Bool, not, _&&_, _||_}
+use mathlib.Core.List.{List, [], _∷_}
+use lib.Dec.{eqb, leb, ltb}
+use lib.ListN.{length}
+use Rattle.model.specs.Bytes.{slice, half, word}
+use Rattle.model.specs.Names.{sameName}
+use Rattle.model.specs.View.{mostClusters}
+use Rattle.layout.specs.declared.Superblock.{Superblock}
+
+-- The image has N clusters of 1,056 bytes; N is a multiple of 8 from 32 to 8,192.
+abbrev pub leastClusters : ℕ
+leastClusters = 32
+
+abbrev pub clustersIn : ℕ → ℕ
+clustersIn bytes = bytes / 1056
+
+abbrev pub goodLength : ℕ → Bool
+goodLength bytes =
+    eqb (bytes % 1056) 0
+    && (eqb (clustersIn bytes % 8) 0 && (leb leastClusters (clustersIn bytes) && leb (clustersIn bytes) mostClusters))
+
+-- `Sony PS2 Memory Card Format `, with its last space
+abbrev pub formatText : List ℕ
+formatText =
+    0x53 ∷ 0x6F ∷ 0x6E ∷ 0x79 ∷ 0x20 ∷ 0x50 ∷ 0x53 ∷ 0x32 ∷ 0x20 ∷ 0x4D ∷ 0x65 ∷ 0x6D ∷ 0x6F ∷ 0x72 ∷ 0x79 ∷ 0x20
+    ∷ 0x43 ∷ 0x61 ∷ 0x72 ∷ 0x64 ∷ 0x20 ∷ 0x46 ∷ 0x6F ∷ 0x72 ∷ 0x6D ∷ 0x61 ∷ 0x74 ∷ 0x20 ∷ []
+
+-- `1.1.0.0` and `1.2.0.0`, padded with zeros
+abbrev pub versionText : ℕ → List ℕ
+versionText digit = 0x31 ∷ 0x2E ∷ digit ∷ 0x2E ∷ 0x30 ∷ 0x2E ∷ 0x30 ∷ 0 ∷ 0 ∷ 0 ∷ 0 ∷ 0 ∷ []
+
+abbrev pub goodText : List ℕ → Bool
+goodText page = sameName (slice page 0 28) formatText
+
+abbrev pub goodVersion : List ℕ → Bool
+goodVersion page = sameName (slice page 0x1C 12) (versionText 0x31) || sameName (slice page 0x1C 12) (versionText 0x32)
+
+-- 0x28 half 512, 0x2A half 2, 0x2C half 16, 0x3C word 0
+abbrev pub fixedNumbers : List ℕ → Bool
+fixedNumbers page = eqb (half page 0x28) 512 && (eqb (half page 0x2A) 2 && (eqb (half page 0x2C) 16 && eqb (word page 0x3C) 0))
+
+-- 0x30 N, 0x34 alloc_offset, 0x38 alloc_end, 0x40 and 0x44 the backup blocks, 0x50 the indirect cluster
+abbrev pub superblockOf : List ℕ → Superblock
+superblockOf page =
+    record {
+      clusters = word page 0x30;
+      offset = word page 0x34;
+      end = word page 0x38;
+      backup1 = word page 0x40;
+      backup2 = word page 0x44;
+      indirect = word page 0x50;
+    }
+
+-- Alloc_end is at least 1; alloc_offset plus alloc_end, as a whole number, is at most N. The backup blocks differ,
+-- are below N/8, and start at or after cluster alloc_offset + alloc_end.
+abbrev pub goodNumbers : ℕ → Superblock → Bool
+goodNumbers n s =
+    eqb (s .clusters) n
+    && (leb 1 (s .end)
+    && (leb (s .offset + s .end) n
+    && (not (eqb (s .backup1) (s .backup2))
+    && (ltb (s .backup1) (n / 8)
+    && (ltb (s .backup2) (n / 8)
+    && (leb (s .offset + s .end) (8 * s .backup1)
+    && leb (s .offset + s .end) (8 * s .backup2)))))))
+
+-- every rule of number 4
+abbrev pub goodSuperblock : ℕ → List ℕ → Bool
+goodSuperblock n page = goodVersion page && (fixedNumbers page && goodNumbers n (superblockOf page))

@@ -1,0 +1,108 @@
+-- The indirect cluster, the table's clusters and the table's words (01, "Superblock and table"): refusals 1 to 5 in the check's order.
+use Prim.Native.Nat.{ℕ, zero, suc, _+_, _*_, _/_, _%_}
+use mathlib.Core.Bool.{Bool, true, false, _&&_}
+use mathlib.Core.List.{List, [], _∷_, _++_}
+use mathlib.Core.Option.{Option, none, some}
+use lib.Dec.{eqb, leb, ltb}
+use lib.ListN.{length, getD, drop}
+use Rattle.page.specs.Page.{pageAt}
+use Rattle.model.specs.Bytes.{word}
+use Rattle.model.specs.Check.{Result, fault, ok}
+use Rattle.model.specs.Tree.{times}
+use Rattle.model.specs.View.{pagesOf}
+use Rattle.layout.specs.declared.Superblock.{Superblock}
+use Rattle.layout.specs.declared.Refusal.{Refusal}
+use Rattle.layout.specs.declared.Opened.{Opened}
+use Rattle.layout.specs.declared.Opened.the-variants as opened
+use Rattle.layout.specs.Refusal.{numberOf, pageOf}
+use Rattle.layout.specs.Superblock.{clustersIn, goodLength, goodText, goodSuperblock, superblockOf}
+
+-- the values at 0, 1, .., n - 1
+unfoldable pub upTo : (ℕ → ℕ) → ℕ → List ℕ
+upTo f zero = []
+upTo f (suc n) = upTo f n ++ (f n ∷ [])
+
+-- One word for each allocatable cluster, 256 words to a cluster.
+abbrev pub tableClusters : ℕ → ℕ
+tableClusters end = (end + 255) / 256
+
+-- The first words of the indirect cluster name the table's clusters.
+abbrev pub tableNames : List ℕ → ℕ → List ℕ
+tableNames indirect k = upTo (λ i. word indirect (4 * i)) k
+
+-- A name is a card cluster from 1 to alloc_offset - 1; no two are equal, the indirect cluster's own included.
+abbrev pub inRange : ℕ → ℕ → Bool
+inRange offset name = leb 1 name && ltb name offset
+
+abbrev pub goodNames : ℕ → List ℕ → List ℕ → Bool
+goodNames offset seen [] = true
+goodNames offset seen (n ∷ ns) = (inRange offset n && eqb (times seen n) 0) && goodNames offset (n ∷ seen) ns
+
+-- ---- the check up to the table
+
+module _ {A : Type 0} where
+  -- a rule that is broken gives its number
+  unfoldable pub unless : Bool → ℕ → Result A → Result A
+  unless true n rest = rest
+  unless false n rest = fault n 0
+
+  -- a page that is needed: 2 with its number where it is unreadable
+  unfoldable pub withPage : ℕ → Option (List ℕ) → (List ℕ → Result A) → Result A
+  withPage p none rest = fault 2 p
+  withPage p (some page) rest = rest page
+
+  abbrev pub needPage : List ℕ → ℕ → (List ℕ → Result A) → Result A
+  needPage image p rest = withPage p (pageAt image p) rest
+
+  unfoldable pub needPages : List ℕ → List ℕ → Result A → Result A
+  needPages image [] rest = rest
+  needPages image (p ∷ ps) rest = needPage image p (λ page. needPages image ps rest)
+
+-- The indirect cluster's name is judged before its pages are read; both its pages, all its names, then both pages of each table cluster in turn.
+unfoldable pub openTable : List ℕ → Superblock → Result Superblock
+openTable image s =
+    unless (inRange (s .offset) (s .indirect)) 5
+    (needPage image (2 * s .indirect) (λ first.
+    needPage image (2 * s .indirect + 1) (λ second.
+    unless (goodNames (s .offset) (s .indirect ∷ []) (tableNames (first ++ second) (tableClusters (s .end)))) 5
+    (needPages image (pagesOf (tableNames (first ++ second) (tableClusters (s .end)))) (ok s)))))
+
+-- Length, page 0, format text, the other superblock rules, the table.
+unfoldable pub openCard : List ℕ → Result Superblock
+openCard image =
+    unless (goodLength (length image)) 1
+    (needPage image 0 (λ page.
+    unless (goodText page) 3
+    (unless (goodSuperblock (clustersIn (length image)) page) 4
+    (openTable image (superblockOf page)))))
+
+-- what the answer of a call says
+abbrev pub told : Opened → Result Superblock
+told (opened.Card s) = ok s
+told (opened.Refused r) = fault (numberOf r) (pageOf r)
+
+-- ---- the table's words
+
+abbrev pub dataOf : Option (List ℕ) → List ℕ
+dataOf none = []
+dataOf (some page) = page
+
+abbrev pub namesOf : List ℕ → Superblock → List ℕ
+namesOf image s =
+    tableNames (dataOf (pageAt image (2 * s .indirect)) ++ dataOf (pageAt image (2 * s .indirect + 1))) (tableClusters (s .end))
+
+-- Word c of the table: 128 words to a page, two pages to a table cluster.
+abbrev pub tablePage : List ℕ → ℕ → ℕ
+tablePage names t = 2 * getD names (t / 2) 0 + t % 2
+
+abbrev pub tableWord : List ℕ → List ℕ → ℕ → ℕ
+tableWord image names c = word (dataOf (pageAt image (tablePage names (c / 128)))) (4 * (c % 128))
+
+-- one word for each allocatable cluster
+unfoldable pub tableOf : List ℕ → Superblock → List ℕ
+tableOf image s = upTo (tableWord image (namesOf image s)) (s .end)
+
+-- what a lent table holds after the card was opened: the words first; on a refusal what it held
+abbrev pub tableAfter : List ℕ → Result Superblock → List ℕ → List ℕ
+tableAfter image (fault n p) before = before
+tableAfter image (ok s) before = tableOf image s ++ drop (s .end) before

@@ -1,0 +1,86 @@
+// The superblock and the allocation table of a card, with the refusals in the paper's order.
+pub mod page0;
+mod table;
+
+use page::read_page;
+use page0::good_length;
+use page0::good_superblock;
+use page0::good_text;
+use page0::superblock_of;
+use table::judge_table;
+use table::load_table;
+ghost use mathlib.Core.Path.{_≡_};
+ghost use Rattle.layout.specs.Table.{openCard, told, tableAfter};
+
+// The largest N, and so the most words that a table has.
+pub const MOST_CLUSTERS: usize = 8192;
+
+// Why a call is refused: a case for each row of the paper's table.
+pub enum Refusal {
+    BadLength,
+    UnreadablePage(usize),
+    BadText,
+    BadSuperblock,
+    BadTableName,
+    BadChain,
+    BadEntry,
+    BadPath,
+    BadTime,
+    Absent,
+    WrongKind,
+    Exists,
+    NotEmpty,
+    BadOffset,
+    NoRoom,
+}
+
+// The numbers of a superblock: N, alloc_offset, alloc_end, the backup blocks and the indirect cluster.
+pub struct Superblock {
+    pub clusters: u32,
+    pub offset: u32,
+    pub end: u32,
+    pub backup1: u32,
+    pub backup2: u32,
+    pub indirect: u32,
+}
+
+// A card that is open, or why it is refused.
+pub enum Opened {
+    Card(Superblock),
+    Refused(Refusal),
+}
+
+// The check up to the table: length, page 0, format text, the other superblock rules, the table.
+fn judge_card(image: &[u8]) -> Opened
+    ensures { λ r. ⌜ told r ≡ openCard (now (image .entry)) ⌝ }
+{
+    if !good_length(image.len()) {
+        return Opened::Refused(Refusal::BadLength);
+    }
+    let mut page = [0u8; 512];
+    if !read_page(image, 0, &mut page) {
+        return Opened::Refused(Refusal::UnreadablePage(0));
+    }
+    if !good_text(&page) {
+        return Opened::Refused(Refusal::BadText);
+    }
+    if !good_superblock(image.len() / 1056, &page) {
+        return Opened::Refused(Refusal::BadSuperblock);
+    }
+    judge_table(image, superblock_of(&page))
+}
+
+// Checks the card up to its table, and loads the table's words. A refusal leaves the lent table as it was.
+pub fn open_card(image: &[u8], table: &mut [u32; MOST_CLUSTERS]) -> Opened
+    ensures opened { λ r. ⌜ told r ≡ openCard (now (image .entry)) ⌝ }
+    ensures loaded { λ _. ⌜ now (table .exit) ≡ tableAfter (now (image .entry)) (openCard (now (image .entry))) (now (table .entry)) ⌝ }
+{
+    let opened = judge_card(image);
+    match opened {
+        Opened::Card(s) => {
+            load_table(image, s, table);
+            Opened::Card(s)
+        }
+        Opened::Refused(refusal) => Opened::Refused(refusal),
+    }
+}

@@ -1,0 +1,84 @@
+// Page 0 of a card: the format text, the version, the fixed numbers and the superblock's numbers.
+use crate::MOST_CLUSTERS;
+use crate::Superblock;
+use fields::numbers::half_at;
+use fields::numbers::word_at;
+ghost use mathlib.Core.Path.{_≡_};
+ghost use Prim.Native.Nat.{_+_, _≤_};
+ghost use lib.ListN.{length};
+ghost use Rattle.model.specs.Bytes.{slice};
+ghost use Rattle.model.specs.Names.{sameName};
+ghost use Rattle.layout.specs.Superblock.{goodLength, goodText, goodVersion, fixedNumbers, superblockOf, goodNumbers, goodSuperblock};
+
+const LEAST_CLUSTERS: usize = 32;
+
+pub fn good_length(bytes: usize) -> bool
+    ensures { λ r. ⌜ r ≡ goodLength bytes ⌝ }
+{
+    let clusters = bytes / 1056;
+    (bytes % 1056 == 0)
+        & ((clusters % 8 == 0) & ((LEAST_CLUSTERS <= clusters) & (clusters <= MOST_CLUSTERS)))
+}
+
+// Whether the text stands in the bytes from `at` on.
+fn text_stands(bytes: &[u8], at: usize, text: &[u8]) -> bool
+    requires { ⌜ at + length (now text) ≤ length (now bytes) ⌝ }
+    ensures { λ r. ⌜ r ≡ sameName (slice (now (bytes .entry)) at (length (now (text .entry)))) (now (text .entry)) ⌝ }
+{
+    let to = at + text.len();
+    check::same(&bytes[at..to], text)
+}
+
+pub fn good_text(page: &[u8; 512]) -> bool
+    ensures { λ r. ⌜ r ≡ goodText (now (page .entry)) ⌝ }
+{
+    text_stands(page, 0, b"Sony PS2 Memory Card Format ")
+}
+
+pub fn good_version(page: &[u8; 512]) -> bool
+    ensures { λ r. ⌜ r ≡ goodVersion (now (page .entry)) ⌝ }
+{
+    text_stands(page, 0x1C, b"1.1.0.0\0\0\0\0\0") | text_stands(page, 0x1C, b"1.2.0.0\0\0\0\0\0")
+}
+
+pub fn fixed_numbers(page: &[u8; 512]) -> bool
+    ensures { λ r. ⌜ r ≡ fixedNumbers (now (page .entry)) ⌝ }
+{
+    (half_at(page, 0x28) == 512)
+        & ((half_at(page, 0x2A) == 2) & ((half_at(page, 0x2C) == 16) & (word_at(page, 0x3C) == 0)))
+}
+
+pub fn superblock_of(page: &[u8; 512]) -> Superblock
+    ensures { λ r. ⌜ r ≡ superblockOf (now (page .entry)) ⌝ }
+{
+    Superblock {
+        clusters: word_at(page, 0x30),
+        offset: word_at(page, 0x34),
+        end: word_at(page, 0x38),
+        backup1: word_at(page, 0x40),
+        backup2: word_at(page, 0x44),
+        indirect: word_at(page, 0x50),
+    }
+}
+
+// The rules on the numbers, for an image of n clusters. The sums are whole: words fit a usize with room.
+pub fn good_numbers(n: usize, s: Superblock) -> bool
+    ensures { λ r. ⌜ r ≡ goodNumbers n s ⌝ }
+{
+    let top = s.offset as usize + s.end as usize;
+    (s.clusters as usize == n)
+        & ((1 <= s.end)
+            & ((top <= n)
+                & (!(s.backup1 == s.backup2)
+                    & (((s.backup1 as usize) < n / 8)
+                        & (((s.backup2 as usize) < n / 8)
+                            & ((top <= 8 * s.backup1 as usize)
+                                & (top <= 8 * s.backup2 as usize)))))))
+}
+
+// Every rule of page 0 but its text.
+pub fn good_superblock(n: usize, page: &[u8; 512]) -> bool
+    ensures { λ r. ⌜ r ≡ goodSuperblock n (now (page .entry)) ⌝ }
+{
+    good_version(page) & (fixed_numbers(page) & good_numbers(n, superblock_of(page)))
+}

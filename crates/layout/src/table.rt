@@ -1,0 +1,169 @@
+// The allocation table: its clusters' names in the indirect cluster, their pages, and the words in them.
+use crate::Opened;
+use crate::Refusal;
+use crate::Superblock;
+use fields::numbers::word_at;
+use fields::numbers::word_in;
+use page::read_page;
+ghost use mathlib.Core.Path.{_≡_};
+ghost use mathlib.Core.List.{_++_, _∷_, []};
+ghost use mathlib.Core.Bool.{true};
+ghost use Prim.Native.Nat.{ℕ, _*_, _≤_, _<_};
+ghost use lib.Dec.{eqb};
+ghost use lib.ListN.{length, drop};
+ghost use Rattle.page.specs.Page.{pageAt, isSome};
+ghost use Rattle.model.specs.Bytes.{word};
+ghost use Rattle.model.specs.Check.{ok};
+ghost use Rattle.model.specs.Tree.{times};
+ghost use Rattle.model.specs.View.{mostClusters, pagesOf};
+ghost use Rattle.layout.specs.Table.{upTo, tableClusters, tableNames, inRange, goodNames, needPages, openTable, openCard, told, tablePage, tableWord, tableOf};
+
+fn in_range(offset: u32, name: u32) -> bool
+    ensures { λ r. ⌜ r ≡ inRange offset name ⌝ }
+{
+    (1 <= name) & (name < offset)
+}
+
+// Word i of the indirect cluster, whose two pages are given.
+fn name_in(first: &[u8], second: &[u8], i: usize) -> u32
+    requires { ⌜ (length (now first) ≡ 512) × (i < 256) ⌝ }
+    ensures { λ r. ⌜ r ≡ word (now (first .entry) ++ now (second .entry)) (4 * i) ⌝ }
+{
+    if i < 128 {
+        word_in(first, 4 * i)
+    } else {
+        word_in(second, 4 * (i - 128))
+    }
+}
+
+fn name_at(first: &[u8; 512], second: &[u8; 512], i: usize) -> u32
+    requires { ⌜ i < 256 ⌝ }
+    ensures { λ r. ⌜ r ≡ word (now (first .entry) ++ now (second .entry)) (4 * i) ⌝ }
+{
+    name_in(first, second, i)
+}
+
+// Whether the name is neither the indirect cluster's nor one of the first `count`.
+fn is_new(first: &[u8; 512], second: &[u8; 512], indirect: u32, count: usize, name: u32) -> bool
+    requires { ⌜ count ≤ 256 ⌝ }
+    ensures { λ r. ⌜ r ≡ eqb (times (indirect ∷ tableNames (now (first .entry) ++ now (second .entry)) count) name) 0 ⌝ }
+{
+    let mut left = count;
+    while 0 < left {
+        left -= 1;
+        if name_at(first, second, left) == name {
+            return false;
+        }
+    }
+    !(indirect == name)
+}
+
+// Whether the first `count` names are good ones.
+fn good_names(
+    first: &[u8; 512],
+    second: &[u8; 512],
+    offset: u32,
+    indirect: u32,
+    count: usize,
+) -> bool
+    requires { ⌜ count ≤ 256 ⌝ }
+    ensures { λ r. ⌜ r ≡ goodNames offset (indirect ∷ []) (tableNames (now (first .entry) ++ now (second .entry)) count) ⌝ }
+{
+    let mut i = 0;
+    while i < count {
+        let name = name_at(first, second, i);
+        if !(in_range(offset, name) & is_new(first, second, indirect, i, name)) {
+            return false;
+        }
+        i += 1;
+    }
+    true
+}
+
+// The image page that is page t of the table.
+fn table_page(first: &[u8; 512], second: &[u8; 512], count: usize, t: usize) -> usize
+    requires { ⌜ (t < 2 * count) × (count ≤ 256) ⌝ }
+    ensures { λ r. ⌜ r ≡ tablePage (tableNames (now (first .entry) ++ now (second .entry)) count) t ⌝ }
+{
+    2 * (name_at(first, second, t / 2) as usize) + t % 2
+}
+
+// Both pages of each table cluster in turn: the first that is unreadable decides.
+fn judge_pages(
+    image: &[u8],
+    first: &[u8; 512],
+    second: &[u8; 512],
+    count: usize,
+    s: Superblock,
+) -> Opened
+    requires { ⌜ count ≤ 256 ⌝ }
+    ensures { λ r. ⌜ told r ≡ needPages (now (image .entry)) (pagesOf (tableNames (now (first .entry) ++ now (second .entry)) count)) (ok s) ⌝ }
+{
+    let mut page = [0u8; 512];
+    let mut t = 0;
+    while t < 2 * count {
+        let p = table_page(first, second, count, t);
+        if !read_page(image, p, &mut page) {
+            return Opened::Refused(Refusal::UnreadablePage(p));
+        }
+        t += 1;
+    }
+    Opened::Card(s)
+}
+
+// The check of the table. Its clusters' names are in the indirect cluster, whose own name is judged first.
+pub(crate) fn judge_table(image: &[u8], s: Superblock) -> Opened
+    requires { ⌜ s .end ≤ mostClusters ⌝ }
+    ensures { λ r. ⌜ told r ≡ openTable (now (image .entry)) s ⌝ }
+{
+    let offset = s.offset;
+    let indirect = s.indirect;
+    let end = s.end as usize;
+    if !in_range(offset, indirect) {
+        return Opened::Refused(Refusal::BadTableName);
+    }
+    let p = 2 * (indirect as usize);
+    let mut first = [0u8; 512];
+    if !read_page(image, p, &mut first) {
+        return Opened::Refused(Refusal::UnreadablePage(p));
+    }
+    let mut second = [0u8; 512];
+    if !read_page(image, p + 1, &mut second) {
+        return Opened::Refused(Refusal::UnreadablePage(p + 1));
+    }
+    let count = (end + 255) / 256;
+    if !good_names(&first, &second, offset, indirect, count) {
+        return Opened::Refused(Refusal::BadTableName);
+    }
+    judge_pages(image, &first, &second, count, s)
+}
+
+// The words of the clusters below `end`, from the table's pages in turn; each page was judged readable.
+fn load_words(image: &[u8], first: &[u8; 512], second: &[u8; 512], end: usize, table: &mut [u32])
+    requires { ⌜ (end ≤ mostClusters) × (end ≤ length (now table)) × ((t : ℕ) → t < 2 * tableClusters end → isSome (pageAt (now image) (tablePage (tableNames (now first ++ now second) (tableClusters end)) t)) ≡ true) ⌝ }
+    ensures { λ _. ⌜ now (table .exit) ≡ upTo (tableWord (now (image .entry)) (tableNames (now (first .entry) ++ now (second .entry)) (tableClusters end))) end ++ drop end (now (table .entry)) ⌝ }
+{
+    let count = (end + 255) / 256;
+    let mut page = [0u8; 512];
+    let mut c = 0;
+    while c < end {
+        if c % 128 == 0 {
+            read_page(image, table_page(first, second, count, c / 128), &mut page);
+        }
+        table[c] = word_at(&page, 4 * (c % 128));
+        c += 1;
+    }
+}
+
+// Loads the table of a card that passed the check.
+pub(crate) fn load_table(image: &[u8], s: Superblock, table: &mut [u32])
+    requires { ⌜ (openCard (now image) ≡ ok s) × (s .end ≤ length (now table)) ⌝ }
+    ensures { λ _. ⌜ now (table .exit) ≡ tableOf (now (image .entry)) s ++ drop (s .end) (now (table .entry)) ⌝ }
+{
+    let p = 2 * (s.indirect as usize);
+    let mut first = [0u8; 512];
+    read_page(image, p, &mut first);
+    let mut second = [0u8; 512];
+    read_page(image, p + 1, &mut second);
+    load_words(image, &first, &second, s.end as usize, table);
+}

@@ -1,0 +1,59 @@
+-- One law for each way that a turn of the chain's walk can go.
+use Prim.Native.Nat.{_-_, _<_, _≤_, suc, zero, ℕ}
+use mathlib.Core.Bool.{false, true}
+use mathlib.Core.List.{List}
+use mathlib.Core.Path.{_≡_, refl}
+use native.Mathlib.Numerals.{sub-one}
+use native.Mathlib.Omega.{arith}
+use borrow.Author.Tests.{eq-eqb, le-ltb, lt-ltb, ne-eqb}
+use lib.Dec.{eqb}
+use lib.ListN.{getD, length}
+use Rattle.model.specs.Entry.{endMark}
+use Rattle.model.specs.View.{topBit}
+use Rattle.reached.specs.Chain.{broken, chainFrom, chainOf, oneCluster}
+use Rattle.reached.specs.Marks.{marked, withMark}
+use Rattle.reached.specs.declared.Reached.{Reached}
+
+module _ (t : List ℕ) (r : Reached) (c k : ℕ) where
+  pub chain-none : k ≡ 0 → chainOf t r c k ≡ record { sound = eqb c endMark; reached = r }
+  unfolding chainOf
+  chain-none e = rw e
+
+  pub chain-some : (k ≡ 0 → ⊥) → chainOf t r c k ≡ chainFrom t r c k
+  unfolding chainOf
+  chain-some n = go k n
+    where
+      go : (k : ℕ) → (k ≡ 0 → ⊥) → chainOf t r c k ≡ chainFrom t r c k
+      go zero n = absurd (n refl)
+      go (suc k) n = refl
+
+  pub chain-over : k ≡ 0 → chainFrom t r c k ≡ broken r
+  unfolding chainFrom
+  chain-over e = rw e
+
+  chain-one : 0 < k → chainFrom t r c k ≡ oneCluster t r c (k - 1) (chainFrom t (withMark r c) (getD t c 0 - topBit) (k - 1))
+  unfolding chainFrom
+  chain-one h = go k h
+    where
+      go : (k : ℕ) → 0 < k → chainFrom t r c k ≡ oneCluster t r c (k - 1) (chainFrom t (withMark r c) (getD t c 0 - topBit) (k - 1))
+      go zero h = absurd (omega arith)
+      go (suc k) h = rw (sub-one (suc k))
+
+  module _ (more : 0 < k) where
+    pub chain-out : length t ≤ c → chainFrom t r c k ≡ broken r
+    chain-out o = rw (chain-one more, le-ltb c (length t) o)
+
+    module _ (inside : c < length t) where
+      pub chain-free : getD t c 0 < topBit → chainFrom t r c k ≡ broken r
+      chain-free f = rw (chain-one more, lt-ltb c (length t) inside, lt-ltb (getD t c 0) topBit f)
+
+      module _ (used : topBit ≤ getD t c 0) where
+        pub chain-seen : marked r c ≡ true → chainFrom t r c k ≡ broken r
+        chain-seen m = rw (chain-one more, lt-ltb c (length t) inside, le-ltb (getD t c 0) topBit used, m)
+
+        module _ (fresh : marked r c ≡ false) where
+          pub chain-end : getD t c 0 ≡ endMark → chainFrom t r c k ≡ record { sound = eqb (k - 1) 0; reached = withMark r c }
+          chain-end e = rw (chain-one more, lt-ltb c (length t) inside, le-ltb (getD t c 0) topBit used, fresh, eq-eqb (getD t c 0) endMark e)
+
+          pub chain-next : (getD t c 0 ≡ endMark → ⊥) → chainFrom t r c k ≡ chainFrom t (withMark r c) (getD t c 0 - topBit) (k - 1)
+          chain-next e = rw (chain-one more, lt-ltb c (length t) inside, le-ltb (getD t c 0) topBit used, fresh, ne-eqb (getD t c 0) endMark e)

@@ -1,0 +1,66 @@
+-- The counts: what a turn over the table adds, and that the sums are the model's counts of a view with that table.
+use Prim.Native.Nat.{_+_, _-_, _<_, _≤_, ℕ}
+use mathlib.Core.Bool.{Bool, _&&_, cond, false, not, true}
+use mathlib.Core.List.{List}
+use mathlib.Core.Path.{_∙_, _≡_, refl}
+use native.Mathlib.Numerals.{add-one}
+use native.Mathlib.Omega.{arith}
+use borrow.Author.Tests.{le-leb, le-ltb, lt-leb, lt-ltb}
+use lib.Dec.{eqb, leb}
+use lib.ListN.{getD, length}
+use native.Mathlib.Decide.{decLt}
+use Rattle.model.proofs.CountLaws.{total-ext}
+use Rattle.model.specs.Check.{Marks}
+use Rattle.model.specs.Counts.{freeCount, isFree, isOrphan, totalBelow}
+use Rattle.model.specs.Entry.{endMark}
+use Rattle.model.specs.View.{Link, View, linkOf, topBit}
+use Rattle.reached.specs.Marks.{Keeps, marked, marksOf}
+use Rattle.reached.specs.Table.{tableLinks}
+use Rattle.reached.specs.Totals.{freeAt, freeIn, orphanAt, orphansIn}
+use Rattle.reached.specs.declared.Reached.{Reached}
+use Rattle.reached.proofs.MarkLaws.{count-below}
+
+pub total-step : (f : ℕ → ℕ) (n d i : ℕ) → n ≡ totalBelow f i → f i ≡ d → n + d ≡ totalBelow f (i + 1)
+total-step f n d i e q = rw (add-one i) (omega arith)
+
+pub total-same : (f : ℕ → ℕ) (n i : ℕ) → n ≡ totalBelow f i → f i ≡ 0 → n ≡ totalBelow f (i + 1)
+total-same f n i e q = rw (add-one i) (omega arith)
+
+module _ (t : List ℕ) (i : ℕ) (inside : i < length t) where
+  pub free-one : getD t i 0 < topBit → isFree (tableLinks t i) ≡ 1
+  free-one f = rw (lt-ltb i (length t) inside, lt-ltb (getD t i 0) topBit f)
+
+  pub free-none : topBit ≤ getD t i 0 → isFree (tableLinks t i) ≡ 0
+  free-none u = rw (lt-ltb i (length t) inside, le-ltb (getD t i 0) topBit u) (go (eqb (getD t i 0) endMark))
+    where
+      go : (b : Bool) → isFree (cond b Link.last (Link.next (getD t i 0 - topBit))) ≡ 0
+      go true = refl
+      go false = refl
+
+  -- the code's test is the model's orphan
+  pub orphan-test : (r : Reached) (b : Bool) → (leb topBit (getD t i 0) && not (marked r i)) ≡ b → isOrphan (tableLinks t i) (marksOf r i) ≡ cond b 1 0
+  orphan-test r b e = rw (← e, lt-ltb i (length t) inside) (go (decLt (getD t i 0) topBit))
+    where
+      w : ℕ
+      w = getD t i 0
+
+      used : (b m : Bool) → isOrphan (cond b Link.last (Link.next (w - topBit))) (cond m 1 0) ≡ cond (not m) 1 0
+      used true true = refl
+      used true false = refl
+      used false true = refl
+      used false false = refl
+
+      go : Dec (w < topBit) → isOrphan (linkOf w) (marksOf r i) ≡ cond (leb topBit w && not (marked r i)) 1 0
+      go (yes f) = rw (lt-ltb w topBit f, lt-leb topBit w f)
+      go (no f) = let u : topBit ≤ w = omega arith in rw (le-ltb w topBit u, le-leb topBit w u) (used (eqb w endMark) (marked r i))
+
+-- The code's counts are the model's, for a view with that table and a record that keeps the model's marks.
+module _ (t : List ℕ) (v : View) (links : (c : ℕ) → v .link c ≡ tableLinks t c) where
+  pub free-count : freeIn t ≡ freeCount (length t) v
+  free-count = total-ext (freeAt t) (λ c. isFree (v .link c)) (length t) (λ c h. rw (links c))
+
+  pub orphan-count : (r : Reached) (m : Marks) → Keeps r m → orphansIn t r ≡ totalBelow (λ c. isOrphan (v .link c) (m c)) (length t)
+  orphan-count r m k = total-ext (orphanAt t r) (λ c. isOrphan (v .link c) (m c)) (length t) (λ c h. rw (links c, ← k .marks c))
+
+pub reached-count : (r : Reached) (m : Marks) → Keeps r m → (n : ℕ) → ((c : ℕ) → n ≤ c → m c ≡ 0) → r .count ≡ totalBelow m n
+reached-count r m k n low = count-below r (k .sound) n (λ c h. k .marks c ∙ low c h) ∙ total-ext (marksOf r) m n (λ c h. k .marks c)

@@ -1,0 +1,70 @@
+-- The loop keeps the count of the free words passed; each word adds 1 exactly where its top bit is clear.
+use Prim.Native.Nat.{_-_, _<_, _≤_}
+use mathlib.Core.Logic.{⊎-elim}
+use mathlib.Core.Path.{_∙_, _≡_, ap, refl}
+use native.Mathlib.Omega.{arith}
+use denote.Ref.{now}
+use lib.ListN.{length}
+use Rattle.model.specs.Counts.{totalBelow}
+use Rattle.reached.specs.Totals.{freeAt}
+use Rattle.reached.proofs.CountLaws.{free-none, free-one, total-same, total-step}
+use Rattle.reached.proofs.count_free.Statement.{statement}
+use Rattle.reached.proofs.count_free.Tie as tie
+
+abbrev Inv-loop : tie.InvT-loop
+Inv-loop table n₀ i₀ n i = (i ≤ length table) × (n ≡ totalBelow (freeAt table) i) × (n ≤ i)
+
+abbrev μ-loop : tie.MeasureT-loop
+μ-loop table n₀ i₀ n i = length table - i
+
+loop-holds : tie.Need-loop-holds Inv-loop μ-loop
+loop-holds c = (omega arith, refl, omega arith)
+
+mul-if1 : tie.Need-mul-if1 Inv-loop μ-loop
+mul-if1 c = omega arith
+
+shared-slice-read-if1 : tie.Need-shared-slice-read-if1 Inv-loop μ-loop
+shared-slice-read-if1 c = omega arith
+
+add-n : tie.Need-add-n Inv-loop μ-loop
+add-n c = omega arith
+
+add-i : tie.Need-add-i Inv-loop μ-loop
+add-i c = omega arith
+
+loop-less : tie.Need-loop-less Inv-loop μ-loop
+loop-less c = omega arith
+
+loop-again : tie.Need-loop-again Inv-loop μ-loop
+loop-again c =
+    let t = now (c .before .before .before .before .args .table) in
+    let l = c .before .before .before .loop in
+    let inside : l .i < length t = omega arith in (
+      omega arith,
+      ⊎-elim
+          (λ w. w .1 ∙ total-step (freeAt t) (l .n) 1 (l .i) (l .inv .1) (free-one t (l .i) inside (w .0 .taken)))
+          (λ w. w .1 ∙ total-same (freeAt t) (l .n) (l .i) (l .inv .1) (free-none t (l .i) inside (w .0 .left)))
+          (c .if1 .came),
+      ⊎-elim (λ w. omega (arith, w .1)) (λ w. omega (arith, w .1)) (c .if1 .came),
+    )
+
+returns : tie.Need-returns Inv-loop μ-loop
+returns c =
+    let t = now (c .before .before .args .table) in
+    let all : c .before .loop .i ≡ length t = omega arith in
+    c .before .loop .inv .1 ∙ ap (totalBelow (freeAt t)) all
+
+pub count-free-spec : {M : Type 1} → statement M
+count-free-spec =
+    tie.close
+    (tie.spec
+    Inv-loop
+    μ-loop
+    loop-holds
+    mul-if1
+    shared-slice-read-if1
+    add-n
+    add-i
+    loop-less
+    loop-again
+    returns)

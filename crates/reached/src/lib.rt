@@ -1,0 +1,150 @@
+// The clusters that chains reach: their record, the walk of one chain, and the counts over the allocation table.
+ghost use mathlib.Core.Path.{_≡_};
+ghost use Rattle.reached.specs.Marks.{noMarks, markedIn, marked, withMark};
+ghost use Rattle.reached.specs.Chain.{chainOf};
+ghost use Rattle.reached.specs.Totals.{freeIn, orphansIn};
+
+// As many marks as the largest card has clusters.
+const MOST_CLUSTERS: usize = 8192;
+
+// A table word below this is free.
+const TOP_BIT: u32 = 0x8000_0000;
+
+// The end of a chain, as a table word and as a first cluster.
+const END_MARK: u32 = 0xFFFF_FFFF;
+
+// The clusters reached so far: a mark for each cluster, 64 to a word, and how many marks are set.
+pub struct Reached {
+    pub words: [u64; 128],
+    pub count: usize,
+}
+
+// Whether a cluster is marked in these words. The loops lend them, so that a test copies no record.
+fn has_mark(words: &[u64; 128], c: usize) -> bool
+    ensures { λ r. ⌜ r ≡ markedIn (now (words .entry)) c ⌝ }
+{
+    if MOST_CLUSTERS <= c {
+        return false;
+    }
+    (words[c / 64] >> (c % 64)) % 2 == 1
+}
+
+impl Reached {
+    // the record at the start of a walk
+    pub fn new() -> Reached
+        ensures { λ r. ⌜ r ≡ noMarks ⌝ }
+    {
+        Reached {
+            words: [0u64; 128],
+            count: 0,
+        }
+    }
+
+    pub fn is_marked(self, c: usize) -> bool
+        ensures { λ r. ⌜ r ≡ marked self c ⌝ }
+    {
+        has_mark(&self.words, c)
+    }
+
+    // The record with that one mark more, or the old one where it was set.
+    pub fn mark(mut self, c: usize) -> Reached
+        ensures { λ r. ⌜ r ≡ withMark self c ⌝ }
+    {
+        let n = self.count;
+        if (c < MOST_CLUSTERS) & ((n < MOST_CLUSTERS) & !has_mark(&self.words, c)) {
+            let i = c / 64;
+            let w = self.words[i];
+            self.words[i] = w | (1u64 << (c % 64));
+            self.count = n + 1;
+        }
+        self
+    }
+}
+
+// Whether a chain is sound, and the record with the clusters that the walk passed.
+pub struct Chain {
+    pub sound: bool,
+    pub reached: Reached,
+}
+
+// The chain of exactly that many clusters behind an entry's first cluster; the root's begins at cluster 0.
+// The table is the words below alloc_end.
+pub fn walk_chain(table: &[u32], reached: Reached, first: u32, clusters: u32) -> Chain
+    ensures { λ r. ⌜ r ≡ chainOf (now (table .entry)) reached first clusters ⌝ }
+{
+    if clusters == 0 {
+        return Chain {
+            sound: first == END_MARK,
+            reached,
+        };
+    }
+    let mut r = reached;
+    let mut c = first;
+    let mut left = clusters;
+    while 0 < left {
+        let i = c as usize;
+        if table.len() <= i {
+            return Chain {
+                sound: false,
+                reached: r,
+            };
+        }
+        let w = table[i];
+        if w < TOP_BIT {
+            return Chain {
+                sound: false,
+                reached: r,
+            };
+        }
+        if has_mark(&r.words, i) {
+            return Chain {
+                sound: false,
+                reached: r,
+            };
+        }
+        r = r.mark(i);
+        left = left - 1;
+        if w == END_MARK {
+            return Chain {
+                sound: left == 0,
+                reached: r,
+            };
+        }
+        c = w - TOP_BIT;
+    }
+    Chain {
+        sound: false,
+        reached: r,
+    }
+}
+
+// Free: the top bit of the table word is clear.
+pub fn count_free(table: &[u32]) -> usize
+    ensures { λ r. ⌜ r ≡ freeIn (now (table .entry)) ⌝ }
+{
+    let mut n: usize = 0;
+    let mut i: usize = 0;
+    while i < table.len() {
+        if table[i] < TOP_BIT {
+            n += 1;
+        }
+        i += 1;
+    }
+    n
+}
+
+// Orphaned: the table word is not free, and no chain reaches the cluster. Never a remainder.
+pub fn count_orphans(table: &[u32], reached: Reached) -> usize
+    ensures { λ r. ⌜ r ≡ orphansIn (now (table .entry)) reached ⌝ }
+{
+    let words = reached.words;
+    let mut n: usize = 0;
+    let mut i: usize = 0;
+    while i < table.len() {
+        if (TOP_BIT <= table[i]) & !has_mark(&words, i) {
+            n += 1;
+        }
+        i += 1;
+    }
+    n
+}

@@ -1,0 +1,2 @@
+-- What a call's number says, and what it leaves in the numbers lent to it.
+pub mod Answer

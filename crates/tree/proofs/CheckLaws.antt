@@ -1,0 +1,123 @@
+-- The counts that the code tells are the check's, by the table that was loaded.
+use Prim.Native.Nat.{_+_, _≤_, ℕ}
+use mathlib.Core.List.{List, _++_}
+use mathlib.Core.Path.{_∙_, _≡_, ap, fun-ext, refl, sym}
+use native.Mathlib.Omega.{arith}
+use borrow.Author.Tests.{le-ltb}
+use lib.ListN.{drop, length, length-append, take}
+use lib.Seq.{take-at}
+use Rattle.layout.proofs.Geometry.{open-facts}
+use Rattle.layout.proofs.TableLaws.{length-table}
+use Rattle.layout.specs.declared.Refusal.{Refusal}
+use Rattle.layout.specs.declared.Superblock.{Superblock}
+use Rattle.layout.specs.Refusal.{numberOf, pageOf}
+use Rattle.layout.specs.See.{checkImage, onImage, see, viewBy}
+use Rattle.layout.specs.Table.{openCard, tableAfter, tableOf}
+use Rattle.model.proofs.CheckHolds.{check-holds}
+use Rattle.model.proofs.CountLaws.{card-used}
+use Rattle.model.specs.Check.{Marks, Result, andThen, checkTree, fault, ok}
+use Rattle.model.specs.Counts.{freeCount, isOrphan, orphanCount, reachedCount, totalBelow}
+use Rattle.model.specs.Holds.{HoldsCard}
+use Rattle.model.specs.Tree.{Root, reached}
+use Rattle.model.specs.View.{Link, View, mostClusters}
+use Rattle.reached.proofs.CountLaws.{free-count, orphan-count, reached-count}
+use Rattle.reached.specs.Marks.{Keeps}
+use Rattle.reached.specs.Totals.{freeIn, orphansIn}
+use Rattle.reached.specs.declared.Reached.{Reached}
+use Rattle.tree.specs.Counted.{checkOf, countsBy, countsIn, superblockIn}
+use Rattle.tree.specs.declared.Counts.{Counts}
+use Rattle.tree.specs.declared.Verdict.{Verdict}
+use Rattle.tree.specs.declared.Verdict.the-variants as verdict
+use Rattle.tree.specs.Walk.{Passes, Tells, rootMarks}
+
+module _ (clusters offset : ℕ) (t image : List ℕ) (q : Reached) where
+  abbrev v : View
+  v = viewBy offset t image
+
+  pub counted-bad : (f : Refusal) → Tells (onImage offset (rootMarks (checkTree (viewBy offset t image)))) (verdict.Refused f) q
+      → fault (numberOf f) (pageOf f) ≡ countsBy clusters offset t image
+  unfolding countsBy andThen
+  counted-bad f h = go (checkTree (viewBy offset t image)) h
+    where
+      go : (r : Result (Root × Marks)) → Tells (onImage offset (rootMarks r)) (verdict.Refused f) q
+          → fault (numberOf f) (pageOf f) ≡ andThen (onImage offset r) (λ x. ok (countsIn clusters (length t) (viewBy offset t image) (x .0)))
+      go (fault n p) h = rw (h .0, h .1)
+      go (ok x) h = absurd h
+
+  same-counts : (a b : Counts) → a .clusters ≡ b .clusters → a .free ≡ b .free → a .reached ≡ b .reached → a .orphaned ≡ b .orphaned → a ≡ b
+  same-counts a b c d e f = λ i. record { clusters = c i; free = d i; reached = e i; orphaned = f i }
+
+  pub counted-good : (free orphaned : ℕ) → Tells (onImage offset (rootMarks (checkTree (viewBy offset t image)))) verdict.Sound q
+      → free ≡ freeIn t → orphaned ≡ orphansIn t q
+      → ok (record { clusters = clusters; free = free; reached = q .count; orphaned = orphaned }) ≡ countsBy clusters offset t image
+  unfolding countsBy andThen
+  counted-good free orphaned h f o = go (checkTree (viewBy offset t image)) refl h
+    where
+      go : (r : Result (Root × Marks)) → checkTree (viewBy offset t image) ≡ r → Tells (onImage offset (rootMarks r)) verdict.Sound q
+          → ok (record { clusters = clusters; free = free; reached = q .count; orphaned = orphaned })
+          ≡ andThen (onImage offset r) (λ x. ok (countsIn clusters (length t) (viewBy offset t image) (x .0)))
+      go (fault n p) e h = absurd h
+      go (ok x) e h =
+          let c = check-holds (viewBy offset t image) (x .0) (x .1) e in
+          let m : x .1 ≡ reached (x .0) = fun-ext (c .1) in
+          let high : (d : ℕ) → length t ≤ d → x .1 d ≡ 0 = λ d l. c .1 d ∙ card-used (viewBy offset t image) (x .0) (c .0) d (rw (le-ltb d (length t) l)) in
+          ap {B = Result Counts} ok
+          (same-counts (record { clusters = clusters; free = free; reached = q .count; orphaned = orphaned }) (countsIn clusters (length t) (viewBy offset t image) (x .0))
+          refl (f ∙ free-count t (viewBy offset t image) (λ d. refl))
+          (reached-count q (x .1) h (length t) high ∙ ap (λ (k : Marks). totalBelow k (length t)) m)
+          (o ∙ orphan-count t (viewBy offset t image) (λ d. refl) q (x .1) h ∙ ap (λ (k : Marks). totalBelow (λ d. isOrphan ((viewBy offset t image) .link d) (k d)) (length t)) m))
+
+-- ---- the card that was opened
+
+module _ (image : List ℕ) where
+  pub check-bad : (n p : ℕ) → fault n p ≡ openCard image → fault n p ≡ checkOf image
+  unfolding checkOf checkImage andThen
+  check-bad n p e = rw (← e)
+
+  module _ (s : Superblock) (e : ok s ≡ openCard image) where
+    -- the loaded words are the table
+    pub table-loaded : (before after : List ℕ) → after ≡ tableAfter image (openCard image) before → take (s .end) after ≡ tableOf image s
+    table-loaded before after f = rw (f ∙ ap (λ r. tableAfter image r before) (sym e)) (take-at (tableOf image s) (drop (s .end) before) (s .end) (length-table image s))
+
+    pub table-room : (before after : List ℕ) → after ≡ tableAfter image (openCard image) before → s .end ≤ length after
+    table-room before after f =
+        rw (f ∙ ap (λ r. tableAfter image r before) (sym e)) (omega (arith, length-append (tableOf image s) (drop (s .end) before), length-table image s))
+
+    pub end-fits : s .end ≤ 8192
+    end-fits = let g = open-facts image s (sym e) in omega (arith, g .room, g .most)
+
+    pub check-card : (t : List ℕ) → t ≡ tableOf image s → countsBy (s .clusters) (s .offset) t image ≡ checkOf image
+    unfolding checkOf checkImage countsBy andThen
+    check-card t f =
+        ap (λ (w : List ℕ). countsBy (s .clusters) (s .offset) w image) f
+        ∙ rw (← e) (go (checkTree (see s image)))
+      where
+        go : (r : Result (Root × Marks)) → andThen (onImage (s .offset) r) (λ x. ok (countsIn (s .clusters) (length (tableOf image s)) (see s image) (x .0)))
+            ≡ andThen {A = Superblock × Root × Marks} (andThen (onImage (s .offset) r) (λ x. ok (s, x .0, x .1))) (λ x. ok (countsIn (x .0 .clusters) (x .0 .end) (see (x .0) image) (x .1)))
+        go (fault n p) = refl
+        go (ok x) = rw (length-table image s)
+
+    module _ (t : List ℕ) (f : t ≡ tableOf image s) where
+      opened-is : superblockIn (checkImage image) ≡ superblockIn (andThen (onImage (s .offset) (checkTree (viewBy (s .offset) t image))) (λ x. ok (s, x .0, x .1)))
+      unfolding checkImage andThen
+      opened-is = rw (← e, f)
+
+      pub opened-bad : (r : Refusal) → Passes (onImage (s .offset) (checkTree (viewBy (s .offset) t image))) (verdict.Refused r) → fault (numberOf r) (pageOf r) ≡ superblockIn (checkImage image)
+      unfolding andThen
+      opened-bad r h = go (checkTree (viewBy (s .offset) t image)) h ∙ sym opened-is
+        where
+          go : (x : Result (Root × Marks)) → Passes (onImage (s .offset) x) (verdict.Refused r) → fault (numberOf r) (pageOf r) ≡ superblockIn (andThen (onImage (s .offset) x) (λ y. ok (s, y .0, y .1)))
+          go (fault n p) h = rw (h .0, h .1)
+          go (ok y) h = absurd h
+
+      pub opened-good : Passes (onImage (s .offset) (checkTree (viewBy (s .offset) t image))) verdict.Sound → ok s ≡ superblockIn (checkImage image)
+      unfolding andThen
+      opened-good h = go (checkTree (viewBy (s .offset) t image)) h ∙ sym opened-is
+        where
+          go : (x : Result (Root × Marks)) → Passes (onImage (s .offset) x) verdict.Sound → ok s ≡ superblockIn (andThen (onImage (s .offset) x) (λ y. ok (s, y .0, y .1)))
+          go (fault n p) h = absurd h
+          go (ok y) h = refl
+
+  pub unopened : (n p : ℕ) → fault n p ≡ openCard image → fault n p ≡ superblockIn (checkImage image)
+  unfolding checkImage andThen
+  unopened n p e = rw (← e)

@@ -1,0 +1,9 @@
+-- Why the walk of the code is the check of the model.
+pub mod ChainPages
+pub mod SlotSteps
+pub mod FilterLaws
+pub mod LookLaws
+pub mod TellLaws
+pub mod RootLaws
+pub mod CheckLaws
+pub mod SumLaws

@@ -1,0 +1,103 @@
+-- The root, and what the whole walk tells of the check.
+use Prim.Native.Nat.{_*_, _+_, _-_, _/_, _≤_, ℕ}
+use mathlib.Core.Bool.{Bool, _&&_, cond, false, true}
+use mathlib.Core.List.{List, [], _∷_}
+use mathlib.Core.Option.{Option, none, some}
+use mathlib.Core.Path.{_∙_, _≡_, ap, fun-ext, refl, sym}
+use native.Mathlib.Omega.{arith}
+use lib.Dec.{leb, leb→le}
+use lib.ListN.{length}
+use Rattle.layout.specs.declared.Refusal.the-variants as is
+use Rattle.layout.specs.See.{onImage}
+use Rattle.model.proofs.Equality.{and-r, to-T}
+use Rattle.model.specs.Check.{Marks, Result, andThen, checkTree, fault, followChain, judgeDots, marks, ok, sound, walkDirectory}
+use Rattle.model.specs.Entry.{Entry, directoryClusters, isDirectory, isRoot}
+use Rattle.model.specs.Holds.{deepest}
+use Rattle.model.specs.Names.{dotName, sameName}
+use Rattle.model.specs.Tree.{Root, Slot, Tree, entryPages, times}
+use Rattle.model.specs.View.{Link, View, mostClusters}
+use Rattle.reached.proofs.ChainLaws.{broken-none, sound-some}
+use Rattle.reached.proofs.MarkLaws.{keeps-none}
+use Rattle.reached.specs.Chain.{chainOf}
+use Rattle.reached.specs.Marks.{Keeps, Sound, marksOf, noMarks}
+use Rattle.reached.specs.Table.{tableLinks}
+use Rattle.reached.specs.declared.Chain.{Chain}
+use Rattle.reached.specs.declared.Reached.{Reached}
+use Rattle.tree.specs.declared.Verdict.{Verdict}
+use Rattle.tree.specs.declared.Verdict.the-variants as verdict
+use Rattle.tree.specs.Slots.{nextOf, slotPages}
+use Rattle.tree.specs.Walk.{Passes, Tells, insideOf, marksOnly, rootMarks}
+use Rattle.tree.proofs.ChainPages.{directory-pages, follow-chain}
+
+root-only : {A : Type 0} (r : Result A) (w : A → Result (Tree × Marks)) (f : Tree × Marks → Root) → rootMarks (andThen r (λ x. andThen (w x) (λ s. ok (f s, s .1)))) ≡ marksOnly (andThen r w)
+unfolding andThen
+root-only (fault n p) w f = refl
+root-only (ok x) w f = go (w x)
+  where
+    go : (r : Result (Tree × Marks)) → rootMarks (andThen r (λ s. ok (f s, s .1))) ≡ marksOnly r
+    go (fault n p) = refl
+    go (ok s) = refl
+
+chain-step : {B : Type 0} (o : Option (List ℕ)) (cs : List ℕ) (f : List ℕ → Result B) → o ≡ some cs → andThen (sound o (λ xs. xs)) f ≡ f cs
+unfolding andThen
+chain-step o cs f e = rw e
+
+module _ (v : View) (offset : ℕ) where
+  pub root-unread : (p : ℕ) (r : Reached) → v .entry 0 ≡ none → p ≡ 2 * offset → Tells (onImage offset (rootMarks (checkTree v))) (verdict.Refused (is.UnreadablePage p)) r
+  unfolding checkTree andThen
+  root-unread p r e q = rw e (refl, omega arith)
+
+  module _ (e : Entry) (i : v .entry 0 ≡ some e) where
+    pub root-bad : (r : Reached) → isRoot e ≡ false → Tells (onImage offset (rootMarks (checkTree v))) (verdict.Refused is.BadEntry) r
+    unfolding checkTree andThen
+    root-bad r b = rw (i, b) (refl, refl)
+
+    module _ (good : isRoot e ≡ true) where
+      opened : checkTree v
+          ≡ andThen (sound (followChain v (directoryClusters e) (Link.next 0) (λ c. 0)) (λ cs. cs)) (λ cs.
+          andThen (judgeDots v cs) (λ x.
+          andThen (walkDirectory v deepest (entryPages (Slot.directory e cs)) (λ n. 0) (times cs)) (λ s. ok (record { rootEntry = e; chain = cs; slots = s .0 }, s .1))))
+      unfolding checkTree andThen
+      opened = rw (i, good)
+
+      two : 2 ≤ e .length
+      two = leb→le 2 (e .length) (to-T (and-r (isDirectory e && sameName (e .name) dotName) (leb 2 (e .length)) good))
+
+      module _ (t : List ℕ) (small : length t ≤ mostClusters) (links : (c : ℕ) → v .link c ≡ tableLinks t c) (k : ℕ) (size : k ≡ directoryClusters e)
+          (start : Reached) (fresh : start ≡ noMarks) (x : Chain) (walked : x ≡ chainOf t start 0 k) where
+        walked-so : x ≡ chainOf t noMarks 0 k
+        walked-so = walked ∙ ap (λ r. chainOf t r 0 k) fresh
+
+        pub root-broken : x .sound ≡ false → Tells (onImage offset (rootMarks (checkTree v))) (verdict.Refused is.BadChain) (x .reached)
+        unfolding andThen
+        root-broken b =
+            let f : followChain v k (Link.next 0) (λ c. 0) ≡ none = broken-none t small v links k 0 noMarks (λ c. 0) keeps-none (rw walked-so at b) in
+            rw (opened, ← size, f) (refl, refl)
+
+        pub root-sound : x .sound ≡ true → Sound (x .reached)
+        root-sound b = let g = sound-some t small v links k 0 noMarks (λ c. 0) keeps-none (rw walked-so at b) in rw walked-so (g .2 .keeps .sound)
+
+        pub root-good : x .sound ≡ true → (w : Verdict) (z : Reached) → Tells (onImage offset (insideOf v deepest t 0 (e .length) (marksOf (x .reached)))) w z
+            → Tells (onImage offset (rootMarks (checkTree v))) w z
+        unfolding insideOf
+        root-good b w z h =
+            let g = sound-some t small v links k 0 noMarks (λ c. 0) keeps-none (rw walked-so at b) in
+            let cs = g .0 in
+            let f : followChain v (directoryClusters e) (Link.next 0) (λ c. 0) ≡ some cs = rw (← size) (g .1) in
+            let q = follow-chain v (directoryClusters e) (Link.next 0) (λ c. 0) cs f in
+            let d = directory-pages v t links 0 cs (q .1) (e .length) two (q .0) in
+            let m : marksOf (x .reached) ≡ times cs = ap (λ (y : Chain). marksOf (y .reached)) walked-so ∙ fun-ext (λ c. g .2 .keeps .marks c ∙ omega arith) in
+            let same : onImage offset (rootMarks (checkTree v)) ≡ onImage offset (marksOnly (andThen (judgeDots v (0 ∷ [])) (λ y. walkDirectory v deepest (slotPages t (nextOf t 0) 0 (e .length - 2)) (λ n. 0) (marksOf (x .reached))))) =
+            ap (λ r. onImage offset (rootMarks r)) (opened ∙ chain-step (followChain v (directoryClusters e) (Link.next 0) (λ c. 0)) cs _ f)
+            ∙ ap (onImage offset) (root-only (judgeDots v cs) (λ y. walkDirectory v deepest (entryPages (Slot.directory e cs)) (λ n. 0) (times cs)) (λ s. record { rootEntry = e; chain = cs; slots = s .0 }))
+            ∙ ap (λ (ps : List ℕ). onImage offset (marksOnly (andThen (judgeDots v cs) (λ y. walkDirectory v deepest ps (λ n. 0) (times cs))))) (d .2)
+            ∙ ap (λ (xs : List ℕ). onImage offset (marksOnly (andThen (judgeDots v xs) (λ y. walkDirectory v deepest (slotPages t (nextOf t 0) 0 (e .length - 2)) (λ n. 0) (times cs))))) (d .1)
+            ∙ ap (λ (s : Marks). onImage offset (marksOnly (andThen (judgeDots v (0 ∷ [])) (λ y. walkDirectory v deepest (slotPages t (nextOf t 0) 0 (e .length - 2)) (λ n. 0) s)))) (sym m) in
+            rw same h
+
+-- the verdict of the whole tree, and its marks
+pub tells-passes : (offset : ℕ) (r : Result (Root × Marks)) (x : Verdict) (q : Reached) → Tells (onImage offset (rootMarks r)) x q → Passes (onImage offset r) x
+tells-passes offset (fault n p) verdict.Sound q h = absurd h
+tells-passes offset (fault n p) (verdict.Refused f) q h = h
+tells-passes offset (ok m) verdict.Sound q h = tt
+tells-passes offset (ok m) (verdict.Refused f) q h = absurd h

@@ -1,0 +1,189 @@
+-- One slot of the model's walk is what the code looks at and then enters.
+use Prim.Native.Nat.{_*_, _+_, _-_, _/_, _<_, _≤_, pred, suc, zero, ℕ}
+use mathlib.Core.Bool.{Bool, _&&_, cond, false, true}
+use mathlib.Core.List.{List, [], _∷_, map}
+use mathlib.Core.Logic.{_⊎_, inl, inr, ⊎-elim}
+use mathlib.Core.Option.{Option, none, some}
+use mathlib.Core.Path.{_∙_, _≡_, ap, ap₂, fun-ext, refl, sym}
+use native.Mathlib.Omega.{arith}
+use lib.Dec.{eqb, leb, leb→le, ltb, lt→ltb}
+use lib.ListN.{length}
+use Rattle.layout.specs.See.{onImage}
+use Rattle.model.proofs.Equality.{and-r, of-T, to-T}
+use Rattle.model.specs.Check.{Deeper, Marks, Result, andThen, dots, fault, followChain, judgeDots, judgeEntry, marks, ok, sound, walkDirectory, walkSlots}
+use Rattle.model.specs.Entry.{Entry, directoryClusters, fileClusters, isDirectory, isFile, isLive, isSubdirectory}
+use Rattle.model.specs.Names.{Name, goodName}
+use Rattle.model.specs.Tree.{Slot, Tree, chainOf, end, entryPages, hitName, nameHit, node, times}
+use Rattle.model.specs.View.{Link, View, firstLink, pagesOf}
+use Rattle.reached.specs.Table.{firstLinkOf, tableLinks}
+use Rattle.tree.specs.declared.Look.{Look}
+use Rattle.tree.specs.declared.Look.the-variants as look
+use Rattle.tree.specs.Slots.{liveHit, nextOf, slotPages}
+use Rattle.tree.specs.Walk.{entered, insideOf, lookedAt, marksOnly, onChain, pickLook}
+use Rattle.tree.proofs.ChainPages.{directory-pages, follow-chain}
+
+pub fault-ok : {A B : Type 0} (n p : ℕ) (a : A) → _≡_ {A = Result A} (fault n p) (ok a) → B
+fault-ok n p a e = absurd (let z : _≡_ {A = ℕ} 0 1 = cc in omega arith)
+
+ok-same : {A : Type 0} (a b : A) → _≡_ {A = Result A} (ok a) (ok b) → a ≡ b
+ok-same a b e = cc
+
+-- what walks the inside of a directory where directories may still go `below` deep
+abbrev pub deeperOf : (v : View) → ℕ → Deeper v
+deeperOf v zero = λ qs n. ok (end, n)
+deeperOf v (suc b) = λ qs n. walkDirectory v b qs (λ x. 0) n
+
+pub walk-is : (v : View) (below : ℕ) (ps : List ℕ) (seen : Name → ℕ) (m : Marks) → walkDirectory v below ps seen m ≡ walkSlots v (deeperOf v below) below ps seen m
+walk-is v zero ps seen m = refl
+walk-is v (suc b) ps seen m = refl
+
+deeper-none : (v : View) (b : ℕ) (m : Marks) → deeperOf v b [] m ≡ ok (end, m)
+deeper-none v zero m = refl
+deeper-none v (suc zero) m = refl
+deeper-none v (suc (suc b)) m = refl
+
+-- what one slot gives: its entry, then a directory's first two entries and its inside
+abbrev pub afterEntry : View → ℕ → Marks → Slot → Result Marks
+afterEntry v b m h = andThen (dots v h) (λ x. andThen (deeperOf v b (entryPages h) (marks m (chainOf h))) (λ s. ok (s .1)))
+
+abbrev pub slotMarks : View → ℕ → (Name → ℕ) → Marks → ℕ → Result Marks
+slotMarks v b seen m p = andThen (judgeEntry v b seen m p (v .entry p)) (λ h. afterEntry v b m h)
+
+-- a slot that was judged bears the name that its live entry has
+hit-live : (v : View) (b : ℕ) (seen : Name → ℕ) (m : Marks) (p : ℕ) (o : Option Entry) (h : Slot) → judgeEntry v b seen m p o ≡ ok h → (n : Name) → nameHit h n ≡ liveHit o n
+hit-live v b seen m p none h e n = fault-ok 2 p h e
+hit-live v b seen m p (some e) h j n = go (isLive e) refl j
+  where
+    named : (f : List ℕ → Slot) → ((cs : List ℕ) → nameHit (f cs) n ≡ hitName (e .name) n) → (o : Option (List ℕ)) → sound o f ≡ ok h → nameHit h n ≡ hitName (e .name) n
+    named f g none y = fault-ok 6 0 h y
+    named f g (some cs) y = ap (λ x. nameHit x n) (sym (ok-same (f cs) h y)) ∙ g cs
+
+    live : (x z : Bool) → cond x (sound (followChain v (fileClusters e) (firstLink e) m) (λ cs. Slot.file e cs (map (v .page) (pagesOf cs))))
+        (cond z (sound (followChain v (directoryClusters e) (firstLink e) m) (λ cs. Slot.directory e cs)) (fault 7 0)) ≡ ok h → nameHit h n ≡ hitName (e .name) n
+    live true z y = named (λ cs. Slot.file e cs (map (v .page) (pagesOf cs))) (λ cs. refl) (followChain v (fileClusters e) (firstLink e) m) y
+    live false true y = named (λ cs. Slot.directory e cs) (λ cs. refl) (followChain v (directoryClusters e) (firstLink e) m) y
+    live false false y = fault-ok 7 0 h y
+
+    go : (l : Bool) → isLive e ≡ l
+        → cond l (cond (isFile e && eqb (seen (e .name)) 0) (sound (followChain v (fileClusters e) (firstLink e) m) (λ cs. Slot.file e cs (map (v .page) (pagesOf cs))))
+        (cond (isSubdirectory e && ltb 0 b && eqb (seen (e .name)) 0) (sound (followChain v (directoryClusters e) (firstLink e) m) (λ cs. Slot.directory e cs)) (fault 7 0))) (ok Slot.dead) ≡ ok h
+        → nameHit h n ≡ cond l (hitName (e .name) n) 0
+    go true i y = live (isFile e && eqb (seen (e .name)) 0) (isSubdirectory e && ltb 0 b && eqb (seen (e .name)) 0) y
+    go false i y = ap (λ x. nameHit x n) (sym (ok-same Slot.dead h y))
+
+pub walk-none : (v : View) (d : Deeper v) (b : ℕ) (seen : Name → ℕ) (m : Marks) → marksOnly (walkSlots v d b [] seen m) ≡ ok m
+walk-none v d b seen m = refl
+
+-- a slot, then the slots after it
+pub walk-step : (v : View) (b p : ℕ) (ps : List ℕ) (seen : Name → ℕ) (m : Marks)
+    → marksOnly (walkSlots v (deeperOf v b) b (p ∷ ps) seen m)
+    ≡ andThen (slotMarks v b seen m p) (λ n. marksOnly (walkSlots v (deeperOf v b) b ps (λ x. seen x + liveHit (v .entry p) x) n))
+unfolding andThen
+walk-step v b p ps seen m = go (judgeEntry v b seen m p (v .entry p)) refl
+  where
+    rest : (h : Slot) (s : Tree) (r : Result (Tree × Marks)) → marksOnly (andThen r (λ t. ok (node h s (t .0), t .1))) ≡ marksOnly r
+    rest h s (fault n q) = refl
+    rest h s (ok t) = refl
+
+    inner : (h : Slot) → judgeEntry v b seen m p (v .entry p) ≡ ok h → (r : Result (Tree × Marks))
+        → marksOnly (andThen r (λ s. andThen (walkSlots v (deeperOf v b) b ps (λ n. seen n + nameHit h n) (s .1)) (λ t. ok (node h (s .0) (t .0), t .1))))
+        ≡ andThen (andThen r (λ s. ok (s .1))) (λ n. marksOnly (walkSlots v (deeperOf v b) b ps (λ x. seen x + liveHit (v .entry p) x) n))
+    inner h e (fault n q) = refl
+    inner h e (ok s) =
+        rest h (s .0) (walkSlots v (deeperOf v b) b ps (λ n. seen n + nameHit h n) (s .1))
+        ∙ ap (λ (f : Name → ℕ). marksOnly (walkSlots v (deeperOf v b) b ps f (s .1))) (fun-ext (λ n. ap (λ x. seen n + x) (hit-live v b seen m p (v .entry p) h e n)))
+
+    dotted : (h : Slot) → judgeEntry v b seen m p (v .entry p) ≡ ok h → (r : Result (Unit {0}))
+        → marksOnly (andThen r (λ x. andThen (deeperOf v b (entryPages h) (marks m (chainOf h))) (λ s. andThen (walkSlots v (deeperOf v b) b ps (λ n. seen n + nameHit h n) (s .1)) (λ t. ok (node h (s .0) (t .0), t .1)))))
+        ≡ andThen (andThen r (λ x. andThen (deeperOf v b (entryPages h) (marks m (chainOf h))) (λ s. ok (s .1)))) (λ n. marksOnly (walkSlots v (deeperOf v b) b ps (λ x. seen x + liveHit (v .entry p) x) n))
+    dotted h e (fault n q) = refl
+    dotted h e (ok x) = inner h e (deeperOf v b (entryPages h) (marks m (chainOf h)))
+
+    go : (r : Result Slot) → judgeEntry v b seen m p (v .entry p) ≡ r
+        → marksOnly (andThen r (λ h. andThen (dots v h) (λ x. andThen (deeperOf v b (entryPages h) (marks m (chainOf h))) (λ s. andThen (walkSlots v (deeperOf v b) b ps (λ n. seen n + nameHit h n) (s .1)) (λ t. ok (node h (s .0) (t .0), t .1))))))
+        ≡ andThen (andThen r (λ h. andThen (dots v h) (λ x. andThen (deeperOf v b (entryPages h) (marks m (chainOf h))) (λ s. ok (s .1))))) (λ n. marksOnly (walkSlots v (deeperOf v b) b ps (λ x. seen x + liveHit (v .entry p) x) n))
+    go (fault n q) e = refl
+    go (ok h) e = dotted h e (dots v h)
+
+-- ---- the slot as the code looks at it
+
+only-step : {A : Type 0} (r : Result A) (f : A → Result (Tree × Marks)) → andThen r (λ x. andThen (f x) (λ s. ok (s .1))) ≡ marksOnly (andThen r f)
+unfolding andThen
+only-step (fault n p) f = refl
+only-step (ok x) f = go (f x)
+  where
+    go : (r : Result (Tree × Marks)) → andThen r (λ s. ok (s .1)) ≡ marksOnly r
+    go (fault n p) = refl
+    go (ok s) = refl
+
+and-false : (x : Bool) → (x && false) ≡ false
+and-false true = refl
+and-false false = refl
+
+marks-none : (m : Marks) → marks m [] ≡ m
+marks-none m = fun-ext (λ c. omega arith)
+
+module _ (v : View) (t : List ℕ) (links : (c : ℕ) → v .link c ≡ tableLinks t c) (off : ℕ) (m : Marks) where
+  -- a directory with a sound chain: its inside
+  into : (b : ℕ) (e : Entry) (cs : List ℕ) → 2 ≤ e .length → followChain v (directoryClusters e) (firstLink e) m ≡ some cs
+      → onImage off (andThen (judgeDots v cs) (λ x. andThen (walkDirectory v b (entryPages (Slot.directory e cs)) (λ n. 0) (marks m cs)) (λ s. ok (s .1))))
+      ≡ onImage off (insideOf v b t (e .firstCluster) (e .length) (marks m cs))
+  unfolding insideOf
+  into b e cs two f =
+      let h = follow-chain v (directoryClusters e) (firstLink e) m cs f in
+      let d = directory-pages v t links (e .firstCluster) cs (h .1) (e .length) two (h .0) in
+      ap (onImage off) (only-step (judgeDots v cs) (λ x. walkDirectory v b (entryPages (Slot.directory e cs)) (λ n. 0) (marks m cs)))
+      ∙ ap (λ (ps : List ℕ). onImage off (marksOnly (andThen (judgeDots v cs) (λ x. walkDirectory v b ps (λ n. 0) (marks m cs))))) (d .2)
+      ∙ ap (λ (xs : List ℕ). onImage off (marksOnly (andThen (judgeDots v xs) (λ x. walkDirectory v b (slotPages t (nextOf t (e .firstCluster)) 0 (e .length - 2)) (λ n. 0) (marks m cs))))) (d .1)
+
+  file-in : (b : ℕ) (e : Entry) (o : Option (List ℕ))
+      → onImage off (andThen (sound o (λ cs. Slot.file e cs (map (v .page) (pagesOf cs)))) (λ h. afterEntry v b m h)) ≡ onChain o (λ cs. ok (marks m cs))
+  unfolding andThen
+  file-in b e none = refl
+  file-in b e (some cs) = ap (λ (r : Result (Tree × Marks)). onImage off (andThen r (λ s. ok (s .1)))) (deeper-none v b (marks m cs))
+
+  dead-in : (b : ℕ) → onImage off (afterEntry v b m Slot.dead) ≡ ok m
+  unfolding andThen
+  dead-in b = ap (λ (r : Result (Tree × Marks)). onImage off (andThen r (λ s. ok (s .1)))) (deeper-none v b (marks m [])) ∙ ap {B = Result Marks} ok (marks-none m)
+
+  directory-in : (b : ℕ) (e : Entry) → 2 ≤ e .length → (o : Option (List ℕ)) → followChain v (directoryClusters e) (firstLink e) m ≡ o
+      → onImage off (andThen (sound o (λ cs. Slot.directory e cs)) (λ h. afterEntry v (suc b) m h)) ≡ onChain o (λ cs. onImage off (insideOf v b t (e .firstCluster) (e .length) (marks m cs)))
+  unfolding andThen
+  directory-in b e two none f = refl
+  directory-in b e two (some cs) f = into b e cs two f
+
+  -- a live entry, by the tests on it
+  live-in : (b : ℕ) (e : Entry) (file sub new : Bool) → isSubdirectory e ≡ sub
+      → onImage off (andThen (cond (file && new) (sound (followChain v (fileClusters e) (firstLink e) m) (λ cs. Slot.file e cs (map (v .page) (pagesOf cs))))
+      (cond (sub && ltb 0 b && new) (sound (followChain v (directoryClusters e) (firstLink e) m) (λ cs. Slot.directory e cs)) (fault 7 0))) (λ h. afterEntry v b m h))
+      ≡ entered v off b t m (pickLook new (pickLook file (look.File (e .length) (e .firstCluster)) (pickLook sub (look.Directory (e .length) (e .firstCluster)) look.Bad)) look.Bad)
+  unfolding andThen
+  live-in b e true sub true s = file-in b e (followChain v (fileClusters e) (firstLink e) m)
+  live-in zero e false true true s = refl
+  live-in (suc b) e false true true s =
+      let d : ltb 0 (suc b) ≡ true = of-T (lt→ltb 0 (suc b) (omega arith)) in
+      rw d (directory-in b e (two s) (followChain v (directoryClusters e) (firstLink e) m) refl)
+    where
+      two : isSubdirectory e ≡ true → 2 ≤ e .length
+      two z = leb→le 2 (e .length) (to-T (and-r (isDirectory e && goodName (e .name)) (leb 2 (e .length)) z))
+  live-in b e false false true s = refl
+  live-in b e true true false s = rw (and-false (ltb 0 b))
+  live-in b e true false false s = refl
+  live-in b e false true false s = rw (and-false (ltb 0 b))
+  live-in b e false false false s = refl
+
+  -- The slot in page p gives what its look leads to.
+  pub enters : (b : ℕ) (seen : Name → ℕ) (p : ℕ) → onImage off (slotMarks v b seen m p) ≡ entered v off b t m (lookedAt seen (2 * off + p) (v .entry p))
+  unfolding andThen
+  enters b seen p = go (v .entry p)
+    where
+      kind : (e : Entry) (l : Bool) → isLive e ≡ l
+          → onImage off (andThen (cond l (cond (isFile e && eqb (seen (e .name)) 0) (sound (followChain v (fileClusters e) (firstLink e) m) (λ cs. Slot.file e cs (map (v .page) (pagesOf cs))))
+          (cond (isSubdirectory e && ltb 0 b && eqb (seen (e .name)) 0) (sound (followChain v (directoryClusters e) (firstLink e) m) (λ cs. Slot.directory e cs)) (fault 7 0))) (ok Slot.dead)) (λ h. afterEntry v b m h))
+          ≡ entered v off b t m (pickLook l (pickLook (eqb (seen (e .name)) 0) (pickLook (isFile e) (look.File (e .length) (e .firstCluster)) (pickLook (isSubdirectory e) (look.Directory (e .length) (e .firstCluster)) look.Bad)) look.Bad) look.Dead)
+      kind e true i = live-in b e (isFile e) (isSubdirectory e) (eqb (seen (e .name)) 0) refl
+      kind e false i = dead-in b
+
+      go : (o : Option Entry) → onImage off (andThen (judgeEntry v b seen m p o) (λ h. afterEntry v b m h)) ≡ entered v off b t m (lookedAt seen (2 * off + p) o)
+      go none = refl
+      go (some e) = kind e (isLive e) refl

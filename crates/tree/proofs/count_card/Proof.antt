@@ -1,0 +1,50 @@
+-- `tree::count_card` meets its contract: the walk's verdict, then each count by its own definition.
+use mathlib.Core.Path.{sym}
+use native.Mathlib.Omega.{arith}
+use lib.ListN.{take}
+use lib.Seq.{length-take-le}
+use Rattle.tree.proofs.CheckLaws.{counted-bad, counted-good}
+use borrow.Author.Needs.{needs}
+use Rattle.tree.proofs.count_card.Statement.{statement}
+use Rattle.tree.proofs.count_card.Tie as tie
+
+slice-aggregate-words : tie.Need-slice-aggregate-words
+slice-aggregate-words c =
+    sym (length-take-le (c .before .before .before .args .end) (c .before .before .before .args .table .now) (c .before .before .before .pre .0))
+
+walk-root-requires : tie.Need-walk-root-requires
+walk-root-requires c κs =
+    omega (arith, length-take-le (c .before .before .before .args .end) (c .before .before .before .args .table .now) (c .before .before .before .pre .0), c .before .before .before .pre .1)
+
+enum-known-verdict : tie.Need-enum-known-verdict
+enum-known-verdict c = search needs
+
+enum-told : tie.Need-enum-told
+enum-told c = search needs
+
+count-free-requires : tie.Need-count-free-requires
+count-free-requires c κs = search needs
+
+count-orphans-requires : tie.Need-count-orphans-requires
+count-orphans-requires c κs = search needs
+
+returns : tie.Need-returns
+returns c =
+    counted-bad (c .before .before .before .before .before .before .before .before .args .clusters) (c .before .before .before .before .before .before .before .before .args .offset) (take (c .before .before .before .before .before .before .before .before .args .end) (c .before .before .before .before .before .before .before .before .args .table .now)) (c .before .before .before .before .before .before .before .before .args .image .now) (c .before .before .before .before .walk-root .result .reached) (c .before .verdict .given .0 .0) (rw (c .before .verdict .given .1) at (c .before .before .before .before .walk-root .ensures))
+
+returns-2 : tie.Need-returns-2
+returns-2 c =
+    counted-good (c .before .before .before .before .before .before .before .before .before .args .clusters) (c .before .before .before .before .before .before .before .before .before .args .offset) (take (c .before .before .before .before .before .before .before .before .before .args .end) (c .before .before .before .before .before .before .before .before .before .args .table .now)) (c .before .before .before .before .before .before .before .before .before .args .image .now) (c .before .before .before .before .before .walk-root .result .reached) (c .before .count-free .result) (c .count-orphans .result) (rw (c .before .before .enum-told .given .1) at (c .before .before .before .before .before .walk-root .ensures)) (c .before .count-free .ensures) (c .count-orphans .ensures)
+
+pub count-card-spec : {M : Type 1} → statement M
+count-card-spec =
+    tie.close
+    (tie.spec
+    slice-aggregate-words
+    walk-root-requires
+    enum-known-verdict
+    enum-told
+    count-free-requires
+    count-orphans-requires
+    returns
+    returns-2)

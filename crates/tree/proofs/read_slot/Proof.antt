@@ -1,0 +1,44 @@
+-- `tree::read_slot` meets its contract: a page of the view is the image's page.
+use mathlib.Core.Bool.{Bool, false}
+use mathlib.Core.List.{List}
+use mathlib.Core.Option.{none}
+use mathlib.Core.Path.{_≡_, refl}
+use Prim.Native.Nat.{_*_, _+_, _/_, _<_, _≤_, ℕ}
+use native.Mathlib.Omega.{arith}
+use borrow.Author.Needs.{needs}
+use borrow.Author.Tests.{le-ltb, lt-ltb}
+use Rattle.layout.specs.See.{pageIn}
+use Rattle.page.specs.Page.{Read, pageAt}
+use Rattle.tree.proofs.read_slot.Statement.{statement}
+use Rattle.tree.proofs.read_slot.Tie as tie
+
+-- a page past the clusters is none, any other the image's
+outside : (offset count : ℕ) (image : List ℕ) (page : ℕ) (out : List ℕ) → count ≤ page / 2 → Read (pageIn offset count image page) out false out
+unfolding pageIn
+outside offset count image page out h = rw (le-ltb page (2 * count) (omega arith)) (record { readable = refl; buffer = refl })
+
+inside : (offset count : ℕ) (image : List ℕ) (page p : ℕ) (out after : List ℕ) (r : Bool) → page / 2 < count → p ≡ 2 * offset + page
+    → Read (pageAt image p) out r after → Read (pageIn offset count image page) out r after
+unfolding pageIn
+inside offset count image page p out after r h e k = rw (lt-ltb page (2 * count) (omega arith), ← e) k
+
+returns : tie.Need-returns
+returns c =
+    outside (c .before .before .args .offset) (c .before .before .args .count) (c .before .before .args .image .now) (c .before .before .args .page) (c .before .before .args .out .now) (c .if1 .taken)
+
+mul-read-page : tie.Need-mul-read-page
+mul-read-page c = search needs
+
+add-read-page : tie.Need-add-read-page
+add-read-page c = search needs
+
+read-page-requires : tie.Need-read-page-requires
+read-page-requires c κs = search needs
+
+returns-2 : tie.Need-returns-2
+returns-2 c =
+    inside (c .before .before .before .before .args .offset) (c .before .before .before .before .args .count) (c .before .before .before .before .args .image .now) (c .before .before .before .before .args .page) (c .before .before .before .before .args .offset * 2 + c .before .before .before .before .args .page) (c .before .before .before .before .args .out .now) (c .read-page .last .1 .1 .0) (c .read-page .result) (omega arith) (omega arith) (c .read-page .ensures)
+
+pub read-slot-spec : {M : Type 1} → statement M
+read-slot-spec =
+    tie.close (tie.spec returns mul-read-page add-read-page read-page-requires returns-2)

@@ -1,0 +1,44 @@
+-- The check of an image (01): refusals 1 to 7 in their order, or free, reached and orphaned, each by its own definition.
+use Prim.Native.Nat.{ℕ, _+_}
+use mathlib.Core.List.{List}
+use mathlib.Core.Path.{_≡_}
+use lib.ListN.{length}
+use Rattle.layout.specs.declared.Superblock.{Superblock}
+use Rattle.layout.specs.Refusal.{numberOf, pageOf}
+use Rattle.layout.specs.See.{checkImage, onImage, see, viewBy}
+use Rattle.model.specs.Check.{Marks, Result, andThen, checkTree, fault, ok}
+use Rattle.model.specs.Counts.{freeCount, orphanCount, reachedCount}
+use Rattle.model.specs.Tree.{Root}
+use Rattle.model.specs.View.{View}
+use Rattle.tree.specs.declared.Checked.{Checked}
+use Rattle.tree.specs.declared.Checked.the-variants as checked
+use Rattle.tree.specs.declared.Counts.{Counts}
+
+-- what the answer of the call says
+abbrev pub toldCounts : Checked → Result Counts
+toldCounts (checked.Card counts) = ok counts
+toldCounts (checked.Refused r) = fault (numberOf r) (pageOf r)
+
+-- N, and the counts over the allocatable clusters
+abbrev pub countsIn : ℕ → ℕ → View → Root → Counts
+countsIn clusters end v root =
+    record { clusters = clusters; free = freeCount end v; reached = reachedCount end root; orphaned = orphanCount end v root }
+
+unfoldable pub checkOf : List ℕ → Result Counts
+checkOf image = andThen (checkImage image) (λ x. ok (countsIn (x .0 .clusters) (x .0 .end) (see (x .0) image) (x .1)))
+
+-- the same of a card that is open, by its table
+unfoldable pub countsBy : ℕ → ℕ → List ℕ → List ℕ → Result Counts
+countsBy clusters offset table image =
+    andThen (onImage offset (checkTree (viewBy offset table image))) (λ x. ok (countsIn clusters (length table) (viewBy offset table image) (x .0)))
+
+-- the superblock of a card that passes the check
+abbrev pub superblockIn : Result (Superblock × Root × Marks) → Result Superblock
+superblockIn (fault n p) = fault n p
+superblockIn (ok x) = ok (x .0)
+
+-- Free, reached and orphaned clusters of an image that passes the check add up to its allocatable ones.
+abbrev pub CountsAddUp : Type 0
+CountsAddUp =
+    (image : List ℕ) (s : Superblock) (c : Counts) → superblockIn (checkImage image) ≡ ok s → checkOf image ≡ ok c
+    → c .free + c .reached + c .orphaned ≡ s .end

@@ -1,0 +1,106 @@
+-- What the walk's functions answer, in terms of the model's check; the tree is left out, only what was reached is told.
+use Prim.Native.Nat.{ℕ, zero, suc, _+_, _-_, _*_, _/_, pred}
+use mathlib.Core.Bool.{Bool, true, false, cond}
+use mathlib.Core.List.{List, [], _∷_}
+use mathlib.Core.Option.{Option, none, some}
+use mathlib.Core.Path.{_≡_}
+use lib.Dec.{eqb, ltb}
+use Rattle.fields.specs.declared.kinds.Kind.{Kind}
+use Rattle.fields.specs.declared.kinds.Kind.the-variants as kind
+use Rattle.layout.specs.Refusal.{numberOf, pageOf}
+use Rattle.layout.specs.See.{onImage}
+use Rattle.model.specs.Check.{Marks, Result, andThen, fault, followChain, judgeDots, marks, ok, walkDirectory}
+use Rattle.model.specs.Entry.{Entry, clustersFor, isFile, isLive, isSubdirectory}
+use Rattle.model.specs.Names.{Name}
+use Rattle.model.specs.Tree.{Root, Tree}
+use Rattle.model.specs.View.{View}
+use Rattle.reached.specs.declared.Reached.{Reached}
+use Rattle.reached.specs.Table.{firstLinkOf}
+use Rattle.reached.specs.Marks.{Keeps}
+use Rattle.tree.specs.declared.Look.{Look}
+use Rattle.tree.specs.declared.Look.the-variants as look
+use Rattle.tree.specs.declared.Verdict.{Verdict}
+use Rattle.tree.specs.declared.Verdict.the-variants as verdict
+use Rattle.tree.specs.declared.Walked.{Walked}
+use Rattle.tree.specs.Slots.{nextOf, slotPages}
+
+-- what was reached, the tree left out
+abbrev pub marksOnly : Result (Tree × Marks) → Result Marks
+marksOnly (fault n p) = fault n p
+marksOnly (ok x) = ok (x .1)
+
+abbrev pub rootMarks : Result (Root × Marks) → Result Marks
+rootMarks (fault n p) = fault n p
+rootMarks (ok x) = ok (x .1)
+
+-- ---- a slot before its chain
+
+abbrev pub pickLook : Bool → Look → Look → Look
+pickLook true a b = a
+pickLook false a b = b
+
+-- Page (2), entry rules with the name's (7); what the chain then needs. `seen` counts the live names before it.
+abbrev pub lookedAt : (Name → ℕ) → ℕ → Option Entry → Look
+lookedAt seen page none = look.Unreadable page
+lookedAt seen page (some e) =
+    pickLook (isLive e)
+    (pickLook (eqb (seen (e .name)) 0)
+    (pickLook (isFile e) (look.File (e .length) (e .firstCluster))
+    (pickLook (isSubdirectory e) (look.Directory (e .length) (e .firstCluster)) look.Bad))
+    look.Bad)
+    look.Dead
+
+-- the look by what the entry's page is; a name that stands before it makes it bad
+abbrev pub lookBy : Kind → Look
+lookBy kind.Dead = look.Dead
+lookBy kind.Bad = look.Bad
+lookBy (kind.File length first) = look.File length first
+lookBy (kind.Directory length first) = look.Directory length first
+
+-- ---- what a slot leads to
+
+-- a chain that is not sound is 6
+abbrev pub onChain : Option (List ℕ) → (List ℕ → Result Marks) → Result Marks
+onChain none rest = fault 6 0
+onChain (some cs) rest = rest cs
+
+-- The inside of a directory whose sound chain begins with cluster `first`: its first two entries, then its slots.
+unfoldable pub insideOf : View → ℕ → List ℕ → ℕ → ℕ → Marks → Result Marks
+insideOf v below table first length m =
+    marksOnly (andThen (judgeDots v (first ∷ [])) (λ x. walkDirectory v below (slotPages table (nextOf table first) 0 (length - 2)) (λ n. 0) m))
+
+abbrev pub entered : View → ℕ → ℕ → List ℕ → Marks → Look → Result Marks
+entered v offset below table m (look.Unreadable page) = fault 2 page
+entered v offset below table m look.Bad = fault 7 0
+entered v offset below table m look.Dead = ok m
+entered v offset below table m (look.File length first) = onChain (followChain v (clustersFor length) (firstLinkOf first) m) (λ cs. ok (marks m cs))
+entered v offset below table m (look.Directory length first) =
+    cond (ltb 0 below)
+    (onChain (followChain v ((length + 1) / 2) (firstLinkOf first) m) (λ cs. onImage offset (insideOf v (pred below) table first length (marks m cs))))
+    (fault 7 0)
+
+-- ---- what the code's answer says
+
+abbrev pub isSound : Verdict → Bool
+isSound verdict.Sound = true
+isSound (verdict.Refused f) = false
+
+-- a verdict with no record: of the first two entries
+abbrev pub Judges : Result (Unit {0}) → Verdict → Type 0
+Judges (fault n p) verdict.Sound = ⊥
+Judges (fault n p) (verdict.Refused f) = (numberOf f ≡ n) × (pageOf f ≡ p)
+Judges (ok x) verdict.Sound = Unit {0}
+Judges (ok x) (verdict.Refused f) = ⊥
+
+abbrev pub Tells : Result Marks → Verdict → Reached → Type 0
+Tells (fault n p) verdict.Sound r = ⊥
+Tells (fault n p) (verdict.Refused f) r = (numberOf f ≡ n) × (pageOf f ≡ p)
+Tells (ok m) verdict.Sound r = Keeps r m
+Tells (ok m) (verdict.Refused f) r = ⊥
+
+-- the verdict alone, of the whole tree
+abbrev pub Passes : Result (Root × Marks) → Verdict → Type 0
+Passes (fault n p) verdict.Sound = ⊥
+Passes (fault n p) (verdict.Refused f) = (numberOf f ≡ n) × (pageOf f ≡ p)
+Passes (ok x) verdict.Sound = Unit {0}
+Passes (ok x) (verdict.Refused f) = ⊥
