@@ -26,8 +26,8 @@ use Rattle.reached.specs.Totals.{freeIn, orphansIn}
 use Rattle.reached.specs.declared.Reached.{Reached}
 use Rattle.tree.specs.Counted.{checkOf, countsBy, countsIn, superblockIn}
 use Rattle.tree.specs.declared.Counts.{Counts}
-use Rattle.tree.specs.declared.Verdict.{Verdict}
-use Rattle.tree.specs.declared.Verdict.the-variants as verdict
+use Rattle.tree.specs.declared.walk.Verdict.{Verdict}
+use Rattle.tree.specs.declared.walk.Verdict.the-variants as verdict
 use Rattle.tree.specs.Walk.{Passes, Tells, rootMarks}
 
 module _ (clusters offset : ℕ) (t image : List ℕ) (q : Reached) where

@@ -16,8 +16,8 @@ use Rattle.model.specs.Names.{Name, sameName}
 use Rattle.model.specs.Pages.{decoded}
 use Rattle.model.specs.View.{View}
 use Rattle.page.specs.Page.{Read, isSome, orKept}
-use Rattle.tree.specs.declared.Look.{Look}
-use Rattle.tree.specs.declared.Look.the-variants as look
+use Rattle.tree.specs.declared.walk.Look.{Look}
+use Rattle.tree.specs.declared.walk.Look.the-variants as look
 use Rattle.tree.specs.Filter.{Knows, hashOf, held, hold}
 use Rattle.tree.specs.Slots.{clusterAt, liveBefore, liveHit, nextOf, slotPage, stepOf}
 use Rattle.tree.specs.Walk.{lookBy, lookedAt, pickLook}

@@ -16,8 +16,8 @@ use Rattle.model.specs.Names.{Name, goodName}
 use Rattle.model.specs.Tree.{Slot, Tree, chainOf, end, entryPages, hitName, nameHit, node, times}
 use Rattle.model.specs.View.{Link, View, firstLink, pagesOf}
 use Rattle.reached.specs.Table.{firstLinkOf, tableLinks}
-use Rattle.tree.specs.declared.Look.{Look}
-use Rattle.tree.specs.declared.Look.the-variants as look
+use Rattle.tree.specs.declared.walk.Look.{Look}
+use Rattle.tree.specs.declared.walk.Look.the-variants as look
 use Rattle.tree.specs.Slots.{liveHit, nextOf, slotPages}
 use Rattle.tree.specs.Walk.{entered, insideOf, lookedAt, marksOnly, onChain, pickLook}
 use Rattle.tree.proofs.ChainPages.{directory-pages, follow-chain}

@@ -17,11 +17,11 @@ use Rattle.model.specs.View.{View}
 use Rattle.reached.specs.declared.Reached.{Reached}
 use Rattle.reached.specs.Table.{firstLinkOf}
 use Rattle.reached.specs.Marks.{Keeps}
-use Rattle.tree.specs.declared.Look.{Look}
-use Rattle.tree.specs.declared.Look.the-variants as look
-use Rattle.tree.specs.declared.Verdict.{Verdict}
-use Rattle.tree.specs.declared.Verdict.the-variants as verdict
-use Rattle.tree.specs.declared.Walked.{Walked}
+use Rattle.tree.specs.declared.walk.Look.{Look}
+use Rattle.tree.specs.declared.walk.Look.the-variants as look
+use Rattle.tree.specs.declared.walk.Verdict.{Verdict}
+use Rattle.tree.specs.declared.walk.Verdict.the-variants as verdict
+use Rattle.tree.specs.declared.walk.Walked.{Walked}
 use Rattle.tree.specs.Slots.{nextOf, slotPages}
 
 -- what was reached, the tree left out

@@ -17,20 +17,20 @@ use Rattle.tree.proofs.TellLaws.{directory-bad, directory-deep, directo
 use Prim.Native.Nat.{_%_, _*_, _+_, _-_, _/_, _<_, _^_, ℕ}
 use borrow.Fn.Kinds.{In}
 use borrow.Fn.PlainCycle.{Measures, is, falls, and}
-use Rattle.tree.proofs.walk_dir.Reads as walk-dir
-use Rattle.tree.proofs.walk_dir.Kinds as walk-dir-kinds
-use Rattle.tree.proofs.+walk_dir+walk_entry.Lts-walk_dir as walk-dir-lts
-use Rattle.tree.proofs.walk_entry.Reads as walk-entry
-use Rattle.tree.proofs.walk_entry.Kinds as walk-entry-kinds
-use Rattle.tree.proofs.+walk_dir+walk_entry.Lts-walk_entry as walk-entry-lts
+use Rattle.tree.proofs.walk.walk_dir.Reads as walk-dir
+use Rattle.tree.proofs.walk.walk_dir.Kinds as walk-dir-kinds
+use Rattle.tree.proofs.walk.+walk_dir+walk_entry.Lts-walk_dir as walk-dir-lts
+use Rattle.tree.proofs.walk.walk_entry.Reads as walk-entry
+use Rattle.tree.proofs.walk.walk_entry.Kinds as walk-entry-kinds
+use Rattle.tree.proofs.walk.+walk_dir+walk_entry.Lts-walk_entry as walk-entry-lts
 use Rattle.reached.proofs.walk_chain.Reads as walk-chain-reads
-use Rattle.tree.proofs.is_sound.Reads as is-sound-reads
-use Rattle.tree.proofs.judge_dots.Reads as judge-dots-reads
-use Rattle.tree.proofs.look_at.Reads as look-at-reads
-use Rattle.tree.proofs.next_of.Reads as next-of-reads
-use Rattle.tree.proofs.slots_of.Reads as slots-of-reads
-use Rattle.tree.proofs.+walk_dir+walk_entry.{statement}
-use Rattle.tree.proofs.+walk_dir+walk_entry.Tie.{close}
+use Rattle.tree.proofs.walk.is_sound.Reads as is-sound-reads
+use Rattle.tree.proofs.walk.judge_dots.Reads as judge-dots-reads
+use Rattle.tree.proofs.walk.look_at.Reads as look-at-reads
+use Rattle.tree.proofs.slots.next_of.Reads as next-of-reads
+use Rattle.tree.proofs.slots.slots_of.Reads as slots-of-reads
+use Rattle.tree.proofs.walk.+walk_dir+walk_entry.{statement}
+use Rattle.tree.proofs.walk.+walk_dir+walk_entry.Tie.{close}
 
 abbrev μ-walk-dir : Measures 2 walk-dir-kinds.ps ℕ
 μ-walk-dir κs a = a .1 .1 .1 .1 .1 .1 .0 * 2 ^ 33 + a .1 .1 .1 .1 .1 .0 + 1

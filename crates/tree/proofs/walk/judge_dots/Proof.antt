@@ -1,4 +1,4 @@
--- `tree::judge_dots` meets its contract: `.` before `..`.
+-- `tree::walk::judge_dots` meets its contract: `.` before `..`.
 use Prim.Native.Nat.{_*_, _+_}
 use mathlib.Core.Path.{_∙_, _≡_, sym}
 use native.Mathlib.Omega.{arith}
@@ -8,8 +8,8 @@ use Rattle.model.specs.Check.{judgeDot}
 use Rattle.model.specs.Names.{dotDotName, dotName}
 use Rattle.tree.proofs.TellLaws.{dots-go, dots-stop}
 use borrow.Author.Needs.{needs}
-use Rattle.tree.proofs.judge_dots.Statement.{statement}
-use Rattle.tree.proofs.judge_dots.Tie as tie
+use Rattle.tree.proofs.walk.judge_dots.Statement.{statement}
+use Rattle.tree.proofs.walk.judge_dots.Tie as tie
 
 mul-page : tie.Need-mul-page
 mul-page c = search needs

@@ -1,4 +1,4 @@
--- `tree::read_slot` meets its contract: a page of the view is the image's page.
+-- `tree::slots::read_slot` meets its contract: a page of the view is the image's page.
 use mathlib.Core.Bool.{Bool, false}
 use mathlib.Core.List.{List}
 use mathlib.Core.Option.{none}
@@ -9,8 +9,8 @@ use borrow.Author.Needs.{needs}
 use borrow.Author.Tests.{le-ltb, lt-ltb}
 use Rattle.layout.specs.See.{pageIn}
 use Rattle.page.specs.Page.{Read, pageAt}
-use Rattle.tree.proofs.read_slot.Statement.{statement}
-use Rattle.tree.proofs.read_slot.Tie as tie
+use Rattle.tree.proofs.slots.read_slot.Statement.{statement}
+use Rattle.tree.proofs.slots.read_slot.Tie as tie
 
 -- a page past the clusters is none, any other the image's
 outside : (offset count : ℕ) (image : List ℕ) (page : ℕ) (out : List ℕ) → count ≤ page / 2 → Read (pageIn offset count image page) out false out

@@ -1,9 +1,9 @@
--- `tree::next_of` meets its contract.
+-- `tree::slots::next_of` meets its contract.
 use Prim.Native.Nat.{ℕ}
 use borrow.Author.Needs.{needs}
 use lib.ListN.{List·getD-eq-default}
-use Rattle.tree.proofs.next_of.Statement.{statement}
-use Rattle.tree.proofs.next_of.Tie as tie
+use Rattle.tree.proofs.slots.next_of.Statement.{statement}
+use Rattle.tree.proofs.slots.next_of.Tie as tie
 
 returns : tie.Need-returns
 returns c = rw (List·getD-eq-default {A = ℕ} _ 0 (c .if1 .taken))

@@ -1,9 +1,9 @@
--- `tree::named_at` meets its contract.
+-- `tree::slots::named_at` meets its contract.
 use borrow.Author.Tests.{not-false, not-true}
 use Rattle.tree.proofs.LookLaws.{named-live, unread}
 use borrow.Author.Needs.{needs}
-use Rattle.tree.proofs.named_at.Statement.{statement}
-use Rattle.tree.proofs.named_at.Tie as tie
+use Rattle.tree.proofs.slots.named_at.Statement.{statement}
+use Rattle.tree.proofs.slots.named_at.Tie as tie
 
 read-slot-requires : tie.Need-read-slot-requires
 read-slot-requires c κs = search needs

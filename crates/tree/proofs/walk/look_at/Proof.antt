@@ -1,4 +1,4 @@
--- `tree::look_at` meets its contract: a name that the filter does not hold is new, another is compared.
+-- `tree::walk::look_at` meets its contract: a name that the filter does not hold is new, another is compared.
 use mathlib.Core.Path.{_∙_, ap, sym}
 use native.Mathlib.Omega.{arith}
 use borrow.Author.Tests.{not-false, not-true}
@@ -6,8 +6,8 @@ use Rattle.tree.specs.Filter.{hashOf, held, hold}
 use Rattle.tree.specs.Walk.{lookBy}
 use Rattle.tree.proofs.LookLaws.{look-dead, look-free, look-met, look-taken, look-unread, unread, was-read}
 use borrow.Author.Needs.{needs}
-use Rattle.tree.proofs.look_at.Statement.{statement}
-use Rattle.tree.proofs.look_at.Tie as tie
+use Rattle.tree.proofs.walk.look_at.Statement.{statement}
+use Rattle.tree.proofs.walk.look_at.Tie as tie
 
 slot-page-requires : tie.Need-slot-page-requires
 slot-page-requires c κs = search needs

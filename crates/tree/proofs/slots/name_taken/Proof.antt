@@ -1,4 +1,4 @@
--- `tree::name_taken` meets its contract: the live names before the slot, one after the other.
+-- `tree::slots::name_taken` meets its contract: the live names before the slot, one after the other.
 use mathlib.Core.Logic.{⊎-elim}
 use mathlib.Core.Path.{_∙_, _≡_, sym}
 use Prim.Native.Nat.{_-_, _<_, _≤_, _^_}
@@ -8,8 +8,8 @@ use Rattle.layout.specs.See.{viewBy}
 use Rattle.model.specs.Entry.{entryOf}
 use Rattle.tree.specs.Slots.{clusterAt, liveBefore, stepOf}
 use Rattle.tree.proofs.LookLaws.{before-none, cluster-start, cluster-step, step-even, step-odd, taken-here, taken-later}
-use Rattle.tree.proofs.name_taken.Statement.{statement}
-use Rattle.tree.proofs.name_taken.Tie as tie
+use Rattle.tree.proofs.slots.name_taken.Statement.{statement}
+use Rattle.tree.proofs.slots.name_taken.Tie as tie
 
 abbrev Inv-loop : tie.InvT-loop
 Inv-loop image table offset start k d c₀ j₀ c j =

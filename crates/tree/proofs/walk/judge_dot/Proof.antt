@@ -1,12 +1,12 @@
--- `tree::judge_dot` meets its contract: page, then the entry's rule.
+-- `tree::walk::judge_dot` meets its contract: page, then the entry's rule.
 use Rattle.layout.specs.See.{viewBy}
 use native.Mathlib.Omega.{arith}
 use borrow.Author.Tests.{not-false, not-true}
 use Rattle.tree.proofs.LookLaws.{unread, was-read}
 use Rattle.tree.proofs.TellLaws.{dot-bad, dot-good, dot-unread}
 use borrow.Author.Needs.{needs}
-use Rattle.tree.proofs.judge_dot.Statement.{statement}
-use Rattle.tree.proofs.judge_dot.Tie as tie
+use Rattle.tree.proofs.walk.judge_dot.Statement.{statement}
+use Rattle.tree.proofs.walk.judge_dot.Tie as tie
 
 read-slot-requires : tie.Need-read-slot-requires
 read-slot-requires c κs = search needs

@@ -1,4 +1,4 @@
--- `tree::walk_root` meets its contract: the root's first entry, its chain, its inside.
+-- `tree::walk::walk_root` meets its contract: the root's first entry, its chain, its inside.
 use mathlib.Core.Path.{_∙_, refl, sym}
 use Prim.Native.Nat.{_%_, _*_, _+_, _/_}
 use native.Mathlib.Omega.{arith}
@@ -7,8 +7,8 @@ use Rattle.layout.specs.See.{viewBy}
 use Rattle.tree.proofs.LookLaws.{unread, was-read}
 use Rattle.tree.proofs.RootLaws.{root-bad, root-broken, root-good, root-sound, root-unread}
 use borrow.Author.Needs.{needs}
-use Rattle.tree.proofs.walk_root.Statement.{statement}
-use Rattle.tree.proofs.walk_root.Tie as tie
+use Rattle.tree.proofs.walk.walk_root.Statement.{statement}
+use Rattle.tree.proofs.walk.walk_root.Tie as tie
 
 read-slot-requires : tie.Need-read-slot-requires
 read-slot-requires c κs = search needs

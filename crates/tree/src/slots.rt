@@ -1,0 +1,92 @@
+// The slots of a directory: their pages, and the live names in them.
+use fields::kinds::is_live;
+use fields::names::same_entry_name;
+use page::read_page;
+ghost use mathlib.Core.Path.{_≡_};
+ghost use Prim.Native.Nat.{_+_, _-_, _*_, _<_};
+ghost use lib.ListN.{length};
+ghost use lib.Dec.{ltb};
+ghost use Rattle.layout.specs.See.{pageIn, viewBy};
+ghost use Rattle.model.specs.Entry.{entryOf};
+ghost use Rattle.page.specs.Page.{Read};
+ghost use Rattle.tree.specs.Slots.{liveBefore, liveHit, nextOf, slotPage};
+
+// The cluster after c in its chain.
+pub fn next_of(table: &[u32], c: u32) -> u32
+    ensures { λ r. ⌜ r ≡ nextOf (now (table .entry)) c ⌝ }
+{
+    let i = c as usize;
+    if table.len() <= i {
+        return 0;
+    }
+    let w = table[i];
+    if w < 0x8000_0000 {
+        return 0;
+    }
+    w - 0x8000_0000
+}
+
+// The page of slot k, which lies in cluster c.
+pub fn slot_page(c: u32, k: u32) -> usize
+    ensures { λ r. ⌜ (r ≡ slotPage c k) × (r < 8589934592) ⌝ }
+{
+    c as usize * 2 + (k % 2) as usize
+}
+
+// How many slots a directory of that many entries has from 2 on.
+pub fn slots_of(length: u32) -> u32
+    ensures { λ r. ⌜ r ≡ length - 2 ⌝ }
+{
+    if length < 2 {
+        return 0;
+    }
+    length - 2
+}
+
+// A page of the allocatable clusters, `count` of them from cluster `offset` of the image on.
+pub fn read_slot(image: &[u8], offset: u32, count: usize, page: usize, out: &mut [u8; 512]) -> bool
+    requires { ⌜ page < 8589934592 ⌝ }
+    ensures { λ r. ⌜ Read (pageIn offset count (now (image .entry)) page) (now (out .entry)) r (now (out .exit)) ⌝ }
+{
+    if count <= page / 2 {
+        return false;
+    }
+    read_page(image, offset as usize * 2 + page, out)
+}
+
+// Whether a live entry with the name of the entry d stands in the page.
+fn named_at(image: &[u8], table: &[u32], offset: u32, page: usize, d: &[u8; 512]) -> bool
+    requires { ⌜ page < 8589934592 ⌝ }
+    ensures { λ r. ⌜ r ≡ ltb 0 (liveHit ((viewBy offset (now (table .entry)) (now (image .entry))) .entry page) ((entryOf (now (d .entry))) .name)) ⌝ }
+{
+    let mut e = [0u8; 512];
+    if !read_slot(image, offset, table.len(), page, &mut e) {
+        return false;
+    }
+    is_live(&e) & same_entry_name(&e, d)
+}
+
+// Whether a live entry before slot k has the name of the entry d; the slots begin in cluster `start`.
+pub fn name_taken(
+    image: &[u8],
+    table: &[u32],
+    offset: u32,
+    start: u32,
+    k: u32,
+    d: &[u8; 512],
+) -> bool
+    ensures { λ r. ⌜ r ≡ ltb 0 (liveBefore (viewBy offset (now (table .entry)) (now (image .entry))) (now (table .entry)) start k ((entryOf (now (d .entry))) .name)) ⌝ }
+{
+    let mut c = start;
+    let mut j: u32 = 0;
+    while j < k {
+        if named_at(image, table, offset, slot_page(c, j), d) {
+            return true;
+        }
+        if j % 2 == 1 {
+            c = next_of(table, c);
+        }
+        j += 1;
+    }
+    false
+}

@@ -1,0 +1,268 @@
+// The walk of the directory tree, depth first (01, "Directories"): the first fault met, or the clusters reached.
+use crate::filter::meet;
+use crate::slots::name_taken;
+use crate::slots::next_of;
+use crate::slots::read_slot;
+use crate::slots::slot_page;
+use crate::slots::slots_of;
+use fields::kinds::Kind;
+use fields::kinds::is_directory;
+use fields::kinds::is_live;
+use fields::kinds::is_root;
+use fields::kinds::kind_of;
+use fields::names::entry_name;
+use fields::names::is_named;
+use fields::numbers::word_at;
+use layout::Refusal;
+use reached::Reached;
+use reached::walk_chain;
+ghost use mathlib.Core.Path.{_≡_};
+ghost use Prim.Native.Nat.{_+_, _-_, _*_, _<_, _≤_};
+ghost use lib.ListN.{length};
+ghost use Rattle.layout.specs.See.{onImage, viewBy};
+ghost use mathlib.Core.List.{_∷_, []};
+ghost use Rattle.model.specs.Check.{checkTree, judgeDot, judgeDots};
+ghost use Rattle.reached.specs.Marks.{Sound, marksOf};
+ghost use Rattle.tree.specs.Filter.{Knows};
+ghost use Rattle.tree.specs.Slots.{clusterAt, liveBefore, slotPage};
+ghost use Rattle.tree.specs.Walk.{Judges, Tells, entered, insideOf, isSound, lookBy, lookedAt, rootMarks};
+
+// How a part of the tree is judged.
+pub enum Verdict {
+    Sound,
+    Refused(Refusal),
+}
+
+// A verdict with the record of the clusters reached so far.
+pub struct Walked {
+    pub verdict: Verdict,
+    pub reached: Reached,
+}
+
+// What stands in a slot, judged before its chain: page, entry rules, unique name.
+pub enum Look {
+    Unreadable(usize),
+    Bad,
+    Dead,
+    File { length: u32, first: u32 },
+    Directory { length: u32, first: u32 },
+}
+
+fn is_sound(verdict: Verdict) -> bool
+    ensures { λ r. ⌜ r ≡ isSound verdict ⌝ }
+{
+    match verdict {
+        Verdict::Sound => true,
+        Verdict::Refused(_) => false,
+    }
+}
+
+fn look_by(kind: Kind) -> Look
+    ensures { λ r. ⌜ r ≡ lookBy kind ⌝ }
+{
+    match kind {
+        Kind::Dead => Look::Dead,
+        Kind::Bad => Look::Bad,
+        Kind::File { length, first } => Look::File { length, first },
+        Kind::Directory { length, first } => Look::Directory { length, first },
+    }
+}
+
+// Slot k, in cluster c, of the directory whose slots begin in `start`. `bits` has the live names before it, and then its own.
+fn look_at(
+    image: &[u8],
+    table: &[u32],
+    offset: u32,
+    start: u32,
+    c: u32,
+    k: u32,
+    bits: &mut [u64; 4096],
+) -> Look
+    requires { ⌜ (c ≡ clusterAt (now table) start k) × Knows (viewBy offset (now table) (now image)) (now table) start k (now bits) ⌝ }
+    ensures { λ r. ⌜ r ≡ lookedAt (liveBefore (viewBy offset (now (table .entry)) (now (image .entry))) (now (table .entry)) start k) (2 * offset + slotPage c k) ((viewBy offset (now (table .entry)) (now (image .entry))) .entry (slotPage c k)) ⌝ }
+    ensures { λ r. ⌜ Knows (viewBy offset (now (table .entry)) (now (image .entry))) (now (table .entry)) start (k + 1) (now (bits .exit)) ⌝ }
+{
+    let page = slot_page(c, k);
+    let mut d = [0u8; 512];
+    if !read_slot(image, offset, table.len(), page, &mut d) {
+        return Look::Unreadable(offset as usize * 2 + page);
+    }
+    if !is_live(&d) {
+        return Look::Dead;
+    }
+    if !meet(bits, entry_name(&d)) {
+        return look_by(kind_of(&d));
+    }
+    if name_taken(image, table, offset, start, k, &d) {
+        return Look::Bad;
+    }
+    look_by(kind_of(&d))
+}
+
+// One of a directory's first two entries.
+fn judge_dot(image: &[u8], table: &[u32], offset: u32, page: usize, name: &[u8]) -> Verdict
+    requires { ⌜ page < 8589934592 ⌝ }
+    ensures { λ r. ⌜ Judges (onImage offset (judgeDot (viewBy offset (now (table .entry)) (now (image .entry))) (now (name .entry)) page ((viewBy offset (now (table .entry)) (now (image .entry))) .entry page))) r ⌝ }
+{
+    let mut d = [0u8; 512];
+    if !read_slot(image, offset, table.len(), page, &mut d) {
+        return Verdict::Refused(Refusal::UnreadablePage(offset as usize * 2 + page));
+    }
+    if is_directory(&d) & is_named(&d, name) {
+        return Verdict::Sound;
+    }
+    Verdict::Refused(Refusal::BadEntry)
+}
+
+fn judge_dots(image: &[u8], table: &[u32], offset: u32, first: u32) -> Verdict
+    ensures { λ r. ⌜ Judges (onImage offset (judgeDots (viewBy offset (now (table .entry)) (now (image .entry))) (first ∷ []))) r ⌝ }
+{
+    let page = first as usize * 2;
+    let a = judge_dot(image, table, offset, page, b".");
+    if !is_sound(a) {
+        return a;
+    }
+    judge_dot(image, table, offset, page + 1, b"..")
+}
+
+// What a slot leads to, with `left` slots from it on; directories may lie `below` further down.
+fn walk_entry(
+    image: &[u8],
+    table: &[u32],
+    offset: u32,
+    reached: Reached,
+    look: Look,
+    left: u32,
+    below: u32,
+) -> Walked
+    requires { ⌜ (length (now table) ≤ 8192) × Sound reached ⌝ }
+    ensures { λ r. ⌜ Tells (entered (viewBy offset (now (table .entry)) (now (image .entry))) offset below (now (table .entry)) (marksOf reached) look) (r .verdict) (r .reached) ⌝ }
+{
+    match look {
+        Look::Unreadable(page) => Walked {
+            verdict: Verdict::Refused(Refusal::UnreadablePage(page)),
+            reached: reached,
+        },
+        Look::Bad => Walked {
+            verdict: Verdict::Refused(Refusal::BadEntry),
+            reached: reached,
+        },
+        Look::Dead => Walked {
+            verdict: Verdict::Sound,
+            reached: reached,
+        },
+        Look::File { length, first } => {
+            let a = walk_chain(
+                table,
+                reached,
+                first,
+                length / 1024 + (length % 1024 + 1023) / 1024,
+            );
+            let r = a.reached;
+            if a.sound {
+                return Walked {
+                    verdict: Verdict::Sound,
+                    reached: r,
+                };
+            }
+            Walked {
+                verdict: Verdict::Refused(Refusal::BadChain),
+                reached: r,
+            }
+        }
+        Look::Directory { length, first } => {
+            if below == 0 {
+                return Walked {
+                    verdict: Verdict::Refused(Refusal::BadEntry),
+                    reached: reached,
+                };
+            }
+            let a = walk_chain(table, reached, first, length / 2 + length % 2);
+            let r = a.reached;
+            if a.sound {
+                return walk_dir(image, table, offset, r, first, length, below - 1);
+            }
+            Walked {
+                verdict: Verdict::Refused(Refusal::BadChain),
+                reached: r,
+            }
+        }
+    }
+}
+
+// The inside of a directory of that many entries whose sound chain begins with cluster `first`.
+fn walk_dir(
+    image: &[u8],
+    table: &[u32],
+    offset: u32,
+    reached: Reached,
+    first: u32,
+    entries: u32,
+    below: u32,
+) -> Walked
+    requires { ⌜ (length (now table) ≤ 8192) × Sound reached ⌝ }
+    ensures { λ r. ⌜ Tells (onImage offset (insideOf (viewBy offset (now (table .entry)) (now (image .entry))) below (now (table .entry)) first entries (marksOf reached))) (r .verdict) (r .reached) ⌝ }
+{
+    let dots = judge_dots(image, table, offset, first);
+    if !is_sound(dots) {
+        return Walked {
+            verdict: dots,
+            reached: reached,
+        };
+    }
+    let start = next_of(table, first);
+    let mut bits = [0u64; 4096];
+    let mut r = reached;
+    let mut c = start;
+    let mut k: u32 = 0;
+    let mut left = slots_of(entries);
+    while 0 < left {
+        let e = look_at(image, table, offset, start, c, k, &mut bits);
+        let a = walk_entry(image, table, offset, r, e, left, below);
+        let v = a.verdict;
+        if !is_sound(v) {
+            return a;
+        }
+        let q = a.reached;
+        r = q;
+        if k % 2 == 1 {
+            c = next_of(table, c);
+        }
+        k = k + 1;
+        left = left - 1;
+    }
+    Walked {
+        verdict: Verdict::Sound,
+        reached: r,
+    }
+}
+
+// The whole tree: the root's first entry, its chain, its entries.
+pub fn walk_root(image: &[u8], table: &[u32], offset: u32) -> Walked
+    requires { ⌜ length (now table) ≤ 8192 ⌝ }
+    ensures { λ r. ⌜ Tells (onImage offset (rootMarks (checkTree (viewBy offset (now (table .entry)) (now (image .entry)))))) (r .verdict) (r .reached) ⌝ }
+{
+    let mut d = [0u8; 512];
+    if !read_slot(image, offset, table.len(), 0, &mut d) {
+        return Walked {
+            verdict: Verdict::Refused(Refusal::UnreadablePage(offset as usize * 2)),
+            reached: Reached::new(),
+        };
+    }
+    if !is_root(&d) {
+        return Walked {
+            verdict: Verdict::Refused(Refusal::BadEntry),
+            reached: Reached::new(),
+        };
+    }
+    let n = word_at(&d, 4);
+    let a = walk_chain(table, Reached::new(), 0, n / 2 + n % 2);
+    let r = a.reached;
+    if !a.sound {
+        return Walked {
+            verdict: Verdict::Refused(Refusal::BadChain),
+            reached: r,
+        };
+    }
+    walk_dir(image, table, offset, r, 0, n, 3)
+}
