@@ -1,13 +1,11 @@
 // A path as bytes: `/`, or one to four names each after `/`.
 use crate::names::is_good_name;
+use model::MOST_NAMES;
 ghost use mathlib.Core.Path.{_≡_};
 ghost use mathlib.Core.List.{[]};
 ghost use Prim.Native.Nat.{_+_, _≤_};
 ghost use lib.ListN.{length, drop, getD};
 ghost use Rattle.fields.specs.PathBytes.{splitNames, pathOf, parsedOf, nameAt};
-
-// The most names of a path: one more than directories may lie below the root.
-const MOST_NAMES: usize = 4;
 
 // How many names a path has; `/` has none.
 pub enum Parsed {

@@ -2,6 +2,7 @@
 pub mod page0;
 mod table;
 
+use model::MOST_CLUSTERS;
 use page::read_page;
 use page0::good_length;
 use page0::good_superblock;
@@ -11,9 +12,6 @@ use table::judge_table;
 use table::load_table;
 ghost use mathlib.Core.Path.{_≡_};
 ghost use Rattle.layout.specs.Table.{openCard, told, tableAfter};
-
-// The largest N, and so the most words that a table has.
-pub const MOST_CLUSTERS: usize = 8192;
 
 // Why a call is refused: a case for each row of the paper's table.
 pub enum Refusal {

@@ -1,8 +1,8 @@
 // Page 0 of a card: the format text, the version, the fixed numbers and the superblock's numbers.
-use crate::MOST_CLUSTERS;
 use crate::Superblock;
 use fields::numbers::half_at;
 use fields::numbers::word_at;
+use model::MOST_CLUSTERS;
 ghost use mathlib.Core.Path.{_≡_};
 ghost use Prim.Native.Nat.{_+_, _≤_};
 ghost use lib.ListN.{length};

@@ -2,6 +2,13 @@
 ghost use Rattle.model.specs.Claims.{CheckIsHolding, CountsAddUp, AcceptedExactly, ChangeKeeps, WritesGiveView, Demand3};
 ghost use Rattle.model.specs.Bench.{BenchNumbers, RuleNumbers};
 
+// The limits of document 01, each with its one name in code: the largest N, how far below the root a directory may lie, and the most names of a path.
+pub const MOST_CLUSTERS: usize = 8192;
+
+pub const DEEPEST: u32 = 3;
+
+pub const MOST_NAMES: usize = 4;
+
 // The check answers a tree exactly when the view holds it.
 pub fn check_is_holding()
     ensures { λ _. ⌜ CheckIsHolding ⌝ }

@@ -1,11 +1,9 @@
 // The clusters that chains reach: their record, the walk of one chain, and the counts over the allocation table.
+use model::MOST_CLUSTERS;
 ghost use mathlib.Core.Path.{_≡_};
 ghost use Rattle.reached.specs.Marks.{noMarks, markedIn, marked, withMark};
 ghost use Rattle.reached.specs.Chain.{chainOf};
 ghost use Rattle.reached.specs.Totals.{freeIn, orphansIn};
-
-// As many marks as the largest card has clusters.
-const MOST_CLUSTERS: usize = 8192;
 
 // A table word below this is free.
 const TOP_BIT: u32 = 0x8000_0000;

@@ -6,6 +6,7 @@ mod walk;
 use layout::Opened;
 use layout::Refusal;
 use layout::open_card;
+use model::MOST_CLUSTERS;
 use reached::count_free;
 use reached::count_orphans;
 use walk::Verdict;
@@ -16,6 +17,7 @@ ghost use lib.ListN.{length, take};
 ghost use Rattle.layout.specs.See.{checkImage, onImage, viewBy};
 ghost use Rattle.layout.specs.Table.{openCard, tableAfter, told};
 ghost use Rattle.model.specs.Check.{checkTree};
+ghost use Rattle.model.specs.View.{mostClusters};
 ghost use Rattle.tree.specs.Counted.{CountsAddUp, checkOf, countsBy, superblockIn, toldCounts};
 ghost use Rattle.tree.specs.Walk.{Passes};
 
@@ -35,7 +37,7 @@ pub enum Checked {
 
 // The counts of a card by the first `end` words of its table, each by its own definition.
 fn count_card(image: &[u8], table: &[u32], end: usize, offset: u32, clusters: u32) -> Checked
-    requires { ⌜ (end ≤ length (now table)) × (end ≤ 8192) ⌝ }
+    requires { ⌜ (end ≤ length (now table)) × (end ≤ mostClusters) ⌝ }
     ensures { λ r. ⌜ toldCounts r ≡ countsBy clusters offset (take end (now (table .entry))) (now (image .entry)) ⌝ }
 {
     let words = &table[..end];
@@ -54,7 +56,7 @@ fn count_card(image: &[u8], table: &[u32], end: usize, offset: u32, clusters: u3
 }
 
 // The whole check, with room for the table.
-fn check_in(image: &[u8], table: &mut [u32; 8192]) -> Checked
+fn check_in(image: &[u8], table: &mut [u32; MOST_CLUSTERS]) -> Checked
     ensures { λ r. ⌜ toldCounts r ≡ checkOf (now (image .entry)) ⌝ }
 {
     let opened = open_card(image, table);
@@ -68,7 +70,7 @@ fn check_in(image: &[u8], table: &mut [u32; 8192]) -> Checked
 pub fn check(image: &[u8]) -> Checked
     ensures { λ r. ⌜ toldCounts r ≡ checkOf (now (image .entry)) ⌝ }
 {
-    let mut table = [0u32; 8192];
+    let mut table = [0u32; MOST_CLUSTERS];
     check_in(image, &mut table)
 }
 
@@ -79,7 +81,7 @@ pub fn counts_add_up()
 
 // The tree of a card by the first `end` words of its table.
 fn judge_tree(image: &[u8], table: &[u32], end: usize, offset: u32) -> Verdict
-    requires { ⌜ (end ≤ length (now table)) × (end ≤ 8192) ⌝ }
+    requires { ⌜ (end ≤ length (now table)) × (end ≤ mostClusters) ⌝ }
     ensures { λ r. ⌜ Passes (onImage offset (checkTree (viewBy offset (take end (now (table .entry))) (now (image .entry))))) r ⌝ }
 {
     let walked = walk_root(image, &table[..end], offset);
@@ -87,7 +89,7 @@ fn judge_tree(image: &[u8], table: &[u32], end: usize, offset: u32) -> Verdict
 }
 
 // The whole check, with the superblock and the table for the calls that go on from it. The table has its words from the moment that they are sound.
-pub fn open_checked(image: &[u8], table: &mut [u32; 8192]) -> Opened
+pub fn open_checked(image: &[u8], table: &mut [u32; MOST_CLUSTERS]) -> Opened
     ensures checked { λ r. ⌜ told r ≡ superblockIn (checkImage (now (image .entry))) ⌝ }
     ensures loaded { λ _. ⌜ now (table .exit) ≡ tableAfter (now (image .entry)) (openCard (now (image .entry))) (now (table .entry)) ⌝ }
 {

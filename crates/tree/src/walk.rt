@@ -14,6 +14,7 @@ use fields::names::entry_name;
 use fields::names::is_named;
 use fields::numbers::word_at;
 use layout::Refusal;
+use model::DEEPEST;
 use reached::Reached;
 use reached::walk_chain;
 ghost use mathlib.Core.Path.{_≡_};
@@ -22,6 +23,7 @@ ghost use lib.ListN.{length};
 ghost use Rattle.layout.specs.See.{onImage, viewBy};
 ghost use mathlib.Core.List.{_∷_, []};
 ghost use Rattle.model.specs.Check.{checkTree, judgeDot, judgeDots};
+ghost use Rattle.model.specs.View.{mostClusters};
 ghost use Rattle.reached.specs.Marks.{Sound, marksOf};
 ghost use Rattle.tree.specs.Filter.{Knows};
 ghost use Rattle.tree.specs.Slots.{clusterAt, liveBefore, slotPage};
@@ -135,7 +137,7 @@ fn walk_entry(
     left: u32,
     below: u32,
 ) -> Walked
-    requires { ⌜ (length (now table) ≤ 8192) × Sound reached ⌝ }
+    requires { ⌜ (length (now table) ≤ mostClusters) × Sound reached ⌝ }
     ensures { λ r. ⌜ Tells (entered (viewBy offset (now (table .entry)) (now (image .entry))) offset below (now (table .entry)) (marksOf reached) look) (r .verdict) (r .reached) ⌝ }
 {
     match look {
@@ -200,7 +202,7 @@ fn walk_dir(
     entries: u32,
     below: u32,
 ) -> Walked
-    requires { ⌜ (length (now table) ≤ 8192) × Sound reached ⌝ }
+    requires { ⌜ (length (now table) ≤ mostClusters) × Sound reached ⌝ }
     ensures { λ r. ⌜ Tells (onImage offset (insideOf (viewBy offset (now (table .entry)) (now (image .entry))) below (now (table .entry)) first entries (marksOf reached))) (r .verdict) (r .reached) ⌝ }
 {
     let dots = judge_dots(image, table, offset, first);
@@ -239,7 +241,7 @@ fn walk_dir(
 
 // The whole tree: the root's first entry, its chain, its entries.
 pub fn walk_root(image: &[u8], table: &[u32], offset: u32) -> Walked
-    requires { ⌜ length (now table) ≤ 8192 ⌝ }
+    requires { ⌜ length (now table) ≤ mostClusters ⌝ }
     ensures { λ r. ⌜ Tells (onImage offset (rootMarks (checkTree (viewBy offset (now (table .entry)) (now (image .entry)))))) (r .verdict) (r .reached) ⌝ }
 {
     let mut d = [0u8; 512];
@@ -264,5 +266,5 @@ pub fn walk_root(image: &[u8], table: &[u32], offset: u32) -> Walked
             reached: r,
         };
     }
-    walk_dir(image, table, offset, r, 0, n, 3)
+    walk_dir(image, table, offset, r, 0, n, DEEPEST)
 }
