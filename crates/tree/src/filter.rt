@@ -32,7 +32,7 @@ fn mask_of(g: u64) -> u64
 }
 
 // Whether the name may have been met before; now it has.
-pub fn meet(bits: &mut [u64; 4096], name: &[u8]) -> bool
+pub(crate) fn meet(bits: &mut [u64; 4096], name: &[u8]) -> bool
     ensures { λ r. ⌜ r ≡ held (now (bits .entry)) (hashOf 0 (now (name .entry))) ⌝ }
     ensures { λ r. ⌜ now (bits .exit) ≡ hold (now (bits .entry)) (hashOf 0 (now (name .entry))) ⌝ }
 {

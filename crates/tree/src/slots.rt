@@ -12,7 +12,7 @@ ghost use Rattle.page.specs.Page.{Read};
 ghost use Rattle.tree.specs.Slots.{liveBefore, liveHit, nextOf, slotPage};
 
 // The cluster after c in its chain.
-pub fn next_of(table: &[u32], c: u32) -> u32
+pub(crate) fn next_of(table: &[u32], c: u32) -> u32
     ensures { λ r. ⌜ r ≡ nextOf (now (table .entry)) c ⌝ }
 {
     let i = c as usize;
@@ -27,14 +27,14 @@ pub fn next_of(table: &[u32], c: u32) -> u32
 }
 
 // The page of slot k, which lies in cluster c.
-pub fn slot_page(c: u32, k: u32) -> usize
+pub(crate) fn slot_page(c: u32, k: u32) -> usize
     ensures { λ r. ⌜ (r ≡ slotPage c k) × (r < 8589934592) ⌝ }
 {
     c as usize * 2 + (k % 2) as usize
 }
 
 // How many slots a directory of that many entries has from 2 on.
-pub fn slots_of(length: u32) -> u32
+pub(crate) fn slots_of(length: u32) -> u32
     ensures { λ r. ⌜ r ≡ length - 2 ⌝ }
 {
     if length < 2 {
@@ -44,7 +44,13 @@ pub fn slots_of(length: u32) -> u32
 }
 
 // A page of the allocatable clusters, `count` of them from cluster `offset` of the image on.
-pub fn read_slot(image: &[u8], offset: u32, count: usize, page: usize, out: &mut [u8; 512]) -> bool
+pub(crate) fn read_slot(
+    image: &[u8],
+    offset: u32,
+    count: usize,
+    page: usize,
+    out: &mut [u8; 512],
+) -> bool
     requires { ⌜ page < 8589934592 ⌝ }
     ensures { λ r. ⌜ Read (pageIn offset count (now (image .entry)) page) (now (out .entry)) r (now (out .exit)) ⌝ }
 {
@@ -67,7 +73,7 @@ fn named_at(image: &[u8], table: &[u32], offset: u32, page: usize, d: &[u8; 512]
 }
 
 // Whether a live entry before slot k has the name of the entry d; the slots begin in cluster `start`.
-pub fn name_taken(
+pub(crate) fn name_taken(
     image: &[u8],
     table: &[u32],
     offset: u32,

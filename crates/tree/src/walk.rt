@@ -30,19 +30,19 @@ ghost use Rattle.tree.specs.Slots.{clusterAt, liveBefore, slotPage};
 ghost use Rattle.tree.specs.Walk.{Judges, Tells, entered, insideOf, isSound, lookBy, lookedAt, rootMarks};
 
 // How a part of the tree is judged.
-pub enum Verdict {
+pub(crate) enum Verdict {
     Sound,
     Refused(Refusal),
 }
 
 // A verdict with the record of the clusters reached so far.
-pub struct Walked {
-    pub verdict: Verdict,
-    pub reached: Reached,
+pub(crate) struct Walked {
+    pub(crate) verdict: Verdict,
+    pub(crate) reached: Reached,
 }
 
 // What stands in a slot, judged before its chain: page, entry rules, unique name.
-pub enum Look {
+pub(crate) enum Look {
     Unreadable(usize),
     Bad,
     Dead,
@@ -240,7 +240,7 @@ fn walk_dir(
 }
 
 // The whole tree: the root's first entry, its chain, its entries.
-pub fn walk_root(image: &[u8], table: &[u32], offset: u32) -> Walked
+pub(crate) fn walk_root(image: &[u8], table: &[u32], offset: u32) -> Walked
     requires { ⌜ length (now table) ≤ mostClusters ⌝ }
     ensures { λ r. ⌜ Tells (onImage offset (rootMarks (checkTree (viewBy offset (now (table .entry)) (now (image .entry)))))) (r .verdict) (r .reached) ⌝ }
 {

@@ -1,0 +1,107 @@
+//! Cards that only this comparison needs: the full card of PCSX2, and cards of many entries.
+
+use std::process::Command;
+
+use reader::build::{directory, file, Assembly, Layout};
+use reader::card::END_MARK;
+use reader::rng::Rng;
+use reader::Counts;
+
+fn testdata(name: &str) -> String {
+    format!("{}/../reader/testdata/{name}", env!("CARGO_MANIFEST_DIR"))
+}
+
+/// The full card PCSX2 wrote, unpacked.
+pub fn full() -> Vec<u8> {
+    let xz = Command::new("xz").args(["-dc", &testdata("full-small.ps2.xz")]).output().expect("xz runs");
+    assert!(xz.status.success(), "xz unpacks the full card");
+    xz.stdout
+}
+
+/// The small card PCSX2 wrote.
+pub fn bench_sample() -> Vec<u8> {
+    std::fs::read(testdata("bench-sample.ps2")).expect("the sample is there")
+}
+
+/// The counts of a card by what PCSX2 read from it: each line's length gives its clusters.
+/// PCSX2 left no orphans, so what isn't reached of `alloc_end` clusters is free.
+pub fn counts_by_tree(tree: &str, clusters: usize, alloc_end: usize) -> Counts {
+    let text = std::fs::read_to_string(testdata(tree)).expect("the tree is there");
+    let needs = |line: &str| -> usize {
+        let fields: Vec<&str> = line.split(' ').collect();
+        let unit = if fields[0] == "d" { 2 } else { 1024 };
+        fields[5].parse::<usize>().expect("a length").div_ceil(unit)
+    };
+    let reached = text.lines().filter(|line| !line.starts_with('#')).map(needs).sum();
+    Counts { clusters, free: alloc_end - reached, reached, orphaned: 0 }
+}
+
+/// How the names of one directory are chosen and ordered; a slow search for twins would show in one of them.
+#[derive(Clone, Copy, Debug, PartialEq, Eq)]
+pub enum Names {
+    Ascending,
+    Descending,
+    Shuffled,
+    /// 31 bytes that differ only in the last four.
+    Long,
+}
+
+impl Names {
+    pub const ALL: [Names; 4] = [Names::Ascending, Names::Descending, Names::Shuffled, Names::Long];
+
+    fn of(self, count: usize) -> Vec<Vec<u8>> {
+        let stem = if self == Names::Long { "a-name-with-27-equal-bytes-" } else { "entry" };
+        let mut names: Vec<Vec<u8>> = (0..count).map(|number| format!("{stem}{number:04}").into_bytes()).collect();
+        match self {
+            Names::Ascending | Names::Long => {}
+            Names::Descending => names.reverse(),
+            Names::Shuffled => Rng::new(count as u64).shuffle(&mut names),
+        }
+        names
+    }
+}
+
+/// A standard card with some directories in the root, each with as many empty files.
+#[derive(Clone, Debug)]
+pub struct Crowd {
+    pub image: Vec<u8>,
+    pub counts: Counts,
+    /// All entries the check reads, those of the root and the two dots of each directory included.
+    pub entries: usize,
+}
+
+/// Only entries cost on such a card: no file has a cluster.
+pub fn crowd(directories: usize, files: usize, names: Names) -> Crowd {
+    let mut card = Assembly::new(Layout::standard());
+    let root: Vec<usize> = (0..(2 + directories).div_ceil(2)).collect();
+    card.directory(&root, 2 + directories as u32);
+    let length = 2 + files;
+    let mut next = root.len();
+    for (place, name) in names.of(directories).iter().enumerate() {
+        let chain: Vec<usize> = (next..next + length.div_ceil(2)).collect();
+        next += chain.len();
+        let slot = 2 + place;
+        card.put(root[slot / 2], slot % 2, &directory(name, length as u32, chain[0] as u32));
+        card.directory(&chain, 0);
+        for (place, name) in names.of(files).iter().enumerate() {
+            let slot = 2 + place;
+            card.put(chain[slot / 2], slot % 2, &file(name, 0, END_MARK));
+        }
+    }
+    let (clusters, end) = (card.layout.clusters, card.layout.alloc_end);
+    Crowd {
+        image: card.finish(),
+        counts: Counts { clusters, free: end - next, reached: next, orphaned: 0 },
+        entries: 2 + directories + directories * length,
+    }
+}
+
+/// 4,000 files in one directory.
+pub fn one_directory(names: Names) -> Crowd {
+    crowd(1, 4000, names)
+}
+
+/// 40 directories of 50 files each.
+pub fn many_directories(names: Names) -> Crowd {
+    crowd(40, 50, names)
+}

@@ -1,0 +1,63 @@
+//! Times of both checks: the thread's processor time, taken in turn, so that a busy machine troubles them little
+//! and both alike.
+
+use std::hint::black_box;
+use std::time::Duration;
+
+use reader::{Counts, Refusal};
+
+/// The C library's `struct timespec` on 64-bit Linux.
+#[repr(C)]
+struct Timespec {
+    seconds: i64,
+    nanoseconds: i64,
+}
+
+extern "C" {
+    fn clock_gettime(clock: i32, time: *mut Timespec) -> i32;
+}
+
+/// `CLOCK_THREAD_CPUTIME_ID` on Linux.
+const THREAD_TIME: i32 = 3;
+
+/// The processor time this thread has used. The standard library has no such clock, but links the one of C.
+pub fn thread_time() -> Duration {
+    let mut time = Timespec { seconds: 0, nanoseconds: 0 };
+    // SAFETY: the call writes one timespec, which lives here.
+    let status = unsafe { clock_gettime(THREAD_TIME, &mut time) };
+    assert_eq!(status, 0, "the thread's clock can be read");
+    Duration::new(time.seconds as u64, time.nanoseconds as u32)
+}
+
+/// Either side's check.
+pub type Check = fn(&[u8]) -> Result<Counts, Refusal>;
+
+/// The proved library's check first, the reader's second.
+pub const SIDES: [Check; 2] = [crate::check, reader::check];
+
+/// The times of each job, one of each in turn, after one run unmeasured; sorted.
+pub fn times(jobs: &[(Check, &[u8])], runs: usize) -> Vec<Vec<Duration>> {
+    let mut times = vec![Vec::with_capacity(runs); jobs.len()];
+    for run in 0..=runs {
+        for (&(check, image), times) in jobs.iter().zip(&mut times) {
+            let start = thread_time();
+            let answer = black_box(check(black_box(image)));
+            let time = thread_time() - start;
+            assert!(answer.is_ok(), "only accepted cards are timed");
+            if run > 0 {
+                times.push(time);
+            }
+        }
+    }
+    times.iter_mut().for_each(|times| times.sort());
+    times
+}
+
+pub fn median(sorted: &[Duration]) -> Duration {
+    sorted[sorted.len() / 2]
+}
+
+/// The time of one entry in nanoseconds, once the time of a card without entries is taken off.
+pub fn per_entry(time: Duration, fresh: Duration, entries: usize) -> f64 {
+    time.saturating_sub(fresh).as_nanos() as f64 / entries as f64
+}

@@ -1,0 +1,111 @@
+//! The proved library's check, called through its C interface and answered in the reader's types.
+
+pub mod cards;
+pub mod clock;
+
+use reader::{Counts, Refusal};
+
+extern "C" {
+    fn station_check(
+        image: *const u8,
+        image_len: usize,
+        page: *mut usize,
+        clusters: *mut u32,
+        free: *mut usize,
+        reached: *mut usize,
+        orphaned: *mut usize,
+    ) -> u32;
+}
+
+/// What the library may write. It starts as values no card can give, so that every write shows.
+#[derive(Clone, Copy, Debug, PartialEq, Eq)]
+struct Outputs {
+    page: usize,
+    clusters: u32,
+    free: usize,
+    reached: usize,
+    orphaned: usize,
+}
+
+const UNTOUCHED: Outputs = Outputs {
+    page: usize::MAX - 1,
+    clusters: u32::MAX - 2,
+    free: usize::MAX - 3,
+    reached: usize::MAX - 4,
+    orphaned: usize::MAX - 5,
+};
+
+/// A broken promise, in words.
+type Broken = String;
+
+impl Outputs {
+    /// The answer for a returned number, if every output that must stay has stayed.
+    fn answer(self, number: u32) -> Result<Result<Counts, Refusal>, Broken> {
+        let counts_stay = Outputs { page: UNTOUCHED.page, ..self } == UNTOUCHED;
+        let page_stays = self.page == UNTOUCHED.page;
+        match number {
+            0 if !page_stays => Err(format!("acceptance changed the page: {self:?}")),
+            0 => {
+                let Outputs { clusters, free, reached, orphaned, .. } = self;
+                Ok(Ok(Counts { clusters: clusters as usize, free, reached, orphaned }))
+            }
+            8.. => Err(format!("the check has no refusal {number}")),
+            _ if !counts_stay => Err(format!("refusal {number} changed a count: {self:?}")),
+            2 => Ok(Err(Refusal::unreadable(self.page))),
+            _ if !page_stays => Err(format!("refusal {number} changed the page: {self:?}")),
+            _ => Ok(Err(Refusal::number(number as u8))),
+        }
+    }
+}
+
+/// The proved library's check. Panics where it breaks its promise on outputs.
+pub fn check(image: &[u8]) -> Result<Counts, Refusal> {
+    let mut out = UNTOUCHED;
+    // SAFETY: pointer and length are those of one slice, which the library only reads; each output
+    // is a separate place that lives until the call is over.
+    let number = unsafe {
+        station_check(
+            image.as_ptr(),
+            image.len(),
+            &mut out.page,
+            &mut out.clusters,
+            &mut out.free,
+            &mut out.reached,
+            &mut out.orphaned,
+        )
+    };
+    out.answer(number).unwrap_or_else(|broken| panic!("{broken}"))
+}
+
+#[cfg(test)]
+mod tests {
+    use super::*;
+
+    const COUNTS: Outputs = Outputs { page: UNTOUCHED.page, clusters: 56, free: 29, reached: 1, orphaned: 0 };
+
+    #[test]
+    fn answers() {
+        assert_eq!(COUNTS.answer(0), Ok(Ok(Counts { clusters: 56, free: 29, reached: 1, orphaned: 0 })));
+        assert_eq!(Outputs { page: 9, ..UNTOUCHED }.answer(2), Ok(Err(Refusal::unreadable(9))));
+        for number in [1, 3, 4, 5, 6, 7] {
+            assert_eq!(UNTOUCHED.answer(number), Ok(Err(Refusal::number(number as u8))));
+        }
+    }
+
+    /// Every single output that changed where it must stay is noticed.
+    #[test]
+    fn broken_promises() {
+        let touched = [
+            Outputs { clusters: 56, ..UNTOUCHED },
+            Outputs { free: 0, ..UNTOUCHED },
+            Outputs { reached: 0, ..UNTOUCHED },
+            Outputs { orphaned: 0, ..UNTOUCHED },
+        ];
+        for number in 1..=7 {
+            assert!(touched.iter().all(|out| out.answer(number).is_err()), "{number}");
+            assert_eq!(Outputs { page: 0, ..UNTOUCHED }.answer(number).is_err(), number != 2, "{number}");
+        }
+        assert!(Outputs { page: 0, ..COUNTS }.answer(0).is_err());
+        assert!(UNTOUCHED.answer(8).is_err() && UNTOUCHED.answer(u32::MAX).is_err());
+    }
+}

@@ -1,0 +1,224 @@
+//! Builders of card images, good and bad.
+//!
+//! They place every byte themselves and share only page writing with the reader.
+
+pub mod bad;
+pub mod bad_entries;
+pub mod draw;
+pub mod good;
+pub mod random;
+pub mod requests;
+pub mod scribble;
+pub mod vandal;
+
+use crate::card::{END_MARK, FORMAT, USED};
+use crate::entry::{name_field, Entry};
+use crate::page::{self, put_half, put_word, Data, CLUSTER, DATA};
+use crate::time::{stamp, Time};
+
+/// The time on cards built here: 12:34:56 on 29 February 2000.
+pub fn usual_time() -> Time {
+    stamp(2000, 2, 29, 12, 34, 56)
+}
+
+/// Where the parts of a card lie.
+#[derive(Clone, Debug)]
+pub struct Layout {
+    pub clusters: usize,
+    pub alloc_offset: usize,
+    pub alloc_end: usize,
+    pub indirect: usize,
+    pub table: Vec<usize>,
+    pub backups: [u32; 2],
+    pub version: &'static str,
+}
+
+impl Layout {
+    /// The bench card of document 01.
+    pub fn bench() -> Layout {
+        Layout {
+            clusters: 56,
+            alloc_offset: 10,
+            alloc_end: 30,
+            indirect: 8,
+            table: vec![9],
+            backups: [6, 5],
+            version: "1.2.0.0",
+        }
+    }
+
+    /// The standard 8 MB card of source 001.
+    pub fn standard() -> Layout {
+        Layout {
+            clusters: 8192,
+            alloc_offset: 41,
+            alloc_end: 8135,
+            indirect: 8,
+            table: (9..41).collect(),
+            backups: [1023, 1022],
+            version: "1.2.0.0",
+        }
+    }
+}
+
+/// A card under construction: its parts stay open until `finish` puts them into pages.
+#[derive(Clone, Debug)]
+pub struct Assembly {
+    pub layout: Layout,
+    pub superblock: Data,
+    /// The words of the indirect cluster.
+    pub indirect: Vec<u32>,
+    /// The words of all table clusters, those from alloc_end on too.
+    pub table: Vec<u32>,
+    pub image: Vec<u8>,
+}
+
+impl Assembly {
+    /// An erased card with superblock and an all-free table; nothing allocated yet.
+    pub fn new(layout: Layout) -> Assembly {
+        let mut indirect = vec![END_MARK; 256];
+        for (place, &cluster) in layout.table.iter().enumerate() {
+            indirect[place] = cluster as u32;
+        }
+        let mut table = vec![END_MARK; 256 * layout.table.len()];
+        table[..layout.alloc_end].fill(!USED);
+        Assembly {
+            superblock: superblock(&layout),
+            indirect,
+            table,
+            image: vec![0xFF; layout.clusters * CLUSTER],
+            layout,
+        }
+    }
+
+    /// An erased card with an empty root.
+    pub fn with_root(layout: Layout) -> Assembly {
+        let mut card = Assembly::new(layout);
+        card.directory(&[0], 2);
+        card
+    }
+
+    /// A directory's chain and its first two entries, the first with its length as the root's has it.
+    pub fn directory(&mut self, chain: &[usize], length: u32) {
+        self.chain(chain);
+        self.put(chain[0], 0, &directory(b".", length, 0));
+        self.put(chain[0], 1, &directory(b"..", 0, 0));
+    }
+
+    /// The image's page index of an allocatable cluster's first or second page.
+    pub fn page(&self, cluster: usize, second: usize) -> usize {
+        2 * (self.layout.alloc_offset + cluster) + second
+    }
+
+    /// Links allocatable clusters in order and ends the chain.
+    pub fn chain(&mut self, clusters: &[usize]) {
+        for (place, &cluster) in clusters.iter().enumerate() {
+            self.table[cluster] = clusters.get(place + 1).map_or(END_MARK, |&next| USED | next as u32);
+        }
+    }
+
+    /// Puts an entry into an allocatable cluster's first or second page.
+    pub fn put(&mut self, cluster: usize, second: usize, entry: &Entry) {
+        let page = self.page(cluster, second);
+        page::write(&mut self.image, page, &entry.page());
+    }
+
+    /// The image, with superblock, indirect cluster and table in their pages.
+    pub fn finish(mut self) -> Vec<u8> {
+        page::write(&mut self.image, 0, &self.superblock);
+        let indirect = std::mem::take(&mut self.indirect);
+        put_words(&mut self.image, self.layout.indirect, &indirect);
+        for (&cluster, words) in self.layout.table.iter().zip(self.table.chunks(256)) {
+            put_words(&mut self.image, cluster, words);
+        }
+        self.image
+    }
+}
+
+/// Puts 256 words into the two pages of a card cluster.
+fn put_words(image: &mut [u8], cluster: usize, words: &[u32]) {
+    for (second, words) in words.chunks(DATA / 4).enumerate() {
+        let mut data = [0; DATA];
+        words.iter().enumerate().for_each(|(place, &word)| put_word(&mut data, 4 * place, word));
+        page::write(image, 2 * cluster + second, &data);
+    }
+}
+
+/// The superblock of a layout, with no bad block listed.
+pub fn superblock(layout: &Layout) -> Data {
+    let mut data = [0; DATA];
+    data[..28].copy_from_slice(FORMAT);
+    data[0x1C..][..layout.version.len()].copy_from_slice(layout.version.as_bytes());
+    put_half(&mut data, 0x28, 512);
+    put_half(&mut data, 0x2A, 2);
+    put_half(&mut data, 0x2C, 16);
+    put_half(&mut data, 0x2E, 0xFF00);
+    put_word(&mut data, 0x30, layout.clusters as u32);
+    put_word(&mut data, 0x34, layout.alloc_offset as u32);
+    put_word(&mut data, 0x38, layout.alloc_end as u32);
+    put_word(&mut data, 0x40, layout.backups[0]);
+    put_word(&mut data, 0x44, layout.backups[1]);
+    put_word(&mut data, 0x50, layout.indirect as u32);
+    data[0xD0..0x150].fill(0xFF);
+    data[0x150..0x152].copy_from_slice(&[2, 0x52]);
+    data
+}
+
+/// A file's entry as builders use it.
+pub fn file(name: &[u8], length: u32, first_cluster: u32) -> Entry {
+    Entry {
+        mode: 0x8417,
+        length,
+        created: usual_time(),
+        first_cluster,
+        dir_entry: 0,
+        modified: usual_time(),
+        attribute: 0,
+        name_field: name_field(name),
+    }
+}
+
+/// A directory's entry as builders use it.
+pub fn directory(name: &[u8], length: u32, first_cluster: u32) -> Entry {
+    Entry { mode: 0x8427, ..file(name, length, first_cluster) }
+}
+
+/// The fresh bench card.
+pub fn bench() -> Vec<u8> {
+    Assembly::with_root(Layout::bench()).finish()
+}
+
+/// A fresh standard 8,192-cluster card.
+pub fn standard() -> Vec<u8> {
+    Assembly::with_root(Layout::standard()).finish()
+}
+
+/// A standard card with 40 directories of 50 small files each, 1 to 2,500 bytes long.
+pub fn crowded() -> Vec<u8> {
+    let mut card = Assembly::new(Layout::standard());
+    let mut next = 0;
+    let mut take = |count: usize| -> Vec<usize> {
+        next += count;
+        (next - count..next).collect()
+    };
+    let root = take(21);
+    card.directory(&root, 42);
+    for number in 0..40 {
+        let chain = take(26);
+        let name = format!("SAVE{number:02}");
+        card.put(root[1 + number / 2], number % 2, &directory(name.as_bytes(), 52, chain[0] as u32));
+        card.directory(&chain, 52);
+        for file_number in 0..50 {
+            let bytes = 1 + (number * 977 + file_number * 211) % 2500;
+            let name = format!("file{file_number:02}");
+            let data = take(bytes.div_ceil(1024));
+            card.put(chain[1 + file_number / 2], file_number % 2, &file(name.as_bytes(), bytes as u32, data[0] as u32));
+            card.chain(&data);
+            for index in 0..2 * data.len() {
+                let page = card.page(data[index / 2], index % 2);
+                page::write(&mut card.image, page, &[(bytes + page) as u8; DATA]);
+            }
+        }
+    }
+    card.finish()
+}

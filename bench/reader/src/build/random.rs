@@ -1,0 +1,294 @@
+//! Seeded random cards, each with the tree and counts it was built to have.
+
+use std::collections::{BTreeMap, HashSet};
+
+use super::draw::{put_kind, put_name, random_layout, random_name, random_page};
+use super::scribble;
+use super::{Assembly, Layout};
+use crate::card::{END_MARK, USED};
+use crate::content::{Item, Piece, Tree};
+use crate::entry::{Entry, DIRECTORY, FILE, NO_CLUSTER};
+use crate::page::{self, Data, DATA, PAGE};
+use crate::paths;
+use crate::rng::Rng;
+use crate::tree::{Counts, DEPTH};
+
+/// A random card and what the check and the tree must say of it.
+#[derive(Clone, Debug)]
+pub struct RandomCard {
+    pub image: Vec<u8>,
+    pub layout: Layout,
+    pub counts: Counts,
+    pub tree: Tree,
+}
+
+/// A random card of a random size, mostly small.
+pub fn random(seed: u64) -> RandomCard {
+    let mut rng = Rng::new(seed);
+    let blocks = match rng.below(20) {
+        0..=9 => rng.between(4, 8),
+        10..=16 => rng.between(8, 40),
+        17..=18 => rng.between(40, 200),
+        _ => rng.between(200, 1024),
+    };
+    sized(seed, 8 * blocks)
+}
+
+/// A random card of N clusters.
+pub fn sized(seed: u64, clusters: usize) -> RandomCard {
+    let mut rng = Rng::new(seed ^ 0x5EED_CA4D);
+    let layout = random_layout(&mut rng, clusters);
+    let mut sketch = Sketch::new(layout, &mut rng);
+    sketch.grow(&mut rng);
+    sketch.finish(&mut rng)
+}
+
+/// A directory being drawn: its place in the tree, its chain and how many slots it has.
+struct Drawn {
+    path: Vec<u8>,
+    depth: usize,
+    chain: Vec<usize>,
+    length: usize,
+    names: HashSet<Vec<u8>>,
+    /// The page that carries its length.
+    page: usize,
+}
+
+struct Sketch {
+    card: Assembly,
+    /// Clusters not taken yet, in the order they will be taken.
+    pool: Vec<usize>,
+    drawn: Vec<Drawn>,
+    /// Entry pages by page number, before they are written.
+    entries: BTreeMap<usize, Data>,
+    /// Pages of files, whose damage the check never sees: page, path, piece number.
+    file_pages: Vec<(usize, Vec<u8>, usize)>,
+    tree: Tree,
+}
+
+impl Sketch {
+    fn new(layout: Layout, rng: &mut Rng) -> Sketch {
+        let mut card = Assembly::new(layout);
+        // Erased and junk pages alike stand wherever nothing is written.
+        for page in 0..2 * card.layout.clusters {
+            if rng.chance(1, 4) {
+                rng.fill(&mut card.image[page * PAGE..][..PAGE]);
+            }
+        }
+        let mut pool: Vec<usize> = (1..card.layout.alloc_end).rev().collect();
+        if rng.chance(2, 3) {
+            rng.shuffle(&mut pool);
+        }
+        let mut sketch = Sketch {
+            card,
+            pool,
+            drawn: Vec::new(),
+            entries: BTreeMap::new(),
+            file_pages: Vec::new(),
+            tree: Tree::new(),
+        };
+        let page = sketch.card.page(0, 0);
+        sketch.directory(rng, b"/".to_vec(), 0, 0, page);
+        let root = Entry::parse(&sketch.entries[&page]);
+        sketch.tree.insert(b"/".to_vec(), item(&root, Vec::new()));
+        sketch
+    }
+
+    /// Adds entries until the card's clusters or the draw run out.
+    fn grow(&mut self, rng: &mut Rng) {
+        let keep = rng.below(self.pool.len() + 1) / 2;
+        let tries = rng.between(1, 2 + self.pool.len());
+        for _ in 0..tries {
+            let deepest = self.drawn.len() - 1;
+            let at = if rng.chance(1, 3) { deepest } else { rng.below(self.drawn.len()) };
+            let growth = usize::from(self.drawn[at].length.is_multiple_of(2));
+            let bytes = match rng.below(8) {
+                0 => 0,
+                1 => *rng.pick(&[1, 511, 512, 513, 1023, 1024, 1025, 2048]),
+                2 => rng.below(20_000),
+                _ => rng.below(3_000),
+            };
+            if self.pool.len() < keep + growth + bytes.div_ceil(1024).max(1) {
+                continue;
+            }
+            let page = self.next_slot(at);
+            match rng.below(10) {
+                0..=1 => self.dead(rng, at, page),
+                2..=4 if self.drawn[at].depth < DEPTH => self.child_directory(rng, at, page),
+                _ => self.file(rng, at, page, bytes),
+            }
+        }
+    }
+
+    /// One more slot in a directory; its chain grows where the length was even.
+    fn next_slot(&mut self, at: usize) -> usize {
+        let drawn = &mut self.drawn[at];
+        if drawn.length.is_multiple_of(2) {
+            drawn.chain.push(self.pool.pop().expect("room was looked at"));
+        }
+        let (slot, cluster) = (drawn.length, drawn.chain[drawn.length / 2]);
+        drawn.length += 1;
+        self.card.page(cluster, slot % 2)
+    }
+
+    fn dead(&mut self, rng: &mut Rng, at: usize, page: usize) {
+        let mut data = random_page(rng);
+        let mut names: Vec<&Vec<u8>> = self.drawn[at].names.iter().collect();
+        names.sort();
+        if !names.is_empty() && rng.chance(1, 2) {
+            let name = *rng.pick(&names);
+            put_name(rng, &mut data, name);
+        }
+        data[1] &= 0x7F;
+        self.entries.insert(page, data);
+    }
+
+    fn file(&mut self, rng: &mut Rng, at: usize, page: usize, bytes: usize) {
+        let split = self.pool.len() - bytes.div_ceil(1024);
+        let chain: Vec<usize> = self.pool.split_off(split);
+        self.card.chain(&chain);
+        let (path, mut data) = self.named(rng, at, FILE);
+        let mut entry = Entry::parse(&data);
+        entry.length = bytes as u32;
+        entry.first_cluster = chain.first().map_or(NO_CLUSTER, |&cluster| cluster as u32);
+        entry.put(&mut data);
+        self.entries.insert(page, data);
+
+        let mut pieces = Vec::new();
+        for index in 0..2 * chain.len() {
+            let mut content = [0; DATA];
+            rng.fill(&mut content);
+            let page = self.card.page(chain[index / 2], index % 2);
+            page::write(&mut self.card.image, page, &content);
+            if index * DATA < bytes {
+                pieces.push(Piece::Bytes(content[..DATA.min(bytes - index * DATA)].to_vec()));
+            }
+            self.file_pages.push((page, path.clone(), index));
+        }
+        self.tree.insert(path, item(&entry, pieces));
+    }
+
+    fn child_directory(&mut self, rng: &mut Rng, at: usize, page: usize) {
+        let first = self.pool.pop().expect("room was looked at");
+        let (path, mut data) = self.named(rng, at, DIRECTORY);
+        let mut entry = Entry::parse(&data);
+        entry.first_cluster = first as u32;
+        entry.put(&mut data);
+        self.entries.insert(page, data);
+        self.tree.insert(path.clone(), item(&entry, Vec::new()));
+        let depth = self.drawn[at].depth + 1;
+        self.directory(rng, path, depth, first, page);
+    }
+
+    /// Entries 0 and 1 of a directory; their other fields are junk.
+    fn directory(&mut self, rng: &mut Rng, path: Vec<u8>, depth: usize, first: usize, page: usize) {
+        for (second, name) in [(0, b".".as_slice()), (1, b"..")] {
+            let mut data = random_page(rng);
+            put_name(rng, &mut data, name);
+            put_kind(&mut data, DIRECTORY);
+            self.entries.insert(self.card.page(first, second), data);
+        }
+        self.drawn.push(Drawn { path, depth, chain: vec![first], length: 2, names: HashSet::new(), page });
+    }
+
+    /// A page for a live entry of this kind under a new name, and its path.
+    fn named(&mut self, rng: &mut Rng, at: usize, kind: u16) -> (Vec<u8>, Data) {
+        let drawn = &mut self.drawn[at];
+        let name = loop {
+            let name = random_name(rng);
+            if drawn.names.insert(name.clone()) {
+                break name;
+            }
+        };
+        let mut data = random_page(rng);
+        put_name(rng, &mut data, &name);
+        put_kind(&mut data, kind);
+        (paths::join(&drawn.path, &name), data)
+    }
+
+    /// Lengths, table, orphans, flips and damage; then the card is whole.
+    fn finish(mut self, rng: &mut Rng) -> RandomCard {
+        for drawn in &self.drawn {
+            let data = self.entries.get_mut(&drawn.page).expect("a directory's entry");
+            let entry = Entry { length: drawn.length as u32, ..Entry::parse(data) };
+            entry.put(data);
+            self.card.chain(&drawn.chain);
+        }
+        for (&page, data) in &self.entries {
+            page::write(&mut self.card.image, page, data);
+        }
+
+        let (mut free, mut orphaned) = (0, 0);
+        let end = self.card.layout.alloc_end;
+        for &cluster in &self.pool {
+            let junk = rng.draw() as u32;
+            let (word, is_free) = match rng.below(12) {
+                0 => (END_MARK, false),
+                1 => (junk | USED, false),
+                2 => (USED | rng.below(end) as u32, false),
+                3..=6 => (junk & !USED, true),
+                _ => (!USED, true),
+            };
+            self.card.table[cluster] = word;
+            *(if is_free { &mut free } else { &mut orphaned }) += 1;
+        }
+        self.card.table[end..].iter_mut().for_each(|word| *word = rng.draw() as u32);
+        let names = self.card.layout.table.len();
+        self.card.indirect[names..].iter_mut().for_each(|word| *word = rng.draw() as u32);
+        rng.fill(&mut self.card.superblock[0x54..0xD0]);
+        rng.fill(&mut self.card.superblock[0x150..]);
+
+        let counts = Counts { clusters: self.card.layout.clusters, free, reached: end - free - orphaned, orphaned };
+        let layout = self.card.layout.clone();
+        let mut needed: HashSet<usize> = self.entries.keys().copied().collect();
+        needed.insert(0);
+        for &cluster in layout.table.iter().chain([&layout.indirect]) {
+            needed.extend([2 * cluster, 2 * cluster + 1]);
+        }
+        let mut image = self.card.finish();
+        wear(rng, &mut image, &needed, &self.file_pages, &mut self.tree);
+        RandomCard { image, layout, counts, tree: self.tree }
+    }
+}
+
+/// Junk spare bytes and mendable flips anywhere; ruin where the check doesn't look.
+fn wear(rng: &mut Rng, image: &mut [u8], needed: &HashSet<usize>, files: &[(usize, Vec<u8>, usize)], tree: &mut Tree) {
+    let worn = rng.below(8);
+    let mut ruined = HashSet::new();
+    for page in 0..image.len() / PAGE {
+        let chunk = rng.below(4);
+        if !needed.contains(&page) && rng.chance(worn, 60) {
+            scribble::ruin(image, page, chunk, rng);
+            ruined.insert(page);
+        }
+        for other in (0..4).filter(|&other| other != chunk || !ruined.contains(&page)) {
+            if rng.chance(worn, 30) {
+                scribble::mendable(image, page, other, rng);
+            }
+        }
+        if rng.chance(3, 4) {
+            scribble::junk_spare(image, page, rng);
+        }
+    }
+    for (page, path, index) in files.iter().filter(|(page, ..)| ruined.contains(page)) {
+        let pieces = &mut tree.get_mut(path).expect("a file drawn").pieces;
+        if let Some(piece) = pieces.get_mut(*index) {
+            let bytes = match piece {
+                Piece::Bytes(bytes) => bytes.len(),
+                Piece::Unreadable { .. } => unreachable!("page {page} is visited once"),
+            };
+            *piece = Piece::Unreadable { bytes };
+        }
+    }
+}
+
+fn item(entry: &Entry, pieces: Vec<Piece>) -> Item {
+    Item {
+        is_directory: entry.is_directory(),
+        mode: entry.mode,
+        attribute: entry.attribute,
+        created: entry.created,
+        modified: entry.modified,
+        pieces,
+    }
+}

@@ -1,0 +1,141 @@
+//! The superblock and the allocation table.
+
+use crate::page::{self, half, word, Data, CLUSTER};
+use crate::Refusal;
+
+pub const FORMAT: &[u8; 28] = b"Sony PS2 Memory Card Format ";
+pub const VERSIONS: [&[u8; 12]; 2] = [b"1.1.0.0\0\0\0\0\0", b"1.2.0.0\0\0\0\0\0"];
+
+/// Clusters in an erase block.
+pub const BLOCK: u64 = 8;
+/// Table words in a cluster.
+pub const WORDS: usize = 256;
+/// The table word that ends a chain.
+pub const END_MARK: u32 = 0xFFFF_FFFF;
+/// Set in a table word that isn't free.
+pub const USED: u32 = 0x8000_0000;
+
+/// What a table word says.
+#[derive(Clone, Copy, Debug, PartialEq, Eq)]
+pub enum Link {
+    Free,
+    End,
+    Next(usize),
+}
+
+/// The meaning of a table word.
+pub fn link(word: u32) -> Link {
+    match word {
+        END_MARK => Link::End,
+        word if word & USED == 0 => Link::Free,
+        word => Link::Next((word & !USED) as usize),
+    }
+}
+
+/// A card whose superblock and table have been judged.
+#[derive(Clone, Debug)]
+pub struct Card {
+    pub clusters: usize,
+    pub alloc_offset: usize,
+    pub alloc_end: usize,
+    /// Card clusters of the table, in the order of their names.
+    pub table_clusters: Vec<usize>,
+    /// One word for each allocatable cluster.
+    pub table: Vec<u32>,
+}
+
+/// N by the image's length: a multiple of 8 from 32 to 8,192.
+pub fn clusters_of(length: usize) -> Option<usize> {
+    let clusters = length / CLUSTER;
+    (length.is_multiple_of(CLUSTER) && clusters.is_multiple_of(8) && (32..=8192).contains(&clusters))
+        .then_some(clusters)
+}
+
+/// A page the check needs.
+pub fn needed(image: &[u8], page: usize) -> Result<Data, Refusal> {
+    page::read(image, page).ok_or(Refusal::unreadable(page))
+}
+
+/// Both pages of a card cluster, the first one first.
+fn needed_cluster(image: &[u8], cluster: usize) -> Result<Vec<u8>, Refusal> {
+    let first = needed(image, 2 * cluster)?;
+    let second = needed(image, 2 * cluster + 1)?;
+    Ok([first, second].concat())
+}
+
+/// The rules of number 4; sums are taken as whole numbers.
+fn superblock_rules(block: &Data, clusters: usize) -> bool {
+    let wide = |at| u64::from(word(block, at));
+    let (offset, end) = (wide(0x34), wide(0x38));
+    let (backup1, backup2) = (wide(0x40), wide(0x44));
+    let backup_fits = |backup| backup < clusters as u64 / BLOCK && backup * BLOCK >= offset + end;
+    VERSIONS.iter().any(|version| block[0x1C..0x28] == version[..])
+        && (half(block, 0x28), half(block, 0x2A), half(block, 0x2C)) == (512, 2, 16)
+        && wide(0x30) == clusters as u64
+        && end >= 1
+        && wide(0x3C) == 0
+        && offset + end <= clusters as u64
+        && backup1 != backup2
+        && backup_fits(backup1)
+        && backup_fits(backup2)
+}
+
+impl Card {
+    /// Refusals 1 to 5, and 2 for the pages of superblock, indirect cluster and table.
+    pub fn open(image: &[u8]) -> Result<Card, Refusal> {
+        let clusters = clusters_of(image.len()).ok_or(Refusal::number(1))?;
+        let block = needed(image, 0)?;
+        if block[..28] != FORMAT[..] {
+            return Err(Refusal::number(3));
+        }
+        if !superblock_rules(&block, clusters) {
+            return Err(Refusal::number(4));
+        }
+        let alloc_offset = word(&block, 0x34) as usize;
+        let alloc_end = word(&block, 0x38) as usize;
+
+        // The indirect cluster's name is judged before its pages, all names before the table.
+        let mut names: Vec<usize> = Vec::new();
+        let judge = |names: &mut Vec<usize>, name: usize| {
+            if name < 1 || name >= alloc_offset || names.contains(&name) {
+                return Err(Refusal::number(5));
+            }
+            names.push(name);
+            Ok(())
+        };
+        let indirect = word(&block, 0x50) as usize;
+        judge(&mut names, indirect)?;
+        let indirect_words = needed_cluster(image, indirect)?;
+        for index in 0..alloc_end.div_ceil(WORDS) {
+            judge(&mut names, word(&indirect_words, 4 * index) as usize)?;
+        }
+
+        let table_clusters = names.split_off(1);
+        let mut table = Vec::with_capacity(table_clusters.len() * WORDS);
+        for &cluster in &table_clusters {
+            let words = needed_cluster(image, cluster)?;
+            table.extend((0..WORDS).map(|index| word(&words, 4 * index)));
+        }
+        table.truncate(alloc_end);
+        Ok(Card { clusters, alloc_offset, alloc_end, table_clusters, table })
+    }
+
+    /// The image's page index of the first or second page of an allocatable cluster.
+    pub fn page(&self, cluster: usize, second: usize) -> usize {
+        2 * (self.alloc_offset + cluster) + second
+    }
+
+    /// The image's page index of an entry, by its directory's chain.
+    pub fn slot_page(&self, chain: &[usize], slot: usize) -> usize {
+        self.page(chain[slot / 2], slot % 2)
+    }
+
+    pub fn link(&self, cluster: usize) -> Link {
+        link(self.table[cluster])
+    }
+
+    /// The clusters whose table words are free, ascending.
+    pub fn free(&self) -> impl Iterator<Item = usize> + '_ {
+        (0..self.alloc_end).filter(|&cluster| self.link(cluster) == Link::Free)
+    }
+}

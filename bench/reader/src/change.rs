@@ -1,0 +1,289 @@
+//! The five changes. Each is judged whole before the first byte is written.
+
+use crate::card::{Card, END_MARK, USED, WORDS};
+use crate::entry::{name_field, Entry, EXISTS, NO_CLUSTER};
+use crate::lookup::{directory, locate, names};
+use crate::page::{self, put_half, put_word, Data, DATA};
+use crate::paths;
+use crate::time::{self, Time};
+use crate::tree::{Checked, Node};
+use crate::Refusal;
+
+const FILE_MODE: u16 = 0x8417;
+const DIRECTORY_MODE: u16 = 0x8427;
+
+/// One change with all it is given.
+#[derive(Clone, Debug, PartialEq, Eq)]
+pub enum Change {
+    Create { path: Vec<u8>, time: Time, data: Vec<u8> },
+    Replace { path: Vec<u8>, time: Time, data: Vec<u8> },
+    Delete { path: Vec<u8> },
+    MakeDir { path: Vec<u8>, time: Time },
+    RemoveDir { path: Vec<u8> },
+}
+
+impl Change {
+    pub fn apply(&self, image: &mut [u8]) -> Result<(), Refusal> {
+        match self {
+            Change::Create { path, time, data } => create(image, path, time, data),
+            Change::Replace { path, time, data } => replace(image, path, time, data),
+            Change::Delete { path } => delete(image, path),
+            Change::MakeDir { path, time } => make_dir(image, path, time),
+            Change::RemoveDir { path } => remove_dir(image, path),
+        }
+    }
+
+    pub fn path(&self) -> &[u8] {
+        match self {
+            Change::Create { path, .. }
+            | Change::Replace { path, .. }
+            | Change::Delete { path }
+            | Change::MakeDir { path, .. }
+            | Change::RemoveDir { path } => path,
+        }
+    }
+
+    pub fn is_creation(&self) -> bool {
+        matches!(self, Change::Create { .. } | Change::MakeDir { .. })
+    }
+
+    pub fn is_removal(&self) -> bool {
+        matches!(self, Change::Delete { .. } | Change::RemoveDir { .. })
+    }
+}
+
+/// Creates a file that holds `data`.
+pub fn create(image: &mut [u8], path: &[u8], time: &Time, data: &[u8]) -> Result<(), Refusal> {
+    let checked = Checked::of(image)?;
+    let names = changed_names(path)?;
+    judge_time(time)?;
+    insert(image, checked, &names, time, New::File(data))
+}
+
+/// Makes an empty directory.
+pub fn make_dir(image: &mut [u8], path: &[u8], time: &Time) -> Result<(), Refusal> {
+    let checked = Checked::of(image)?;
+    let names = changed_names(path)?;
+    if names.len() == paths::NAMES {
+        return Err(Refusal::number(8));
+    }
+    judge_time(time)?;
+    insert(image, checked, &names, time, New::Directory)
+}
+
+/// Replaces a file's bytes: new clusters from those free before, then the old are freed.
+pub fn replace(image: &mut [u8], path: &[u8], time: &Time, data: &[u8]) -> Result<(), Refusal> {
+    let checked = Checked::of(image)?;
+    let names = changed_names(path)?;
+    judge_time(time)?;
+    let node = locate(&checked.root, &names)?;
+    if node.inside.is_some() {
+        return Err(Refusal::number(10));
+    }
+    let mut edit = Edit::new(checked.card);
+    let chain = edit.take(data.len().div_ceil(1024), 0)?.1;
+    edit.link(&chain);
+    edit.fill(&chain, data);
+    edit.alter(image, node.page, |page| {
+        put_word(page, 0x04, data.len() as u32);
+        put_word(page, 0x10, first_of(&chain));
+        page[0x18..0x20].copy_from_slice(time);
+    });
+    edit.release(&node.chain);
+    edit.commit(image);
+    Ok(())
+}
+
+/// Deletes a file.
+pub fn delete(image: &mut [u8], path: &[u8]) -> Result<(), Refusal> {
+    let checked = Checked::of(image)?;
+    let names = changed_names(path)?;
+    let node = locate(&checked.root, &names)?;
+    if node.inside.is_some() {
+        return Err(Refusal::number(10));
+    }
+    remove(image, checked.card, node);
+    Ok(())
+}
+
+/// Removes a directory without live entries after the first two.
+pub fn remove_dir(image: &mut [u8], path: &[u8]) -> Result<(), Refusal> {
+    let checked = Checked::of(image)?;
+    let names = changed_names(path)?;
+    let node = locate(&checked.root, &names)?;
+    if !directory(node)?.children.is_empty() {
+        return Err(Refusal::number(13));
+    }
+    remove(image, checked.card, node);
+    Ok(())
+}
+
+/// The names of a path to change; malformed or the root is 8.
+fn changed_names(path: &[u8]) -> Result<Vec<&[u8]>, Refusal> {
+    let names = names(path)?;
+    if names.is_empty() {
+        return Err(Refusal::number(8));
+    }
+    Ok(names)
+}
+
+fn judge_time(time: &Time) -> Result<(), Refusal> {
+    time::valid(time).then_some(()).ok_or(Refusal::number(14))
+}
+
+/// Clears bit 0x8000 of the entry and the top bit of each table word of its chain.
+fn remove(image: &mut [u8], card: Card, node: &Node) {
+    let mut edit = Edit::new(card);
+    edit.alter(image, node.page, |page| put_half(page, 0x00, node.entry.mode & !EXISTS));
+    edit.release(&node.chain);
+    edit.commit(image);
+}
+
+enum New<'a> {
+    File(&'a [u8]),
+    Directory,
+}
+
+/// Puts a new entry and what belongs to it into the directory around the last name.
+fn insert(image: &mut [u8], checked: Checked, names: &[&[u8]], time: &Time, new: New) -> Result<(), Refusal> {
+    let (last, on_the_way) = names.split_last().expect("a path to change has a name");
+    let parent = locate(&checked.root, on_the_way)?;
+    if directory(parent)?.child(last).is_some() {
+        return Err(Refusal::number(11));
+    }
+    let length = parent.entry.length as usize;
+    let slot = new_slot(parent)?;
+    let grows = slot == length && length.is_multiple_of(2);
+
+    let mut edit = Edit::new(checked.card);
+    let own = match new {
+        New::File(data) => data.len().div_ceil(1024),
+        New::Directory => 1,
+    };
+    let (growth, chain) = edit.take(own, usize::from(grows))?;
+    let mut parent_chain = parent.chain.clone();
+    for &cluster in &growth {
+        edit.link(&[parent_chain[parent_chain.len() - 1], cluster]);
+        edit.write(edit.card.page(cluster, 1), [0; DATA]);
+        parent_chain.push(cluster);
+    }
+    edit.link(&chain);
+
+    let entry = |mode, length, first_cluster, dir_entry, name| Entry {
+        mode,
+        length,
+        created: *time,
+        first_cluster,
+        dir_entry,
+        modified: *time,
+        attribute: 0,
+        name_field: name_field(name),
+    };
+    let entry = match new {
+        New::File(data) => {
+            edit.fill(&chain, data);
+            entry(FILE_MODE, data.len() as u32, first_of(&chain), 0, last)
+        }
+        New::Directory => {
+            let here = entry(DIRECTORY_MODE, 0, parent_chain[0] as u32, slot as u32, b".");
+            let above = entry(DIRECTORY_MODE, 0, 0, 0, b"..");
+            edit.write(edit.card.page(chain[0], 0), here.page());
+            edit.write(edit.card.page(chain[0], 1), above.page());
+            entry(DIRECTORY_MODE, 2, first_of(&chain), 0, last)
+        }
+    };
+    edit.write(edit.card.slot_page(&parent_chain, slot), entry.page());
+    if slot == length {
+        edit.alter(image, parent.page, |page| put_word(page, 0x04, length as u32 + 1));
+    }
+    edit.commit(image);
+    Ok(())
+}
+
+/// The lowest dead slot from 2, else slot number length.
+fn new_slot(parent: &Node) -> Result<usize, Refusal> {
+    let live = directory(parent)?.children.iter().map(|child| child.slot);
+    let full = (2..).zip(live).take_while(|(slot, live)| slot == live).count();
+    Ok(2 + full)
+}
+
+/// The first cluster an entry names; a file of length 0 has none.
+fn first_of(chain: &[usize]) -> u32 {
+    chain.first().map_or(NO_CLUSTER, |&cluster| cluster as u32)
+}
+
+/// Table and pages as a change will leave them.
+struct Edit {
+    card: Card,
+    table: Vec<u32>,
+    pages: Vec<(usize, Data)>,
+}
+
+impl Edit {
+    fn new(card: Card) -> Edit {
+        Edit { table: card.table.clone(), card, pages: Vec::new() }
+    }
+
+    /// The lowest free clusters, ascending: directory growth first, then the new chain; too few is 12.
+    fn take(&self, own: usize, growth: usize) -> Result<(Vec<usize>, Vec<usize>), Refusal> {
+        let mut free: Vec<usize> = self.card.free().take(own.saturating_add(growth)).collect();
+        if free.len() < own.saturating_add(growth) {
+            return Err(Refusal::number(12));
+        }
+        let chain = free.split_off(growth);
+        Ok((free, chain))
+    }
+
+    /// Links the clusters in order and ends the chain at the last.
+    fn link(&mut self, chain: &[usize]) {
+        for (place, &cluster) in chain.iter().enumerate() {
+            self.table[cluster] = chain.get(place + 1).map_or(END_MARK, |&next| USED + next as u32);
+        }
+    }
+
+    /// Clears the top bit of each table word in the chain.
+    fn release(&mut self, chain: &[usize]) {
+        for &cluster in chain {
+            self.table[cluster] &= !USED;
+        }
+    }
+
+    /// A page that is written without being read.
+    fn write(&mut self, page: usize, data: Data) {
+        self.pages.push((page, data));
+    }
+
+    /// All pages of newly taken clusters: a file's bytes, zero after its end.
+    fn fill(&mut self, chain: &[usize], data: &[u8]) {
+        for index in 0..2 * chain.len() {
+            let mut page = [0; DATA];
+            let rest = data.get(index * DATA..).unwrap_or(&[]);
+            let count = rest.len().min(DATA);
+            page[..count].copy_from_slice(&rest[..count]);
+            self.write(self.card.slot_page(chain, index), page);
+        }
+    }
+
+    /// A page that is written only where its data, as read, changes.
+    fn alter(&mut self, image: &[u8], page: usize, change: impl FnOnce(&mut Data)) {
+        let before = page::read(image, page).expect("the check has read this page");
+        let mut after = before;
+        change(&mut after);
+        if after != before {
+            self.write(page, after);
+        }
+    }
+
+    /// Writes the table's changed pages and all others.
+    fn commit(mut self, image: &mut [u8]) {
+        for index in 0..2 * self.card.table_clusters.len() {
+            let words = self.table.iter().skip(index * WORDS / 2).take(WORDS / 2).copied().collect::<Vec<u32>>();
+            self.alter(image, 2 * self.card.table_clusters[index / 2] + index % 2, |page| {
+                words.iter().enumerate().for_each(|(place, &word)| put_word(page, 4 * place, word));
+            });
+        }
+        for (page, data) in &self.pages {
+            page::write(image, *page, data);
+        }
+    }
+}

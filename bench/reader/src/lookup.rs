@@ -1,0 +1,65 @@
+//! Finding a path, stepping through a directory, reading a file.
+
+use crate::entry::Entry;
+use crate::page::{self, DATA};
+use crate::paths;
+use crate::tree::{Checked, Directory, Node};
+use crate::Refusal;
+
+/// The node that names lead to from the root, looked up from the left.
+///
+/// An absent name is 9, a file where a directory is needed 10 at once.
+pub fn locate<'t>(root: &'t Node, names: &[&[u8]]) -> Result<&'t Node, Refusal> {
+    names.iter().try_fold(root, |node, name| directory(node)?.child(name).ok_or(Refusal::number(9)))
+}
+
+/// The inside of a directory; a file gives 10.
+pub fn directory(node: &Node) -> Result<&Directory, Refusal> {
+    node.inside.as_ref().ok_or(Refusal::number(10))
+}
+
+/// The names of a path; a malformed one gives 8.
+pub fn names(path: &[u8]) -> Result<Vec<&[u8]>, Refusal> {
+    paths::parse(path).ok_or(Refusal::number(8))
+}
+
+/// The entry at a path, for the root its first one.
+pub fn find(image: &[u8], path: &[u8]) -> Result<Entry, Refusal> {
+    let checked = Checked::of(image)?;
+    Ok(locate(&checked.root, &names(path)?)?.entry.clone())
+}
+
+/// The first live entry from a slot on, never before slot 2, with its slot; nothing at the end.
+pub fn step(image: &[u8], path: &[u8], slot: usize) -> Result<Option<(usize, Entry)>, Refusal> {
+    let checked = Checked::of(image)?;
+    let inside = directory(locate(&checked.root, &names(path)?)?)?;
+    let next = inside.children.iter().find(|child| child.slot >= slot);
+    Ok(next.map(|child| (child.slot, child.entry.clone())))
+}
+
+/// Copies a file's bytes from an offset until file or buffer ends; tells how many.
+///
+/// An offset beyond the length is 15; the first unreadable page with a byte to copy is 2, last of all.
+pub fn read(image: &[u8], path: &[u8], offset: usize, buffer: &mut [u8]) -> Result<usize, Refusal> {
+    let checked = Checked::of(image)?;
+    let node = locate(&checked.root, &names(path)?)?;
+    if node.inside.is_some() {
+        return Err(Refusal::number(10));
+    }
+    let length = node.entry.length as usize;
+    if offset > length {
+        return Err(Refusal::number(15));
+    }
+    let count = buffer.len().min(length - offset);
+    if count == 0 {
+        return Ok(0);
+    }
+    let pages = offset / DATA..=(offset + count - 1) / DATA;
+    let mut bytes = Vec::new();
+    for index in pages {
+        let page = checked.card.slot_page(&node.chain, index);
+        bytes.extend(page::read(image, page).ok_or(Refusal::unreadable(page))?);
+    }
+    buffer[..count].copy_from_slice(&bytes[offset % DATA..][..count]);
+    Ok(count)
+}

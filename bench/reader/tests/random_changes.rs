@@ -1,0 +1,271 @@
+//! Seeded random changes on random cards, against a model that knows the tree only.
+
+use std::collections::{BTreeSet, HashMap};
+
+use reader::build::random::random;
+use reader::build::requests::random_change;
+use reader::content::{lines, Item, Piece, Tree};
+use reader::ecc::code_of;
+use reader::page::{self, DATA, PAGE};
+use reader::rng::Rng;
+use reader::tree::Checked;
+use reader::{check, find, paths, step, time, tree, Change, Refusal};
+
+/// Whether a directory has a dead slot, and whether its length is even.
+fn room(image: &[u8], directory: &[u8]) -> (bool, bool) {
+    let length = find(image, directory).unwrap().length as usize;
+    let mut live = 0;
+    let mut from = 0;
+    while let Some((slot, _)) = step(image, directory, from).unwrap() {
+        live += 1;
+        from = slot + 1;
+    }
+    (live + 2 < length, length.is_multiple_of(2))
+}
+
+/// The number a change must be refused with, from the tree, the free count and the room.
+fn predicted(image: &[u8], tree: &Tree, change: &Change) -> Option<u8> {
+    let Some(names) = paths::parse(change.path()).filter(|names| !names.is_empty()) else { return Some(8) };
+    if matches!(change, Change::MakeDir { .. }) && names.len() == 4 {
+        return Some(8);
+    }
+    let time = match change {
+        Change::Create { time, .. } | Change::Replace { time, .. } | Change::MakeDir { time, .. } => Some(time),
+        _ => None,
+    };
+    if time.is_some_and(|time| !time::valid(time)) {
+        return Some(14);
+    }
+    let mut around = b"/".to_vec();
+    for name in &names[..names.len() - 1] {
+        around = paths::join(&around, name);
+        match tree.get(&around) {
+            None => return Some(9),
+            Some(item) if !item.is_directory => return Some(10),
+            Some(_) => {}
+        }
+    }
+    let there = tree.get(change.path());
+    let free = check(image).unwrap().free;
+    let clusters = |data: &Vec<u8>| data.len().div_ceil(1024);
+    if change.is_creation() {
+        if there.is_some() {
+            return Some(11);
+        }
+        let own = if let Change::Create { data, .. } = change { clusters(data) } else { 1 };
+        let (dead, even) = room(image, &around);
+        return (own + usize::from(!dead && even) > free).then_some(12);
+    }
+    match (change, there) {
+        (_, None) => Some(9),
+        (Change::RemoveDir { .. }, Some(item)) if !item.is_directory => Some(10),
+        (Change::Delete { .. } | Change::Replace { .. }, Some(item)) if item.is_directory => Some(10),
+        (Change::RemoveDir { path }, _) => {
+            let inside = tree.keys().any(|other| other != path && paths::is_beginning(path, other));
+            inside.then_some(13)
+        }
+        (Change::Replace { data, .. }, _) => (clusters(data) > free).then_some(12),
+        _ => None,
+    }
+}
+
+/// The tree an accepted change must leave.
+fn expected(mut tree: Tree, change: &Change) -> Tree {
+    let pieces = |data: &[u8]| data.chunks(DATA).map(|part| Piece::Bytes(part.to_vec())).collect::<Vec<_>>();
+    let new = |is_directory, mode, time: &[u8; 8], pieces| Item {
+        is_directory,
+        mode,
+        attribute: 0,
+        created: *time,
+        modified: *time,
+        pieces,
+    };
+    match change {
+        Change::Create { path, time, data } => {
+            tree.insert(path.clone(), new(false, 0x8417, time, pieces(data)));
+        }
+        Change::MakeDir { path, time } => {
+            tree.insert(path.clone(), new(true, 0x8427, time, Vec::new()));
+        }
+        Change::Replace { path, time, data } => {
+            let item = tree.get_mut(path).unwrap();
+            item.modified = *time;
+            item.pieces = pieces(data);
+        }
+        Change::Delete { path } | Change::RemoveDir { path } => {
+            tree.remove(path);
+        }
+    }
+    tree
+}
+
+/// Which pages were rewritten, and that each has a fresh code and its old last spare bytes.
+fn pages_are_right(before: &[u8], after: &[u8], change: &Change) {
+    let (old, new) = (Checked::of(before).unwrap(), Checked::of(after).unwrap());
+    let mut must: BTreeSet<usize> = BTreeSet::new();
+    for cluster in 0..old.card.alloc_end {
+        if old.card.table[cluster] >> 31 == 0 && new.card.table[cluster] >> 31 == 1 {
+            must.extend([new.card.page(cluster, 0), new.card.page(cluster, 1)]);
+        }
+    }
+    if change.is_creation() {
+        let names = paths::parse(change.path()).unwrap();
+        must.insert(reader::lookup::locate(&new.root, &names).unwrap().page);
+    }
+    for page in 0..before.len() / PAGE {
+        let bytes = |image: &[u8]| image[page * PAGE..][..PAGE].to_vec();
+        let (one, other) = (bytes(before), bytes(after));
+        assert_eq!(one[DATA + 12..], other[DATA + 12..], "spare bytes 12 to 15 of page {page}");
+        if one != other && !must.contains(&page) {
+            let change = (page::read(before, page), page::read(after, page));
+            assert!(change.0.is_some() && change.0 != change.1, "page {page} was rewritten for nothing");
+        }
+        if one != other || must.contains(&page) {
+            let fresh: Vec<u8> = other[..DATA].chunks(128).flat_map(code_of).collect();
+            assert_eq!(fresh, other[DATA..DATA + 12], "code of page {page}");
+        }
+    }
+}
+
+/// Each table word stays, is freed by its top bit, is newly taken, or leads a directory's end to its growth.
+fn table_is_right(before: &[u8], after: &[u8]) {
+    let (old, new) = (Checked::of(before).unwrap(), Checked::of(after).unwrap());
+    for cluster in 0..old.card.alloc_end {
+        let (one, other) = (old.card.table[cluster], new.card.table[cluster]);
+        match (one >> 31, other >> 31) {
+            (0, 0) => assert_eq!(one, other),
+            (1, 0) => assert_eq!(other, one & 0x7FFF_FFFF),
+            (1, 1) if one != other => {
+                assert_eq!(one, 0xFFFF_FFFF);
+                assert_eq!(old.card.table[(other & 0x7FFF_FFFF) as usize] >> 31, 0);
+            }
+            _ => {}
+        }
+    }
+    let last = *old.card.table_clusters.last().unwrap();
+    let words =
+        |image: &[u8]| [page::read(image, 2 * last).unwrap(), page::read(image, 2 * last + 1).unwrap()].concat();
+    let used = 4 * ((old.card.alloc_end - 1) % 256 + 1);
+    assert_eq!(words(before)[used..], words(after)[used..], "words from alloc_end on");
+}
+
+/// Bytes of the changed entry's page that a replacement or removal may touch.
+fn entry_is_kept(before: &[u8], after: &[u8], change: &Change) {
+    let names = paths::parse(change.path()).unwrap();
+    let page = reader::lookup::locate(&Checked::of(before).unwrap().root, &names).unwrap().page;
+    let (one, other) = (page::read(before, page).unwrap(), page::read(after, page).unwrap());
+    for at in 0..DATA {
+        let open = if change.is_removal() { at == 1 } else { matches!(at, 4..=7 | 0x10..=0x13 | 0x18..=0x1F) };
+        assert!(open || one[at] == other[at], "byte {at:#x}");
+    }
+    assert!(!change.is_removal() || one[1] == other[1] | 0x80);
+}
+
+/// Counts after a change: nothing is lost, and orphans stay.
+fn counts_are_right(before: &[u8], after: &[u8]) {
+    let (old, new) = (check(before).unwrap(), check(after).unwrap());
+    assert_eq!(old.orphaned, new.orphaned);
+    assert_eq!(old.free + old.reached, new.free + new.reached);
+}
+
+#[test]
+fn changes_do_what_the_model_says() {
+    let mut seen: HashMap<(u8, bool), usize> = HashMap::new();
+    for seed in 0..260 {
+        let mut image = random(seed).image;
+        let mut rng = Rng::new(seed + 1_000_000);
+        let steps = if image.len() > 400_000 { 6 } else { 30 };
+        for step in 0..steps {
+            let before = tree(&image).unwrap();
+            let change = random_change(&mut rng, &before);
+            let mut after = image.clone();
+            let answer = change.apply(&mut after);
+            let predicted = predicted(&image, &before, &change);
+            assert_eq!(
+                answer,
+                predicted.map_or(Ok(()), |number| Err(Refusal::number(number))),
+                "seed {seed} step {step} {change:?}"
+            );
+            *seen.entry((predicted.unwrap_or(0), change.is_creation())).or_default() += 1;
+            if answer.is_err() {
+                assert!(after == image, "a refusal leaves the image");
+                continue;
+            }
+            assert!(tree(&after).unwrap() == expected(before, &change), "seed {seed} step {step} {change:?}");
+            pages_are_right(&image, &after, &change);
+            counts_are_right(&image, &after);
+            table_is_right(&image, &after);
+            if !change.is_creation() {
+                entry_is_kept(&image, &after, &change);
+            }
+            image = after;
+        }
+    }
+    for number in [0, 8, 9, 10, 11, 12, 13, 14] {
+        let count: usize = seen.iter().filter(|((seen, _), _)| *seen == number).map(|(_, count)| count).sum();
+        assert!(count >= 10, "number {number} came up {count} times");
+    }
+}
+
+/// New clusters are the lowest free ones, ascending, growth first.
+#[test]
+fn lowest_free_clusters() {
+    for seed in 0..150 {
+        let image = random(seed).image;
+        let mut rng = Rng::new(seed + 2_000_000);
+        let change = random_change(&mut rng, &tree(&image).unwrap());
+        let mut after = image.clone();
+        if change.apply(&mut after).is_err() {
+            continue;
+        }
+        let (old, new) = (Checked::of(&image).unwrap(), Checked::of(&after).unwrap());
+        let free: Vec<usize> = old.card.free().collect();
+        let taken: Vec<usize> = free.iter().copied().filter(|&cluster| new.card.table[cluster] >> 31 == 1).collect();
+        assert_eq!(taken, free[..taken.len()]);
+        if change.is_removal() {
+            assert!(taken.is_empty());
+            continue;
+        }
+        let names = paths::parse(change.path()).unwrap();
+        let node = reader::lookup::locate(&new.root, &names).unwrap();
+        assert_eq!(node.chain, taken[taken.len() - node.chain.len()..]);
+    }
+}
+
+/// Fill a card to the last cluster, empty it, and find every cluster again.
+#[test]
+fn fill_and_empty() {
+    for seed in 0..40 {
+        let mut image = random(seed).image;
+        if image.len() > 300_000 {
+            continue;
+        }
+        let mut rng = Rng::new(seed);
+        let mut made = Vec::new();
+        loop {
+            let path = paths::join(b"/", format!("fill{}", made.len()).as_bytes());
+            let data = rng.bytes(1024 * (1 + made.len() % 3));
+            match reader::create(&mut image, &path, &reader::build::usual_time(), &data) {
+                Ok(()) => made.push((path, data)),
+                Err(refusal) => {
+                    assert_eq!(refusal.number, 12);
+                    break;
+                }
+            }
+        }
+        let items = tree(&image).unwrap();
+        for (path, data) in &made {
+            assert_eq!(items[path].bytes().as_ref(), Some(data));
+        }
+        let lines = lines(&image).unwrap();
+        for line in lines.iter().rev().filter(|line| line.path != b"/") {
+            match line.item.is_directory {
+                true => reader::remove_dir(&mut image, &line.path).unwrap(),
+                false => reader::delete(&mut image, &line.path).unwrap(),
+            }
+        }
+        let counts = check(&image).unwrap();
+        assert_eq!(counts.reached, find(&image, b"/").unwrap().length.div_ceil(2) as usize);
+        assert_eq!(tree(&image).unwrap().len(), 1);
+    }
+}
