@@ -1,19 +1,18 @@
 -- The pages of a directory's slots along its chain are those that the code steps through.
-use Prim.Native.Nat.{_%_, _*_, _+_, _-_, _<_, _≤_, _/_, suc, zero, ℕ}
+use Prim.Native.Nat.{_%_, _*_, _+_, _-_, _≤_, _/_, suc, zero, ℕ}
 use mathlib.Core.Bool.{Bool, cond, false, true}
 use mathlib.Core.List.{List, [], _∷_}
 use mathlib.Core.Option.{Option, none, some}
-use mathlib.Core.Path.{_∙_, _≡_, ap, ap₂, refl, sym}
+use mathlib.Core.Path.{_∙_, _≡_, ap, refl, sym}
 use native.Mathlib.Omega.{arith}
 use lib.Dec.{eqb, ltb}
 use lib.ListN.{getD, length, take, drop}
-use borrow.Author.Tests.{eq-eqb, ne-eqb}
 use Rattle.model.specs.Check.{Marks, followChain, mark, prepend}
 use Rattle.model.specs.Entry.{endMark}
 use Rattle.model.specs.Holds.{Chain}
-use Rattle.model.specs.View.{Link, View, linkOf, pagesOf, topBit}
+use Rattle.model.specs.View.{Link, View, pagesOf, topBit}
 use Rattle.reached.specs.Table.{firstLinkOf, tableLinks}
-use Rattle.tree.specs.Slots.{nextOf, slotPages, stepOf}
+use Rattle.tree.specs.Slots.{nextOf, slotPages}
 
 none-some : {A B : Type 0} (a : A) → _≡_ {A = Option A} none (some a) → B
 none-some a e = absurd (let z : _≡_ {A = ℕ} 0 1 = cc in omega arith)

@@ -1,6 +1,6 @@
 -- The counts that the code tells are the check's, by the table that was loaded.
-use Prim.Native.Nat.{_+_, _≤_, ℕ}
-use mathlib.Core.List.{List, _++_}
+use Prim.Native.Nat.{_≤_, ℕ}
+use mathlib.Core.List.{List}
 use mathlib.Core.Path.{_∙_, _≡_, ap, fun-ext, refl, sym}
 use native.Mathlib.Omega.{arith}
 use borrow.Author.Tests.{le-ltb}
@@ -16,17 +16,14 @@ use Rattle.layout.specs.Table.{openCard, tableAfter, tableOf}
 use Rattle.model.proofs.CheckHolds.{check-holds}
 use Rattle.model.proofs.CountLaws.{card-used}
 use Rattle.model.specs.Check.{Marks, Result, andThen, checkTree, fault, ok}
-use Rattle.model.specs.Counts.{freeCount, isOrphan, orphanCount, reachedCount, totalBelow}
-use Rattle.model.specs.Holds.{HoldsCard}
+use Rattle.model.specs.Counts.{isOrphan, totalBelow}
 use Rattle.model.specs.Tree.{Root, reached}
-use Rattle.model.specs.View.{Link, View, mostClusters}
+use Rattle.model.specs.View.{View}
 use Rattle.reached.proofs.CountLaws.{free-count, orphan-count, reached-count}
-use Rattle.reached.specs.Marks.{Keeps}
 use Rattle.reached.specs.Totals.{freeIn, orphansIn}
 use Rattle.reached.specs.declared.Reached.{Reached}
 use Rattle.tree.specs.Counted.{checkOf, countsBy, countsIn, superblockIn}
 use Rattle.tree.specs.declared.Counts.{Counts}
-use Rattle.tree.specs.declared.walk.Verdict.{Verdict}
 use Rattle.tree.specs.declared.walk.Verdict.the-variants as verdict
 use Rattle.tree.specs.Walk.{Passes, Tells, rootMarks}
 

@@ -1,12 +1,12 @@
 -- The filter forgets nothing and has what was put into it, so a name that it does not hold is new.
-use Prim.Native.Nat.{_%_, _*_, _+_, _/_, _<_, _≤_, max, suc, zero, ℕ}
+use Prim.Native.Nat.{_%_, _+_, _/_, _<_, _≤_, max, suc, zero, ℕ}
 use mathlib.Core.Bool.{Bool, cond, false, true}
 use mathlib.Core.List.{List}
-use mathlib.Core.Option.{Option, none, some}
+use mathlib.Core.Option.{Option, some}
 use mathlib.Core.Path.{_∙_, _≡_, ap, refl, sym}
 use native.Mathlib.Decide.{ℕ-discrete}
 use native.Mathlib.Nat.{mod-lt}
-use native.Mathlib.Numerals.{add-one, unary-clauses}
+use native.Mathlib.Numerals.{unary-clauses}
 use native.Mathlib.Omega.{arith}
 use borrow.Author.Tests.{eq-eqb, eqb-true}
 use lib.Arith.{bin-ind}
@@ -20,7 +20,7 @@ use Rattle.model.specs.Names.{Name, sameName}
 use Rattle.model.specs.View.{View}
 use Rattle.tree.specs.Filter.{Knows, hashOf, held, hold, maskOf, wordWith}
 use Rattle.tree.specs.Slots.{clusterAt, liveBefore, liveHit, slotPage}
-use mathlib.Core.Logic.{_⊎_, inl, inr, ⊎-elim}
+use mathlib.Core.Logic.{_⊎_, inl, inr}
 
 three : (x y z : ℕ) → x < 2 → y < 2 → z < 2 → max (max x y) z ≡ max x (max y z)
 three zero y z h k l = simp unary-clauses

@@ -1,6 +1,6 @@
 -- The root, and what the whole walk tells of the check.
-use Prim.Native.Nat.{_*_, _+_, _-_, _/_, _≤_, ℕ}
-use mathlib.Core.Bool.{Bool, _&&_, cond, false, true}
+use Prim.Native.Nat.{_*_, _-_, _≤_, ℕ}
+use mathlib.Core.Bool.{_&&_, false, true}
 use mathlib.Core.List.{List, [], _∷_}
 use mathlib.Core.Option.{Option, none, some}
 use mathlib.Core.Path.{_∙_, _≡_, ap, fun-ext, refl, sym}
@@ -19,7 +19,7 @@ use Rattle.model.specs.View.{Link, View, mostClusters}
 use Rattle.reached.proofs.ChainLaws.{broken-none, sound-some}
 use Rattle.reached.proofs.MarkLaws.{keeps-none}
 use Rattle.reached.specs.Chain.{chainOf}
-use Rattle.reached.specs.Marks.{Keeps, Sound, marksOf, noMarks}
+use Rattle.reached.specs.Marks.{Sound, marksOf, noMarks}
 use Rattle.reached.specs.Table.{tableLinks}
 use Rattle.reached.specs.declared.Chain.{Chain}
 use Rattle.reached.specs.declared.Reached.{Reached}

@@ -1,10 +1,9 @@
 -- One slot of the model's walk is what the code looks at and then enters.
-use Prim.Native.Nat.{_*_, _+_, _-_, _/_, _<_, _≤_, pred, suc, zero, ℕ}
+use Prim.Native.Nat.{_*_, _+_, _-_, _≤_, suc, zero, ℕ}
 use mathlib.Core.Bool.{Bool, _&&_, cond, false, true}
 use mathlib.Core.List.{List, [], _∷_, map}
-use mathlib.Core.Logic.{_⊎_, inl, inr, ⊎-elim}
 use mathlib.Core.Option.{Option, none, some}
-use mathlib.Core.Path.{_∙_, _≡_, ap, ap₂, fun-ext, refl, sym}
+use mathlib.Core.Path.{_∙_, _≡_, ap, fun-ext, refl, sym}
 use native.Mathlib.Omega.{arith}
 use lib.Dec.{eqb, leb, leb→le, ltb, lt→ltb}
 use lib.ListN.{length}
@@ -13,10 +12,9 @@ use Rattle.model.proofs.Equality.{and-r, of-T, to-T}
 use Rattle.model.specs.Check.{Deeper, Marks, Result, andThen, dots, fault, followChain, judgeDots, judgeEntry, marks, ok, sound, walkDirectory, walkSlots}
 use Rattle.model.specs.Entry.{Entry, directoryClusters, fileClusters, isDirectory, isFile, isLive, isSubdirectory}
 use Rattle.model.specs.Names.{Name, goodName}
-use Rattle.model.specs.Tree.{Slot, Tree, chainOf, end, entryPages, hitName, nameHit, node, times}
-use Rattle.model.specs.View.{Link, View, firstLink, pagesOf}
-use Rattle.reached.specs.Table.{firstLinkOf, tableLinks}
-use Rattle.tree.specs.declared.walk.Look.{Look}
+use Rattle.model.specs.Tree.{Slot, Tree, chainOf, end, entryPages, hitName, nameHit, node}
+use Rattle.model.specs.View.{View, firstLink, pagesOf}
+use Rattle.reached.specs.Table.{tableLinks}
 use Rattle.tree.specs.declared.walk.Look.the-variants as look
 use Rattle.tree.specs.Slots.{liveHit, nextOf, slotPages}
 use Rattle.tree.specs.Walk.{entered, insideOf, lookedAt, marksOnly, onChain, pickLook}

@@ -1,7 +1,7 @@
 -- The counts of an image that passes the check add up, as the model's do.
 use Prim.Native.Nat.{_+_, ℕ}
 use mathlib.Core.List.{List}
-use mathlib.Core.Path.{_≡_, ap, refl}
+use mathlib.Core.Path.{_≡_, refl}
 use Rattle.layout.specs.declared.Superblock.{Superblock}
 use Rattle.layout.specs.See.{checkImage, checkedBy, onImage, see}
 use Rattle.layout.specs.Table.{openCard}

@@ -1,26 +1,25 @@
 -- What the walk's answers say, step by step.
-use Prim.Native.Nat.{_%_, _*_, _+_, _-_, _/_, _<_, _≤_, pred, suc, zero, ℕ}
-use mathlib.Core.Bool.{Bool, _&&_, cond, false, true}
+use Prim.Native.Nat.{_*_, _+_, _-_, _/_, _<_, _≤_, pred, suc, zero, ℕ}
+use mathlib.Core.Bool.{Bool, _&&_, false, true}
 use mathlib.Core.List.{List, [], _∷_}
 use mathlib.Core.Option.{Option, none, some}
-use mathlib.Core.Path.{_∙_, _≡_, ap, fun-ext, refl, subst, sym}
+use mathlib.Core.Path.{_∙_, _≡_, ap, fun-ext, refl, sym}
 use native.Mathlib.Numerals.{add-one, sub-one}
 use native.Mathlib.Omega.{arith}
-use borrow.Author.Tests.{le-ltb, lt-ltb}
-use lib.Dec.{eqb, ltb}
+use borrow.Author.Tests.{lt-ltb}
 use lib.ListN.{length}
 use Rattle.layout.specs.declared.Refusal.the-variants as is
 use Rattle.layout.specs.See.{onImage}
 use Rattle.model.proofs.Equality.{tf}
 use Rattle.model.specs.Check.{Marks, Result, andThen, fault, followChain, judgeDot, judgeDots, marks, ok, walkDirectory, walkSlots}
 use Rattle.model.specs.Entry.{Entry, clustersFor, isDirectory}
-use Rattle.model.specs.Names.{Name, dotDotName, dotName, sameName}
+use Rattle.model.specs.Names.{Name, sameName}
 use Rattle.model.specs.Tree.{Tree}
 use Rattle.model.specs.View.{View, mostClusters}
 use Rattle.reached.proofs.ChainLaws.{broken-none, sound-some}
 use Rattle.reached.proofs.MarkLaws.{keeps-self}
 use Rattle.reached.specs.Chain.{chainOf}
-use Rattle.reached.specs.Marks.{Keeps, Sound, marksOf}
+use Rattle.reached.specs.Marks.{Sound, marksOf}
 use Rattle.reached.specs.Table.{firstLinkOf, tableLinks}
 use Rattle.reached.specs.declared.Chain.{Chain}
 use Rattle.reached.specs.declared.Reached.{Reached}

@@ -1,6 +1,6 @@
 // The check of a card: the walk of its directory tree and the counts of its clusters.
 mod filter;
-mod slots;
+pub mod slots;
 mod walk;
 
 use layout::Opened;

@@ -12,7 +12,7 @@ ghost use Rattle.page.specs.Page.{Read};
 ghost use Rattle.tree.specs.Slots.{liveBefore, liveHit, nextOf, slotPage};
 
 // The cluster after c in its chain.
-pub(crate) fn next_of(table: &[u32], c: u32) -> u32
+pub fn next_of(table: &[u32], c: u32) -> u32
     ensures { λ r. ⌜ r ≡ nextOf (now (table .entry)) c ⌝ }
 {
     let i = c as usize;
@@ -27,14 +27,14 @@ pub(crate) fn next_of(table: &[u32], c: u32) -> u32
 }
 
 // The page of slot k, which lies in cluster c.
-pub(crate) fn slot_page(c: u32, k: u32) -> usize
+pub fn slot_page(c: u32, k: u32) -> usize
     ensures { λ r. ⌜ (r ≡ slotPage c k) × (r < 8589934592) ⌝ }
 {
     c as usize * 2 + (k % 2) as usize
 }
 
 // How many slots a directory of that many entries has from 2 on.
-pub(crate) fn slots_of(length: u32) -> u32
+pub fn slots_of(length: u32) -> u32
     ensures { λ r. ⌜ r ≡ length - 2 ⌝ }
 {
     if length < 2 {
@@ -44,17 +44,13 @@ pub(crate) fn slots_of(length: u32) -> u32
 }
 
 // A page of the allocatable clusters, `count` of them from cluster `offset` of the image on.
-pub(crate) fn read_slot(
-    image: &[u8],
-    offset: u32,
-    count: usize,
-    page: usize,
-    out: &mut [u8; 512],
-) -> bool
-    requires { ⌜ page < 8589934592 ⌝ }
+pub fn read_slot(image: &[u8], offset: u32, count: usize, page: usize, out: &mut [u8; 512]) -> bool
     ensures { λ r. ⌜ Read (pageIn offset count (now (image .entry)) page) (now (out .entry)) r (now (out .exit)) ⌝ }
 {
     if count <= page / 2 {
+        return false;
+    }
+    if image.len() / 528 <= page {
         return false;
     }
     read_page(image, offset as usize * 2 + page, out)

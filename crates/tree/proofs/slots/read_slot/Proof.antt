@@ -1,14 +1,16 @@
 -- `tree::slots::read_slot` meets its contract: a page of the view is the image's page.
-use mathlib.Core.Bool.{Bool, false}
+use mathlib.Core.Bool.{Bool, cond, false, true}
 use mathlib.Core.List.{List}
 use mathlib.Core.Option.{none}
-use mathlib.Core.Path.{_≡_, refl}
+use mathlib.Core.Path.{_∙_, _≡_, refl}
 use Prim.Native.Nat.{_*_, _+_, _/_, _<_, _≤_, ℕ}
 use native.Mathlib.Omega.{arith}
 use borrow.Author.Needs.{needs}
 use borrow.Author.Tests.{le-ltb, lt-ltb}
+use lib.Dec.{ltb}
+use lib.ListN.{length}
 use Rattle.layout.specs.See.{pageIn}
-use Rattle.page.specs.Page.{Read, pageAt}
+use Rattle.page.specs.Page.{Read, page-is, pageAt}
 use Rattle.tree.proofs.slots.read_slot.Statement.{statement}
 use Rattle.tree.proofs.slots.read_slot.Tie as tie
 
@@ -22,9 +24,24 @@ inside : (offset count : ℕ) (image : List ℕ) (page p : ℕ) (out after : Lis
 unfolding pageIn
 inside offset count image page p out after r h e k = rw (lt-ltb page (2 * count) (omega arith), ← e) k
 
+-- a page past the image's end is none, all the more where it is counted from cluster `offset` on
+past : (offset count : ℕ) (image : List ℕ) (page : ℕ) (out : List ℕ) → length image / 528 ≤ page → Read (pageIn offset count image page) out false out
+unfolding pageIn
+past offset count image page out h =
+    let e : pageAt image (2 * offset + page) ≡ none = page-is image (2 * offset + page) ∙ rw (le-ltb (2 * offset + page) (length image / 528) (omega arith)) in
+    rw e (go (ltb page (2 * count)))
+  where
+    go : (b : Bool) → Read (cond b none none) out false out
+    go true = record { readable = refl; buffer = refl }
+    go false = record { readable = refl; buffer = refl }
+
 returns : tie.Need-returns
 returns c =
     outside (c .before .before .args .offset) (c .before .before .args .count) (c .before .before .args .image .now) (c .before .before .args .page) (c .before .before .args .out .now) (c .if1 .taken)
+
+returns-2 : tie.Need-returns-2
+returns-2 c =
+    past (c .before .before .before .args .offset) (c .before .before .before .args .count) (c .before .before .before .args .image .now) (c .before .before .before .args .page) (c .before .before .before .args .out .now) (c .if2 .taken)
 
 mul-read-page : tie.Need-mul-read-page
 mul-read-page c = search needs
@@ -35,10 +52,10 @@ add-read-page c = search needs
 read-page-requires : tie.Need-read-page-requires
 read-page-requires c κs = search needs
 
-returns-2 : tie.Need-returns-2
-returns-2 c =
-    inside (c .before .before .before .before .args .offset) (c .before .before .before .before .args .count) (c .before .before .before .before .args .image .now) (c .before .before .before .before .args .page) (c .before .before .before .before .args .offset * 2 + c .before .before .before .before .args .page) (c .before .before .before .before .args .out .now) (c .read-page .last .1 .1 .0) (c .read-page .result) (omega arith) (omega arith) (c .read-page .ensures)
+returns-3 : tie.Need-returns-3
+returns-3 c =
+    inside (c .before .before .before .before .before .args .offset) (c .before .before .before .before .before .args .count) (c .before .before .before .before .before .args .image .now) (c .before .before .before .before .before .args .page) (c .before .before .before .before .before .args .offset * 2 + c .before .before .before .before .before .args .page) (c .before .before .before .before .before .args .out .now) (c .read-page .last .1 .1 .0) (c .read-page .result) (omega arith) (omega arith) (c .read-page .ensures)
 
 pub read-slot-spec : {M : Type 1} → statement M
 read-slot-spec =
-    tie.close (tie.spec returns mul-read-page add-read-page read-page-requires returns-2)
+    tie.close (tie.spec returns returns-2 mul-read-page add-read-page read-page-requires returns-3)

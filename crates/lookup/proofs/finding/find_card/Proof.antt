@@ -1,0 +1,79 @@
+-- `find_card` answers the entry in the page to which the path leads; the laws of a call say what was asked there.
+use Rattle.layout.specs.See.{viewBy}
+use Rattle.model.specs.Entry.{entryOf}
+use Rattle.layout.specs.declared.Refusal.the-variants.{Absent, BadPath, WrongKind}
+use Rattle.lookup.specs.Find.{foundEntry}
+use Rattle.lookup.proofs.AnswerLaws.{find-at, find-refused}
+use Rattle.lookup.proofs.CallLaws.{call-absent, call-at, call-kind, call-malformed}
+use borrow.Author.Needs.{needs}
+use Rattle.lookup.proofs.finding.find_card.Statement.{statement}
+use Rattle.lookup.proofs.finding.find_card.Tie as tie
+
+parse-path-requires : tie.Need-parse-path-requires
+parse-path-requires c κs = search needs
+
+enum-told : tie.Need-enum-told
+enum-told c = search needs
+
+no-entry-requires : tie.Need-no-entry-requires
+no-entry-requires c κs = search needs
+
+enum-known-parsed : tie.Need-enum-known-parsed
+enum-known-parsed c = search needs
+
+descend-requires : tie.Need-descend-requires
+descend-requires c κs = search needs
+
+enum-told-2 : tie.Need-enum-told-2
+enum-told-2 c = search needs
+
+no-entry-requires-2 : tie.Need-no-entry-requires-2
+no-entry-requires-2 c κs = search needs
+
+enum-told-3 : tie.Need-enum-told-3
+enum-told-3 c = search needs
+
+no-entry-requires-3 : tie.Need-no-entry-requires-3
+no-entry-requires-3 c κs = search needs
+
+enum-told-4 : tie.Need-enum-told-4
+enum-told-4 c = search needs
+
+entry-of-requires : tie.Need-entry-of-requires
+entry-of-requires c κs = search needs
+
+returns : tie.Need-returns
+returns c =
+    λ root card. find-refused _ BadPath _ (call-malformed foundEntry root (c .before .before .before .before .before .before .before .args .path .now) _ (c .before .before .before .parse-path .ensures) (c .before .enum-told .given .1)) (c .no-entry .ensures)
+
+returns-2 : tie.Need-returns-2
+returns-2 c =
+    λ root card. find-refused _ Absent _ (call-absent foundEntry root (c .before .before .before .before .before .before .before .before .before .before .before .args .path .now) (viewBy (c .before .before .before .before .before .before .before .before .before .before .before .args .offset) (c .before .before .before .before .before .before .before .before .before .before .before .args .table .now) (c .before .before .before .before .before .before .before .before .before .before .before .args .image .now)) card _ _ (c .before .before .before .before .before .before .before .parse-path .ensures) (c .before .before .before .before .before .parsed .given .1) _ _ (c .before .before .before .descend .ensures) (c .before .enum-told2 .given .1)) (c .no-entry2 .ensures)
+
+returns-3 : tie.Need-returns-3
+returns-3 c =
+    λ root card. find-refused _ WrongKind _ (call-kind foundEntry root (c .before .before .before .before .before .before .before .before .before .before .before .args .path .now) (viewBy (c .before .before .before .before .before .before .before .before .before .before .before .args .offset) (c .before .before .before .before .before .before .before .before .before .before .before .args .table .now) (c .before .before .before .before .before .before .before .before .before .before .before .args .image .now)) card _ _ (c .before .before .before .before .before .before .before .parse-path .ensures) (c .before .before .before .before .before .parsed .given .1) _ _ (c .before .before .before .descend .ensures) (c .before .enum-told3 .given .1)) (c .no-entry3 .ensures)
+
+returns-4 : tie.Need-returns-4
+returns-4 c =
+    λ root card. find-at _ (viewBy (c .before .before .before .before .before .before .before .before .before .before .before .before .before .args .offset) (c .before .before .before .before .before .before .before .before .before .before .before .before .before .args .table .now) (c .before .before .before .before .before .before .before .before .before .before .before .before .before .args .image .now)) (c .before .before .before .enum-told4 .given .0 .0) (entryOf (c .before .before .before .before .before .descend .result .page)) _ (call-at foundEntry root (c .before .before .before .before .before .before .before .before .before .before .before .before .before .args .path .now) (viewBy (c .before .before .before .before .before .before .before .before .before .before .before .before .before .args .offset) (c .before .before .before .before .before .before .before .before .before .before .before .before .before .args .table .now) (c .before .before .before .before .before .before .before .before .before .before .before .before .before .args .image .now)) card _ _ (c .before .before .before .before .before .before .before .before .before .parse-path .ensures) (c .before .before .before .before .before .before .before .parsed .given .1) _ _ _ (c .before .before .before .before .before .descend .ensures) (c .before .before .before .enum-told4 .given .1)) (c .entry-of .ensures)
+
+pub find-card-spec : {M : Type 1} → statement M
+find-card-spec =
+    tie.close
+    (tie.spec
+    parse-path-requires
+    enum-told
+    no-entry-requires
+    enum-known-parsed
+    descend-requires
+    enum-told-2
+    no-entry-requires-2
+    enum-told-3
+    no-entry-requires-3
+    enum-told-4
+    entry-of-requires
+    returns
+    returns-2
+    returns-3
+    returns-4)

@@ -1,0 +1,156 @@
+// Along the pages of a directory or a file: the first one that a test takes.
+use fields::kinds::is_live;
+use fields::names::is_named;
+use tree::slots::next_of;
+use tree::slots::read_slot;
+use tree::slots::slot_page;
+ghost use mathlib.Core.Path.{_≡_};
+ghost use Prim.Native.Nat.{_-_, _<_};
+ghost use Rattle.lookup.specs.declared.along.Place.the-variants.{Nowhere};
+ghost use Rattle.layout.specs.See.{viewBy};
+ghost use Rattle.tree.specs.Slots.{clusterAt, slotPages};
+ghost use Rattle.lookup.specs.Descend.{Within, bearing, bears, livingFrom, scan, unread};
+
+// A slot of a directory, counted from slot 2, and its page.
+pub(crate) enum Place {
+    At { slot: u32, page: usize },
+    Nowhere,
+}
+
+// Whether a live entry with this name stands in the page.
+fn named_at(image: &[u8], table: &[u32], offset: u32, page: usize, name: &[u8]) -> bool
+    requires { ⌜ page < 8589934592 ⌝ }
+    ensures { λ r. ⌜ r ≡ bears (now (name .entry)) ((viewBy offset (now (table .entry)) (now (image .entry))) .entry page) ⌝ }
+{
+    let mut d = [0u8; 512];
+    if !read_slot(image, offset, table.len(), page, &mut d) {
+        return false;
+    }
+    is_live(&d) & is_named(&d, name)
+}
+
+// The first of `count` slots, which begin in cluster `start`, whose live entry has this name.
+pub(crate) fn find_name(
+    image: &[u8],
+    table: &[u32],
+    offset: u32,
+    start: u32,
+    count: u32,
+    name: &[u8],
+) -> Place
+    ensures { λ r. ⌜ (r ≡ scan (bearing (viewBy offset (now (table .entry)) (now (image .entry))) (now (name .entry))) (slotPages (now (table .entry)) start 0 count) 0) × Within count r ⌝ }
+{
+    let mut c = start;
+    let mut k: u32 = 0;
+    while k < count {
+        let page = slot_page(c, k);
+        if named_at(image, table, offset, page, name) {
+            return Place::At {
+                slot: k,
+                page: page,
+            };
+        }
+        if k % 2 == 1 {
+            c = next_of(table, c);
+        }
+        k += 1;
+    }
+    Place::Nowhere
+}
+
+// Whether slot k is `from` or a later one and a live entry stands in its page.
+fn live_at(image: &[u8], table: &[u32], offset: u32, from: u32, k: u32, page: usize) -> bool
+    requires { ⌜ page < 8589934592 ⌝ }
+    ensures { λ r. ⌜ r ≡ livingFrom (viewBy offset (now (table .entry)) (now (image .entry))) from k page ⌝ }
+{
+    if k < from {
+        return false;
+    }
+    let mut d = [0u8; 512];
+    if !read_slot(image, offset, table.len(), page, &mut d) {
+        return false;
+    }
+    is_live(&d)
+}
+
+// The first of `count` slots, which begin in cluster `start`, that is `from` or a later one and has a live entry.
+pub(crate) fn first_live(
+    image: &[u8],
+    table: &[u32],
+    offset: u32,
+    start: u32,
+    count: u32,
+    from: u32,
+) -> Place
+    ensures { λ r. ⌜ (r ≡ scan (livingFrom (viewBy offset (now (table .entry)) (now (image .entry))) from) (slotPages (now (table .entry)) start 0 count) 0) × Within count r ⌝ }
+{
+    let mut c = start;
+    let mut k: u32 = 0;
+    while k < count {
+        let page = slot_page(c, k);
+        if live_at(image, table, offset, from, k, page) {
+            return Place::At {
+                slot: k,
+                page: page,
+            };
+        }
+        if k % 2 == 1 {
+            c = next_of(table, c);
+        }
+        k += 1;
+    }
+    Place::Nowhere
+}
+
+// The cluster of half cluster `count` of the chain that begins with cluster `first`.
+pub(crate) fn cluster_at(table: &[u32], first: u32, count: u32) -> u32
+    ensures { λ r. ⌜ r ≡ clusterAt (now (table .entry)) first count ⌝ }
+{
+    let mut c = first;
+    let mut k: u32 = 0;
+    while k < count {
+        if k % 2 == 1 {
+            c = next_of(table, c);
+        }
+        k += 1;
+    }
+    c
+}
+
+// Whether the page is unreadable.
+fn unreadable_at(image: &[u8], table: &[u32], offset: u32, k: u32, page: usize) -> bool
+    requires { ⌜ page < 8589934592 ⌝ }
+    ensures { λ r. ⌜ r ≡ unread (viewBy offset (now (table .entry)) (now (image .entry))) k page ⌝ }
+{
+    let mut d = [0u8; 512];
+    !read_slot(image, offset, table.len(), page, &mut d)
+}
+
+// The first unreadable one of the pages `low` to `high` - 1 of a file; page `low` lies in cluster `start`.
+pub(crate) fn first_unreadable(
+    image: &[u8],
+    table: &[u32],
+    offset: u32,
+    start: u32,
+    low: u32,
+    high: u32,
+) -> Place
+    ensures { λ r. ⌜ (r ≡ scan (unread (viewBy offset (now (table .entry)) (now (image .entry)))) (slotPages (now (table .entry)) start low (high - low)) low) × Within high r ⌝ }
+{
+    let mut c = start;
+    let mut k = low;
+    while k < high {
+        let page = slot_page(c, k);
+        if unreadable_at(image, table, offset, k, page) {
+            return Place::At {
+                slot: k,
+                page: page,
+            };
+        }
+        if k % 2 == 1 {
+            c = next_of(table, c);
+        }
+        k += 1;
+    }
+    Place::Nowhere
+}

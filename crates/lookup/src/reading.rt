@@ -1,0 +1,219 @@
+// The bytes of a file.
+use crate::along::Place;
+use crate::along::cluster_at;
+use crate::along::first_unreadable;
+use crate::way::Arrival;
+use crate::way::descend;
+use fields::kinds::is_directory;
+use fields::numbers::word_at;
+use fields::paths::Parsed;
+use fields::paths::parse_path;
+use layout::Opened;
+use layout::Refusal;
+use model::MOST_CLUSTERS;
+use tree::open_checked;
+use tree::slots::next_of;
+use tree::slots::read_slot;
+use tree::slots::slot_page;
+ghost use mathlib.Core.Path.{_≡_};
+ghost use Prim.Native.Nat.{_+_, _-_, _*_, _<_, _≤_};
+ghost use lib.ListN.{length, take};
+ghost use lib.Seq.{sets};
+ghost use Rattle.model.specs.Bytes.{slice};
+ghost use Rattle.lookup.specs.declared.along.Place.the-variants.{Nowhere};
+ghost use Rattle.fields.specs.PathBytes.{pathOf};
+ghost use Rattle.layout.specs.See.{onImage, viewBy};
+ghost use mathlib.Core.Bool.{cond};
+ghost use lib.Dec.{leb};
+ghost use Rattle.model.specs.Entry.{entryOf};
+ghost use Rattle.model.specs.Holds.{HoldsCard};
+ghost use Rattle.model.specs.Tree.{Root, Slot, Tree};
+ghost use Rattle.lookup.specs.Answers.{TellsRead};
+ghost use Rattle.lookup.specs.Paths.{withPath};
+ghost use Rattle.lookup.specs.Read.{readFrom, readIn, readOf};
+ghost use Rattle.tree.specs.Slots.{slotPages};
+ghost use Rattle.lookup.specs.Descend.{Piece, Stands, joined, pagesFor, scan, unread};
+
+// How many bytes a read copied.
+pub enum ReadOutcome {
+    Bytes(usize),
+    Refused(Refusal),
+}
+
+// `count` bytes of a page, from byte `from` on, put at a place of the buffer.
+fn put_part(out: &mut [u8], at: usize, page: &[u8], from: usize, count: usize)
+    requires { ⌜ (at + count ≤ length (now out)) × (from + count ≤ length (now page)) ⌝ }
+    ensures { λ _. ⌜ now (out .exit) ≡ sets (now (out .entry)) at (slice (now (page .entry)) from count) ⌝ }
+{
+    let mut i: usize = 0;
+    while i < count {
+        out[at + i] = page[from + i];
+        i += 1;
+    }
+}
+
+// The same of a page by its array.
+fn put_page_part(out: &mut [u8], at: usize, page: &[u8; 512], from: usize, count: usize)
+    requires { ⌜ (at + count ≤ length (now out)) × (from + count ≤ 512) ⌝ }
+    ensures { λ _. ⌜ now (out .exit) ≡ sets (now (out .entry)) at (slice (now (page .entry)) from count) ⌝ }
+{
+    put_part(out, at, page, from, count)
+}
+
+// How many bytes of a page are copied: from byte `skip` on, at most as many as are left.
+fn piece_of(skip: usize, left: usize) -> usize
+    requires { ⌜ (skip < 512) × (0 < left) ⌝ }
+    ensures { λ r. ⌜ Piece skip left r ⌝ }
+{
+    if left <= 512 - skip {
+        return left;
+    }
+    512 - skip
+}
+
+// Copies bytes of a file's readable pages from page `low` on, which lies in cluster `start`, beginning at byte `skip` of it.
+fn copy_pages(
+    image: &[u8],
+    table: &[u32],
+    offset: u32,
+    start: u32,
+    low: u32,
+    skip: usize,
+    count: usize,
+    out: &mut [u8],
+)
+    requires { ⌜ (skip < 512) × (count ≤ length (now out)) × (low + pagesFor skip count < 4294967296) × (scan (unread (viewBy offset (now table) (now image))) (slotPages (now table) start low (pagesFor skip count)) low ≡ Nowhere) ⌝ }
+    ensures { λ _. ⌜ now (out .exit) ≡ sets (now (out .entry)) 0 (slice (joined (viewBy offset (now (table .entry)) (now (image .entry))) (slotPages (now (table .entry)) start low (pagesFor skip count))) skip count) ⌝ }
+{
+    let mut c = start;
+    let mut k = low;
+    let mut from = skip;
+    let mut done: usize = 0;
+    while done < count {
+        let mut d = [0u8; 512];
+        read_slot(image, offset, table.len(), slot_page(c, k), &mut d);
+        let n = piece_of(from, count - done);
+        put_page_part(out, done, &d, from, n);
+        done += n;
+        from = 0;
+        if k % 2 == 1 {
+            c = next_of(table, c);
+        }
+        k += 1;
+    }
+}
+
+fn least(a: usize, b: usize) -> usize
+    ensures { λ r. ⌜ r ≡ cond (leb a b) a b ⌝ }
+{
+    if a <= b {
+        return a;
+    }
+    b
+}
+
+// A read of the file whose entry is in a page and whose chain begins with cluster `first`. All needed pages are judged before the first byte is copied.
+fn read_in(
+    image: &[u8],
+    table: &[u32],
+    offset: u32,
+    first: u32,
+    page: &[u8; 512],
+    from: usize,
+    out: &mut [u8],
+) -> ReadOutcome
+    ensures { λ r. ⌜ ((h : Slot) (s : Tree) → Stands (viewBy offset (now (table .entry)) (now (image .entry))) first (entryOf (now (page .entry))) h s → TellsRead (onImage offset (readFrom from (length (now (out .entry))) h s)) r (now (out .entry)) (now (out .exit))) ⌝ }
+{
+    if is_directory(page) {
+        return ReadOutcome::Refused(Refusal::WrongKind);
+    }
+    let size = word_at(page, 0x04) as usize;
+    if size < from {
+        return ReadOutcome::Refused(Refusal::BadOffset);
+    }
+    let count = least(out.len(), size - from);
+    if count == 0 {
+        return ReadOutcome::Bytes(0);
+    }
+    let low = (from / 512) as u32;
+    let high = ((from + count + 511) / 512) as u32;
+    let start = cluster_at(table, first, low);
+    let bad = first_unreadable(image, table, offset, start, low, high);
+    match bad {
+        Place::At { slot: _, page: at } => ReadOutcome::Refused(Refusal::UnreadablePage(
+            offset as usize * 2 + at,
+        )),
+        Place::Nowhere => {
+            copy_pages(image, table, offset, start, low, from % 512, count, out);
+            ReadOutcome::Bytes(count)
+        }
+    }
+}
+
+// A read of the file at a path of a card that the check accepts.
+fn read_card(
+    image: &[u8],
+    table: &[u32],
+    offset: u32,
+    path: &[u8],
+    from: usize,
+    out: &mut [u8],
+) -> ReadOutcome
+    ensures { λ r. ⌜ ((root : Root) → HoldsCard (viewBy offset (now (table .entry)) (now (image .entry))) root → TellsRead (onImage offset (withPath (pathOf (now (path .entry))) (λ q. readIn root q from (length (now (out .entry)))))) r (now (out .entry)) (now (out .exit))) ⌝ }
+{
+    let parsed = parse_path(path);
+    match parsed {
+        Parsed::Malformed => ReadOutcome::Refused(Refusal::BadPath),
+        Parsed::Names(count) => {
+            let a = descend(image, table, offset, path, count);
+            let arrival = a.arrival;
+            match arrival {
+                Arrival::Absent => ReadOutcome::Refused(Refusal::Absent),
+                Arrival::WrongKind => ReadOutcome::Refused(Refusal::WrongKind),
+                Arrival::At(first) => {
+                    let page = a.page;
+                    read_in(image, table, offset, first, &page, from, out)
+                }
+            }
+        }
+    }
+}
+
+fn read_words(
+    image: &[u8],
+    table: &[u32],
+    end: usize,
+    offset: u32,
+    path: &[u8],
+    from: usize,
+    out: &mut [u8],
+) -> ReadOutcome
+    requires { ⌜ end ≤ length (now table) ⌝ }
+    ensures { λ r. ⌜ ((root : Root) → HoldsCard (viewBy offset (take end (now (table .entry))) (now (image .entry))) root → TellsRead (onImage offset (withPath (pathOf (now (path .entry))) (λ q. readIn root q from (length (now (out .entry)))))) r (now (out .entry)) (now (out .exit))) ⌝ }
+{
+    read_card(image, &table[..end], offset, path, from, out)
+}
+
+fn read_with(
+    image: &[u8],
+    table: &mut [u32; MOST_CLUSTERS],
+    path: &[u8],
+    from: usize,
+    out: &mut [u8],
+) -> ReadOutcome
+    ensures { λ r. ⌜ TellsRead (readOf (now (image .entry)) (now (path .entry)) from (length (now (out .entry)))) r (now (out .entry)) (now (out .exit)) ⌝ }
+{
+    let opened = open_checked(image, table);
+    match opened {
+        Opened::Refused(refusal) => ReadOutcome::Refused(refusal),
+        Opened::Card(s) => read_words(image, table, s.end as usize, s.offset, path, from, out),
+    }
+}
+
+// Copies bytes of the file at a path, from the offset `from` until the file or the buffer ends, and tells how many.
+pub fn read(image: &[u8], path: &[u8], from: usize, out: &mut [u8]) -> ReadOutcome
+    ensures { λ r. ⌜ TellsRead (readOf (now (image .entry)) (now (path .entry)) from (length (now (out .entry)))) r (now (out .entry)) (now (out .exit)) ⌝ }
+{
+    let mut table = [0u32; MOST_CLUSTERS];
+    read_with(image, &mut table, path, from, out)
+}
