@@ -85,7 +85,7 @@ fn find_card(image: &[u8], table: &[u32], offset: u32, path: &[u8]) -> FoundEntr
     }
 }
 
-// The same three by the first `end` words of a table.
+// The same by the first `end` words of a table.
 fn find_words(image: &[u8], table: &[u32], end: usize, offset: u32, path: &[u8]) -> FoundEntry
     requires { ⌜ end ≤ length (now table) ⌝ }
     ensures { λ r. ⌜ ((root : Root) → HoldsCard (viewBy offset (take end (now (table .entry))) (now (image .entry))) root → TellsEntry (withPath (pathOf (now (path .entry))) (findIn root)) r) ⌝ }
@@ -93,6 +93,7 @@ fn find_words(image: &[u8], table: &[u32], end: usize, offset: u32, path: &[u8])
     find_card(image, &table[..end], offset, path)
 }
 
+// The same of any image, with room for its table.
 fn find_with(image: &[u8], table: &mut [u32; MOST_CLUSTERS], path: &[u8]) -> FoundEntry
     ensures { λ r. ⌜ TellsEntry (findOf (now (image .entry)) (now (path .entry))) r ⌝ }
 {

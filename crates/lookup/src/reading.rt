@@ -179,6 +179,7 @@ fn read_card(
     }
 }
 
+// The same by the first `end` words of a table.
 fn read_words(
     image: &[u8],
     table: &[u32],
@@ -194,6 +195,7 @@ fn read_words(
     read_card(image, &table[..end], offset, path, from, out)
 }
 
+// The same of any image, with room for its table.
 fn read_with(
     image: &[u8],
     table: &mut [u32; MOST_CLUSTERS],

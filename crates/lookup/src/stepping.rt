@@ -119,6 +119,7 @@ fn step_card(image: &[u8], table: &[u32], offset: u32, path: &[u8], slot: u32) -
     }
 }
 
+// The same by the first `end` words of a table.
 fn step_words(
     image: &[u8],
     table: &[u32],
@@ -133,6 +134,7 @@ fn step_words(
     step_card(image, &table[..end], offset, path, slot)
 }
 
+// The same of any image, with room for its table.
 fn step_with(image: &[u8], table: &mut [u32; MOST_CLUSTERS], path: &[u8], slot: u32) -> SteppedEntry
     ensures { λ r. ⌜ TellsStep (stepOf (now (image .entry)) (now (path .entry)) slot) r ⌝ }
 {
