@@ -24,7 +24,7 @@ use std::fmt;
 pub use change::{create, delete, make_dir, remove_dir, replace, Change};
 pub use content::{tree, Item, Piece, Tree};
 pub use entry::Entry;
-pub use listing::{list, program};
+pub use listing::{list, program, tree_text};
 pub use lookup::{find, read, step};
 pub use tree::{check, Counts};
 

@@ -1,7 +1,8 @@
-//! The listing: the counts, then every entry in tree order.
+//! The listing: the counts, then every entry in tree order; and the tree as text, a line a path.
 
-use crate::content::visit;
+use crate::content::{lines, visit};
 use crate::tree::Checked;
+use crate::{sha256, Refusal};
 
 /// Most bytes the listing program reads.
 pub const PROGRAM_LIMIT: usize = 59_136;
@@ -33,4 +34,30 @@ pub fn program(input: &[u8]) -> String {
         return "refused 1\n".to_string();
     }
     list(input)
+}
+
+/// One line a path: kind, mode, attribute, times, length, first cluster, path, sum of a file's bytes.
+pub fn tree_text(image: &[u8]) -> Result<String, Refusal> {
+    let hex = |bytes: &[u8]| bytes.iter().map(|byte| format!("{byte:02x}")).collect::<String>();
+    let mut text = String::new();
+    for line in lines(image)? {
+        let entry = &line.entry;
+        let kind = if line.item.is_directory { 'd' } else { 'f' };
+        let path = String::from_utf8_lossy(&line.path);
+        text += &format!(
+            "{kind} {:08x} {:08x} {} {} {} {} {path}",
+            entry.mode,
+            entry.attribute,
+            hex(&entry.created),
+            hex(&entry.modified),
+            entry.length,
+            entry.first_cluster
+        );
+        if !line.item.is_directory {
+            text += " ";
+            text += &line.item.bytes().map_or("unreadable".to_string(), |bytes| sha256::hex(&bytes));
+        }
+        text += "\n";
+    }
+    Ok(text)
 }

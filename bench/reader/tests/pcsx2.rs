@@ -3,42 +3,18 @@
 use std::process::Command;
 
 use reader::content::lines;
-use reader::{check, sha256};
+use reader::{check, tree_text};
 
 fn data(name: &str) -> String {
     format!("{}/testdata/{name}", env!("CARGO_MANIFEST_DIR"))
 }
 
-fn hex(bytes: &[u8]) -> String {
-    bytes.iter().map(|byte| format!("{byte:02x}")).collect()
-}
-
 fn compare(image: &[u8], recorded: &str) {
     let recorded: Vec<&str> = recorded.lines().filter(|line| !line.starts_with('#')).collect();
-    let ours: Vec<String> = lines(image)
-        .unwrap()
-        .iter()
-        .map(|line| {
-            let entry = &line.entry;
-            let kind = if line.item.is_directory { 'd' } else { 'f' };
-            let path = String::from_utf8(line.path.clone()).unwrap();
-            let fields = format!(
-                "{kind} {:08x} {:08x} {} {} {} {} {path}",
-                entry.mode,
-                entry.attribute,
-                hex(&entry.created),
-                hex(&entry.modified),
-                entry.length,
-                entry.first_cluster
-            );
-            match line.item.is_directory {
-                true => fields,
-                false => format!("{fields} {}", sha256::hex(&line.item.bytes().unwrap())),
-            }
-        })
-        .collect();
+    let text = tree_text(image).unwrap();
+    let ours: Vec<&str> = text.lines().collect();
     assert_eq!(ours.len(), recorded.len());
-    for (ours, recorded) in ours.iter().zip(recorded) {
+    for (ours, recorded) in ours.iter().zip(&recorded) {
         assert_eq!(ours, recorded);
     }
 }

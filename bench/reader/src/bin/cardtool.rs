@@ -3,7 +3,7 @@
 use std::process::ExitCode;
 
 use reader::build::{self, random};
-use reader::{content, list, sha256, Refusal};
+use reader::{list, tree_text, Refusal};
 
 const USAGE: &str = "usage: cardtool check FILE | list FILE | tree FILE | bench OUT | standard OUT | random SEED OUT";
 
@@ -30,7 +30,7 @@ fn run(arguments: &[&str]) -> Result<String, String> {
     match *arguments {
         ["check", file] => check(&load(file)?).map_err(|refusal| refusal.to_string()),
         ["list", file] => Ok(list(&load(file)?)),
-        ["tree", file] => tree(&load(file)?).map_err(|refusal| refusal.to_string()),
+        ["tree", file] => tree_text(&load(file)?).map_err(|refusal| refusal.to_string()),
         ["bench", out] => store(out, build::bench()),
         ["standard", out] => store(out, build::standard()),
         ["random", seed, out] => {
@@ -47,30 +47,4 @@ fn check(image: &[u8]) -> Result<String, Refusal> {
         "card {}\nfree {}\nreached {}\norphaned {}\n",
         counts.clusters, counts.free, counts.reached, counts.orphaned
     ))
-}
-
-/// One line a path: kind, mode, attribute, times, length, first cluster, path, sum of a file's bytes.
-fn tree(image: &[u8]) -> Result<String, Refusal> {
-    let hex = |bytes: &[u8]| bytes.iter().map(|byte| format!("{byte:02x}")).collect::<String>();
-    let mut text = String::new();
-    for line in content::lines(image)? {
-        let entry = &line.entry;
-        let kind = if line.item.is_directory { 'd' } else { 'f' };
-        let path = String::from_utf8_lossy(&line.path);
-        text += &format!(
-            "{kind} {:08x} {:08x} {} {} {} {} {path}",
-            entry.mode,
-            entry.attribute,
-            hex(&entry.created),
-            hex(&entry.modified),
-            entry.length,
-            entry.first_cluster
-        );
-        if !line.item.is_directory {
-            text += " ";
-            text += &line.item.bytes().map_or("unreadable".to_string(), |bytes| sha256::hex(&bytes));
-        }
-        text += "\n";
-    }
-    Ok(text)
 }
