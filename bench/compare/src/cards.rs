@@ -23,16 +23,53 @@ pub fn bench_sample() -> Vec<u8> {
     std::fs::read(testdata("bench-sample.ps2")).expect("the sample is there")
 }
 
+/// What PCSX2 read at one path of a card.
+#[derive(Clone, Debug)]
+pub struct Recorded {
+    pub path: String,
+    pub mode: u16,
+    pub attribute: u32,
+    pub created: [u8; 8],
+    pub modified: [u8; 8],
+    pub length: u32,
+    pub first_cluster: u32,
+    /// The SHA-256 of a file's bytes; a directory has none.
+    pub sum: Option<String>,
+}
+
+impl Recorded {
+    fn parse(line: &str) -> Recorded {
+        let fields: Vec<&str> = line.split(' ').collect();
+        let hex = |text| u32::from_str_radix(text, 16).expect("a word in hexadecimal");
+        let time = |text| u64::from_str_radix(text, 16).expect("eight bytes in hexadecimal").to_be_bytes();
+        Recorded {
+            path: fields[7].into(),
+            mode: hex(fields[1]).try_into().expect("a half"),
+            attribute: hex(fields[2]),
+            created: time(fields[3]),
+            modified: time(fields[4]),
+            length: fields[5].parse().expect("a length"),
+            first_cluster: fields[6].parse().expect("a cluster"),
+            sum: fields.get(8).map(|sum| sum.to_string()),
+        }
+    }
+
+    pub fn is_directory(&self) -> bool {
+        self.sum.is_none()
+    }
+}
+
+/// What PCSX2 read from a card, in its order: `/`, then slot order, a directory before its inside.
+pub fn recorded(tree: &str) -> Vec<Recorded> {
+    let text = std::fs::read_to_string(testdata(tree)).expect("the tree is there");
+    text.lines().filter(|line| !line.starts_with('#')).map(Recorded::parse).collect()
+}
+
 /// The counts of a card by what PCSX2 read from it: each line's length gives its clusters.
 /// PCSX2 left no orphans, so what isn't reached of `alloc_end` clusters is free.
 pub fn counts_by_tree(tree: &str, clusters: usize, alloc_end: usize) -> Counts {
-    let text = std::fs::read_to_string(testdata(tree)).expect("the tree is there");
-    let needs = |line: &str| -> usize {
-        let fields: Vec<&str> = line.split(' ').collect();
-        let unit = if fields[0] == "d" { 2 } else { 1024 };
-        fields[5].parse::<usize>().expect("a length").div_ceil(unit)
-    };
-    let reached = text.lines().filter(|line| !line.starts_with('#')).map(needs).sum();
+    let unit = |line: &Recorded| if line.is_directory() { 2 } else { 1024 };
+    let reached = recorded(tree).iter().map(|line| (line.length as usize).div_ceil(unit(line))).sum();
     Counts { clusters, free: alloc_end - reached, reached, orphaned: 0 }
 }
 

@@ -1,9 +1,18 @@
-//! The proved library's check, called through its C interface and answered in the reader's types.
+//! The proved library, called through its C interface and answered in the reader's types.
+//!
+//! Each call's outputs start as values that show every write, and a call panics where an output changes that must
+//! stay as it was.
 
+pub mod answer;
 pub mod cards;
 pub mod clock;
+pub mod listing;
+pub mod lookup;
 
+use answer::{verdict, Broken, NO_PAGE};
 use reader::{Counts, Refusal};
+
+pub use lookup::{find, read, step};
 
 extern "C" {
     fn station_check(
@@ -17,7 +26,10 @@ extern "C" {
     ) -> u32;
 }
 
-/// What the library may write. It starts as values no card can give, so that every write shows.
+/// The refusals of the check.
+const REFUSALS: [u32; 7] = [1, 2, 3, 4, 5, 6, 7];
+
+/// What the check may write. It starts as values no card can give, so that every write shows.
 #[derive(Clone, Copy, Debug, PartialEq, Eq)]
 struct Outputs {
     page: usize,
@@ -28,37 +40,24 @@ struct Outputs {
 }
 
 const UNTOUCHED: Outputs = Outputs {
-    page: usize::MAX - 1,
+    page: NO_PAGE,
     clusters: u32::MAX - 2,
     free: usize::MAX - 3,
     reached: usize::MAX - 4,
     orphaned: usize::MAX - 5,
 };
 
-/// A broken promise, in words.
-type Broken = String;
-
 impl Outputs {
     /// The answer for a returned number, if every output that must stay has stayed.
     fn answer(self, number: u32) -> Result<Result<Counts, Refusal>, Broken> {
-        let counts_stay = Outputs { page: UNTOUCHED.page, ..self } == UNTOUCHED;
-        let page_stays = self.page == UNTOUCHED.page;
-        match number {
-            0 if !page_stays => Err(format!("acceptance changed the page: {self:?}")),
-            0 => {
-                let Outputs { clusters, free, reached, orphaned, .. } = self;
-                Ok(Ok(Counts { clusters: clusters as usize, free, reached, orphaned }))
-            }
-            8.. => Err(format!("the check has no refusal {number}")),
-            _ if !counts_stay => Err(format!("refusal {number} changed a count: {self:?}")),
-            2 => Ok(Err(Refusal::unreadable(self.page))),
-            _ if !page_stays => Err(format!("refusal {number} changed the page: {self:?}")),
-            _ => Ok(Err(Refusal::number(number as u8))),
-        }
+        let Outputs { page, clusters, free, reached, orphaned } = self;
+        let counts_stay = Outputs { page: NO_PAGE, ..self } == UNTOUCHED;
+        let accepted = verdict(number, &REFUSALS, page, counts_stay)?;
+        Ok(accepted.map(|()| Counts { clusters: clusters as usize, free, reached, orphaned }))
     }
 }
 
-/// The proved library's check. Panics where it breaks its promise on outputs.
+/// The check.
 pub fn check(image: &[u8]) -> Result<Counts, Refusal> {
     let mut out = UNTOUCHED;
     // SAFETY: pointer and length are those of one slice, which the library only reads; each output
@@ -74,14 +73,14 @@ pub fn check(image: &[u8]) -> Result<Counts, Refusal> {
             &mut out.orphaned,
         )
     };
-    out.answer(number).unwrap_or_else(|broken| panic!("{broken}"))
+    out.answer(number).unwrap_or_else(|broken| panic!("{broken}: {out:?}"))
 }
 
 #[cfg(test)]
 mod tests {
     use super::*;
 
-    const COUNTS: Outputs = Outputs { page: UNTOUCHED.page, clusters: 56, free: 29, reached: 1, orphaned: 0 };
+    const COUNTS: Outputs = Outputs { page: NO_PAGE, clusters: 56, free: 29, reached: 1, orphaned: 0 };
 
     #[test]
     fn answers() {
@@ -101,7 +100,7 @@ mod tests {
             Outputs { reached: 0, ..UNTOUCHED },
             Outputs { orphaned: 0, ..UNTOUCHED },
         ];
-        for number in 1..=7 {
+        for number in REFUSALS {
             assert!(touched.iter().all(|out| out.answer(number).is_err()), "{number}");
             assert_eq!(Outputs { page: 0, ..UNTOUCHED }.answer(number).is_err(), number != 2, "{number}");
         }

@@ -8,6 +8,7 @@ pub mod draw;
 pub mod good;
 pub mod random;
 pub mod requests;
+pub mod samples;
 pub mod scribble;
 pub mod vandal;
 

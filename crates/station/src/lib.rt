@@ -1,4 +1,8 @@
-// What C and Rust call: byte slices and numbers alone. A call answers 0, or the number of the refusal.
+// What C and Rust call: byte slices, byte arrays and numbers alone. A call answers 0, or the number of the refusal.
+pub mod entries;
+pub mod reading;
+pub mod texts;
+
 use layout::Refusal;
 use tree::Checked;
 use tree::check;
@@ -8,7 +12,7 @@ ghost use Rattle.tree.specs.Counted.{checkOf};
 ghost use Rattle.station.specs.Answer.{numberIn, pageAfter, pageLeft, valueAfter};
 
 // The paper's number of a refusal; the page of an unreadable one goes to `page`.
-fn tell_refusal(refusal: Refusal, page: &mut usize) -> u32
+pub(crate) fn tell_refusal(refusal: Refusal, page: &mut usize) -> u32
     ensures { λ r. ⌜ (r ≡ numberOf refusal) × (now (page .exit) ≡ pageLeft (numberOf refusal) (pageOf refusal) (now (page .entry))) ⌝ }
 {
     match refusal {

@@ -1,6 +1,9 @@
 //! What the comparing tests share.
 #![allow(dead_code)]
 
+pub mod lookups;
+pub mod requests;
+
 use reader::build::random::RandomCard;
 use reader::build::scribble;
 use reader::content::visit;
@@ -14,7 +17,7 @@ pub type Answer = Result<Counts, Refusal>;
 /// How often each answer was met: acceptance at 0, refusals at their numbers.
 #[derive(Clone, Debug, Default)]
 pub struct Tally {
-    pub seen: [usize; 8],
+    pub seen: [usize; 16],
 }
 
 impl Tally {
@@ -22,13 +25,17 @@ impl Tally {
     pub fn same(&mut self, image: &[u8], what: impl Fn() -> String) -> Answer {
         let (ours, readers) = (compare::check(image), reader::check(image));
         assert_eq!(ours, readers, "library left, reader right: {}", what());
-        self.seen[ours.err().map_or(0, |refusal| usize::from(refusal.number))] += 1;
+        self.count(&ours);
         ours
+    }
+
+    pub fn count<T>(&mut self, answer: &Result<T, Refusal>) {
+        self.seen[answer.as_ref().err().map_or(0, |refusal| usize::from(refusal.number))] += 1;
     }
 
     /// The comparison wasn't idle: each of these answers was met this often.
     pub fn met(&self, answers: impl IntoIterator<Item = usize>, times: usize) {
-        println!("accepted and refused with 1 to 7: {:?}", self.seen);
+        println!("accepted, and refused with 1 to 15: {:?}", self.seen);
         for answer in answers {
             assert!(self.seen[answer] >= times, "answer {answer} less than {times} times: {:?}", self.seen);
         }

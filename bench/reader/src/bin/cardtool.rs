@@ -5,7 +5,7 @@ use std::process::ExitCode;
 use reader::build::{self, random};
 use reader::{list, tree_text, Refusal};
 
-const USAGE: &str = "usage: cardtool check FILE | list FILE | tree FILE | bench OUT | standard OUT | random SEED OUT";
+const USAGE: &str = "usage: cardtool check FILE | list FILE | tree FILE | bench OUT | standard OUT | random SEED OUT | samples ROOT";
 
 fn main() -> ExitCode {
     let arguments: Vec<String> = std::env::args().skip(1).collect();
@@ -37,8 +37,22 @@ fn run(arguments: &[&str]) -> Result<String, String> {
             let seed = seed.parse().map_err(|_| USAGE.to_string())?;
             store(out, random::random(seed).image)
         }
+        ["samples", root] => samples(root).map_err(|error| format!("{root}: {error}")),
         _ => Err(USAGE.to_string()),
     }
+}
+
+/// Writes the images of the programs `list` and `cards`, and what each prints, into the repository at `root`.
+fn samples(root: &str) -> std::io::Result<String> {
+    let data = format!("{root}/crates/cards/data");
+    std::fs::create_dir_all(&data)?;
+    for (name, image) in build::samples::all() {
+        std::fs::write(format!("{data}/{name}.ps2"), image)?;
+    }
+    std::fs::write(format!("{root}/crates/cards/stdout"), build::samples::printed())?;
+    std::fs::write(format!("{root}/crates/list/stdin"), build::samples::save())?;
+    std::fs::write(format!("{root}/crates/list/stdout"), list(&build::samples::save()))?;
+    Ok(String::new())
 }
 
 fn check(image: &[u8]) -> Result<String, Refusal> {

@@ -1,0 +1,59 @@
+//! The images that the listing programs are run on, and what they must print.
+
+use super::{bad, bench, good, usual_time};
+use crate::{create, make_dir, program};
+
+/// Images and their names.
+type Samples = Vec<(&'static str, Vec<u8>)>;
+
+/// One bad card for each refusal 1 to 7, by its name among the bad cards.
+const REFUSED: [(&str, &str); 7] = [
+    ("refused-1", "one byte short"),
+    ("refused-2", "a data bit and a code bit"),
+    ("refused-3", "text without its last space"),
+    ("refused-4", "backups equal"),
+    ("refused-5", "table name equal to the indirect name"),
+    ("refused-6", "a file's last word links on"),
+    ("refused-7", "a name twice"),
+];
+
+const WORN: [(&str, &str); 4] = [
+    ("tree", "the sample itself"),
+    ("flips", "a flip in every chunk of needed pages"),
+    ("worn-files", "data pages of files"),
+    ("worn-elsewhere", "free, orphaned and backup pages"),
+];
+
+/// The card of document 01's listing: `/SAVE`, and `/SAVE/A` of 1,500 bytes.
+pub fn save() -> Vec<u8> {
+    let mut image = bench();
+    make_dir(&mut image, b"/SAVE", &usual_time()).expect("the bench card has room");
+    let bytes: Vec<u8> = (0..1500).map(|place| (place % 251) as u8).collect();
+    create(&mut image, b"/SAVE/A", &usual_time(), &bytes).expect("the bench card has room");
+    image
+}
+
+/// Every image of the program `cards`, in its order.
+pub fn all() -> Samples {
+    let mut samples = vec![("bench", bench()), ("save", save())];
+    samples.push(("pcsx2", include_bytes!("../../testdata/bench-sample.ps2").to_vec()));
+    let mut good = good::all();
+    for (name, card) in WORN {
+        let place = good.iter().position(|good| good.name == card).expect(card);
+        samples.push((name, good.swap_remove(place).image));
+    }
+    let mut bad = bad::all();
+    for (name, card) in REFUSED {
+        let place = bad.iter().position(|bad| bad.name == card).expect(card);
+        samples.push((name, bad.swap_remove(place).image));
+    }
+    let mut long = bench();
+    long.push(0);
+    samples.push(("long", long));
+    samples
+}
+
+/// What the program `cards` prints: each image's name, then its listing.
+pub fn printed() -> String {
+    all().iter().map(|(name, image)| format!("== {name}\n{}", program(image))).collect()
+}

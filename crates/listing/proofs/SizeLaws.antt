@@ -1,0 +1,158 @@
+-- The listing is short enough that its length is told exactly: no cluster is used twice, so a card has at most two slots for each of its clusters.
+use Prim.Native.Nat.{ℕ, pred, suc, zero, _*_, _+_, _/_, _%_, _≤_}
+use mathlib.Core.Bool.{Bool, _&&_, cond, false, not, true}
+use mathlib.Core.List.{List, [], _++_, _∷_}
+use mathlib.Core.Path.{_∙_, _≡_, ap, refl, sym}
+use native.Mathlib.Omega.{arith}
+use borrow.Author.Tests.{le-ltb, ltb-true}
+use lib.Dec.{eqb, ltb}
+use lib.ListN.{length, length-append, length-drop, length-take, take}
+use Rattle.layout.proofs.TableLaws.{length-table}
+use Rattle.layout.specs.See.{checkImage, see}
+use Rattle.layout.specs.Table.{tableOf}
+use Rattle.layout.specs.declared.Superblock.{Superblock}
+use Rattle.lookup.proofs.CardLaws.{accepted}
+use Rattle.model.proofs.CheckHolds.{ok-inj}
+use Rattle.model.proofs.CountLaws.{card-used, counts, total-add}
+use Rattle.model.proofs.Equality.{and-l, and-r}
+use Rattle.model.proofs.PlanFits.{length-pages}
+use Rattle.model.proofs.SlotOfName.{total-times}
+use Rattle.model.specs.Check.{Marks, Result, fault, ok}
+use Rattle.model.specs.Counts.{totalBelow}
+use Rattle.model.specs.Entry.{Entry, hasBit, isDirectory, isFile, isLive, isSubdirectory}
+use Rattle.model.specs.Holds.{HoldsCard, HoldsSlots, deepest}
+use Rattle.model.specs.Names.{Name, goodName}
+use Rattle.model.specs.Tree.{Root, Slot, Tree, chainOf, clusterUses, end, entryPages, node, reached, rootSlot, times}
+use Rattle.model.specs.View.{Link, View, pagesOf}
+use Rattle.reached.proofs.Totalling.{total-zero}
+use Rattle.tree.proofs.CheckLaws.{end-fits}
+use Rattle.tree.specs.Counted.{countsIn, superblockIn}
+use Rattle.tree.specs.declared.Counts.{Counts}
+use Rattle.listing.specs.Emit.{most}
+use Rattle.listing.specs.Paths.{nameRoom, pathRoom}
+use Rattle.listing.specs.Text.{cardWord, countLine, countsText, decimalOf, digitsOf, entryLine, freeWord, listingOf, orphanedWord, pageText, reachedWord, refusalText, textOf, treeText, within}
+
+-- ---- lines
+
+digits-short : (k n : ℕ) → length (digitsOf k n) ≤ k
+unfolding digitsOf
+digits-short zero n = omega arith
+digits-short (suc k) n = go (ltb n 10) (digits-short k (n / 10))
+  where
+    go : (b : Bool) → length (digitsOf k (n / 10)) ≤ k → length (cond b ((0x30 + n) ∷ []) (digitsOf k (n / 10) ++ ((0x30 + n % 10) ∷ []))) ≤ suc k
+    go true h = omega arith
+    go false h = rw (length-append (digitsOf k (n / 10)) ((0x30 + n % 10) ∷ [])) (omega arith)
+
+entry-short : (letter n : ℕ) (path : List ℕ) → length (entryLine letter n path) ≤ 24 + length path
+unfolding entryLine
+entry-short letter n path = simp length-append (omega (arith, digits-short 20 n))
+
+count-short : (word : List ℕ) (n : ℕ) → length (countLine word n) ≤ length word + 21
+unfolding countLine
+count-short word n = simp length-append (omega (arith, digits-short 20 n))
+
+page-short : (number page : ℕ) → length (pageText number page) ≤ 21
+page-short number page = go (eqb number 2)
+  where
+    go : (b : Bool) → length (cond b ((0x20 ∷ []) ++ decimalOf page) []) ≤ 21
+    go true = omega (arith, digits-short 20 page)
+    go false = omega arith
+
+refusal-short : (number page : ℕ) → length (refusalText number page) ≤ 50
+unfolding refusalText
+refusal-short number page = simp length-append (omega (arith, digits-short 20 number, page-short number page))
+
+counts-short : (c : Counts) → length (countsText c) ≤ 111
+unfolding countsText
+counts-short c =
+    simp length-append (omega (arith, count-short cardWord (c .clusters), count-short freeWord (c .free), count-short reachedWord (c .reached), count-short orphanedWord (c .orphaned)))
+
+-- ---- the tree
+
+-- how many slots, and how many clusters of chains, a tree has in all its directories
+slotTotal : Tree → ℕ
+slotTotal end = 0
+slotTotal (node h s t) = 1 + slotTotal s + slotTotal t
+
+chainTotal : Tree → ℕ
+chainTotal end = 0
+chainTotal (node h s t) = length (chainOf h) + chainTotal s + chainTotal t
+
+good-short : (n : Name) → goodName n ≡ true → length n ≤ 31
+good-short n h = let l = ltb-true (length n) 32 (and-r (ltb 0 (length n)) _ (and-l _ _ (and-l _ _ (and-l _ _ h)))) in omega arith
+
+file-short : (e : Entry) → isFile e ≡ true → length (e .name) ≤ 31
+file-short e h = good-short (e .name) (and-r (isLive e && hasBit (e .mode) 0x10 && not (hasBit (e .mode) 0x20)) _ (and-l _ _ h))
+
+directory-short : (e : Entry) → isSubdirectory e ≡ true → length (e .name) ≤ 31
+directory-short e h = good-short (e .name) (and-r (isDirectory e) _ (and-l _ _ h))
+
+-- a line has at most 24 bytes beside its path
+abbrev lineRoom : ℕ
+lineRoom = 24 + pathRoom
+
+tree-short : (v : View) (below : ℕ) (ps path : List ℕ) (t : Tree) → HoldsSlots v below ps t → length path + nameRoom * suc below ≤ pathRoom
+    → length (treeText path t) ≤ lineRoom * slotTotal t
+unfolding treeText slotTotal
+tree-short v below ps path end x h = omega arith
+tree-short v below [] path (node g s t) x h = absurd x
+tree-short v below (p ∷ ps) path (node Slot.dead s t) x h = omega (arith, tree-short v below ps path t (x .3) h)
+tree-short v below (p ∷ ps) path (node (Slot.file e cs ds) s t) x h =
+    simp length-append (omega (arith, tree-short v below ps path t (x .3) h, entry-short 0x66 (e .length) (within path (e .name)), length-append path (0x2F ∷ e .name), file-short e (x .0 .1)))
+tree-short v below (p ∷ ps) path (node (Slot.directory e cs) s t) x h =
+    let own : length (within path (e .name)) ≤ length path + 32 = rw (length-append path (0x2F ∷ e .name)) (omega (arith, directory-short e (x .0 .1))) in
+    let down : 1 ≤ below = x .0 .2 in
+    let inside = tree-short v (pred below) (entryPages (Slot.directory e cs)) (within path (e .name)) s (x .2) (omega arith) in
+    simp length-append (omega (arith, tree-short v below ps path t (x .3) h, entry-short 0x64 (e .length) (within path (e .name)), inside))
+
+-- a directory has at most two slots for each cluster of its chain
+own-slots : (h : Slot) → length (entryPages h) ≤ 2 * length (chainOf h)
+own-slots Slot.dead = omega arith
+own-slots (Slot.file e cs ds) = omega arith
+own-slots (Slot.directory e cs) =
+    omega (arith, length-drop 2 (take (e .length) (pagesOf cs)), length-take (e .length) (pagesOf cs), length-pages cs)
+
+slots-few : (v : View) (below : ℕ) (ps : List ℕ) (t : Tree) → HoldsSlots v below ps t → slotTotal t ≤ length ps + 2 * chainTotal t
+unfolding slotTotal chainTotal
+slots-few v below [] end x = omega arith
+slots-few v below (p ∷ ps) end x = absurd x
+slots-few v below [] (node h s t) x = absurd x
+slots-few v below (p ∷ ps) (node h s t) x =
+    omega (arith, slots-few v (pred below) (entryPages h) s (x .2), slots-few v below ps t (x .3), own-slots h)
+
+-- clusters of chains are uses of clusters
+chain-uses : (t : Tree) (n : ℕ) → ((c : ℕ) → n ≤ c → clusterUses t c ≡ 0) → totalBelow (clusterUses t) n ≡ chainTotal t
+unfolding chainTotal
+chain-uses end n z = total-zero (λ c. 0) n (λ c l. refl)
+chain-uses (node h s t) n z =
+    let own = total-times (chainOf h) n (λ c l. omega (arith, z c l)) in
+    let inside = chain-uses s n (λ c l. omega (arith, z c l)) in
+    let later = chain-uses t n (λ c l. omega (arith, z c l)) in
+    omega (arith, own, inside, later, total-add (clusterUses s) (clusterUses t) n, total-add (times (chainOf h)) (λ c. clusterUses s c + clusterUses t c) n)
+
+-- a card whose clusters from n on are free
+card-short : (v : View) (r : Root) (n : ℕ) → HoldsCard v r → ((c : ℕ) → n ≤ c → v .link c ≡ Link.free) → length (treeText [] (r .slots)) ≤ 2 * lineRoom * n
+card-short v r n x high =
+    let none : (c : ℕ) → n ≤ c → reached r c ≡ 0 = λ c l. card-used v r x c (high c l) in
+    let own = total-times (r .chain) n (λ c l. omega (arith, none c l)) in
+    let inside = chain-uses (r .slots) n (λ c l. omega (arith, none c l)) in
+    let few = slots-few v deepest (entryPages (rootSlot r)) (r .slots) (x .rep) in
+    let text = tree-short v deepest (entryPages (rootSlot r)) [] (r .slots) (x .rep) (omega arith) in
+    omega (arith, own, inside, few, text, own-slots (rootSlot r), counts v r x n, total-add (times (r .chain)) (clusterUses (r .slots)) n)
+
+-- ---- the listing
+
+pub listing-short : (image : List ℕ) → length (listingOf image) ≤ most
+unfolding listingOf
+listing-short image = go (checkImage image) refl
+  where
+    go : (c : Result (Superblock × Root × Marks)) → checkImage image ≡ c → length (textOf image c) ≤ most
+    go (fault n p) e = omega (arith, refusal-short n p)
+    go (ok x) e =
+        let y = accepted image (x .0) (sym (ap superblockIn e)) in
+        let same : x .1 ≡ y .root = ap (λ (z : Superblock × Root × Marks). z .1) (ok-inj x (x .0, y .root, y .marks) (sym e ∙ y .checked)) in
+        let high : (c : ℕ) → x .0 .end ≤ c → (see (x .0) image) .link c ≡ Link.free =
+        λ c l. rw (le-ltb c (length (tableOf image (x .0))) (omega (arith, length-table image (x .0)))) in
+        let tree = card-short (see (x .0) image) (x .1) (x .0 .end) (rw same (y .holds)) high in
+        let all = countsIn (x .0 .clusters) (x .0 .end) (see (x .0) image) (x .1) in
+        omega (arith, length-append (countsText all) (treeText [] (x .1 .slots)), counts-short all, tree, end-fits image (x .0) (y .opened))

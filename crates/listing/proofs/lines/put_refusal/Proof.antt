@@ -1,0 +1,50 @@
+-- `put_refusal` writes the parts of a line one after the other.
+use mathlib.Core.Path.{ap, ap₂}
+use native.Mathlib.Omega.{arith}
+use Rattle.listing.specs.Text.{decimalOf, pageText, refusalText}
+use Rattle.listing.proofs.EmitLaws.{wrote-append, wrote-as}
+use borrow.Author.Needs.{needs}
+use Rattle.listing.proofs.lines.put_refusal.Statement.{statement}
+use Rattle.listing.proofs.lines.put_refusal.Tie as tie
+
+numbers-of-requires : tie.Need-numbers-of-requires
+numbers-of-requires c κs = search needs
+
+slice-aggregate-put : tie.Need-slice-aggregate-put
+slice-aggregate-put c = search needs
+
+put-requires : tie.Need-put-requires
+put-requires c κs = search needs
+
+put-number-requires : tie.Need-put-number-requires
+put-number-requires c κs = search needs
+
+put-page-requires : tie.Need-put-page-requires
+put-page-requires c κs = search needs
+
+put-byte-requires : tie.Need-put-byte-requires
+put-byte-requires c κs = search needs
+
+same-length : tie.Need-same-length
+same-length c = search needs
+
+returns : tie.Need-returns
+unfolding refusalText
+returns c =
+    let n = c .before .before .before .before .before .before .before .before .before .before .before .before .before .before .before .before .before .numbers-of .ensures in
+    wrote-append (omega arith)
+    (wrote-append (omega arith) (wrote-append (omega arith) (c .before .before .before .before .before .before .before .before .before .before .before .before .before .before .put .ensures) (wrote-as (ap decimalOf (n .0)) (c .before .before .before .before .before .before .before .before .before .before .put-number .ensures))) (wrote-as (ap₂ pageText (n .0) (n .1)) (c .before .before .before .before .before .before .put-page .ensures)))
+    (c .before .before .put-byte .ensures)
+
+pub put-refusal-spec : {M : Type 1} → statement M
+put-refusal-spec =
+    tie.close
+    (tie.spec
+    numbers-of-requires
+    slice-aggregate-put
+    put-requires
+    put-number-requires
+    put-page-requires
+    put-byte-requires
+    same-length
+    returns)

@@ -1,0 +1,65 @@
+-- `list_card` writes the counts, and then the entries of the card that is open; it cannot be refused there.
+use mathlib.Core.Path.{_∙_, ap, sym}
+use native.Mathlib.Omega.{arith}
+use Rattle.layout.specs.Table.{told}
+use Rattle.lookup.proofs.CardLaws.{accepted, words-fit, words-hold}
+use Rattle.listing.proofs.EmitLaws.{wrote-append, wrote-as}
+use Rattle.listing.proofs.ListingLaws.{listing-card, opens, passes}
+use borrow.Author.Needs.{needs}
+use Rattle.listing.proofs.list_card.Statement.{statement}
+use Rattle.listing.proofs.list_card.Tie as tie
+
+put-counts-requires : tie.Need-put-counts-requires
+put-counts-requires c κs = search needs
+
+open-card-requires : tie.Need-open-card-requires
+open-card-requires c κs = search needs
+
+enum-told : tie.Need-enum-told
+enum-told c = search needs
+
+enum-known-opened : tie.Need-enum-known-opened
+enum-known-opened c = search needs
+
+cast-list-words : tie.Need-cast-list-words
+cast-list-words c = search needs
+
+list-words-requires : tie.Need-list-words-requires
+list-words-requires c κs =
+    let image = c .before .before .before .before .before .before .before .before .before .before .before .before .before .before .before .args .image .now in
+    let s = c .before .before .before .before .before .opened .given .0 .0 in
+    words-fit image s (passes image (c .before .before .before .before .before .before .before .before .before .before .before .before .before .before .before .args .counts) (c .before .before .before .before .before .before .before .before .before .before .before .before .before .before .before .pre) s (sym (ap told (c .before .before .before .before .before .opened .given .1)) ∙ c .before .before .before .before .before .before .before .open-card .ensures .0)) _ _ (c .before .before .before .before .before .before .before .open-card .ensures .1)
+
+same-length : tie.Need-same-length
+same-length c = search needs
+
+returns : tie.Need-returns
+returns c =
+    opens (c .before .before .before .before .before .before .before .before .before .before .args .image .now) (c .before .before .before .before .before .before .before .before .before .before .args .counts) (c .before .before .before .before .before .before .before .before .before .before .pre) _ _ (sym (ap told (c .enum-told .given .1)) ∙ c .before .before .open-card .ensures .0)
+
+same-length-2 : tie.Need-same-length-2
+same-length-2 c = search needs
+
+returns-2 : tie.Need-returns-2
+returns-2 c =
+    let image = c .before .before .before .before .before .before .before .before .before .before .before .before .before .before .before .before .before .before .args .image .now in
+    let s = c .before .before .before .before .before .before .before .before .opened .given .0 .0 in
+    let opened = sym (ap told (c .before .before .before .before .before .before .before .before .opened .given .1)) ∙ c .before .before .before .before .before .before .before .before .before .before .open-card .ensures .0 in
+    let passed = passes image (c .before .before .before .before .before .before .before .before .before .before .before .before .before .before .before .before .before .before .args .counts) (c .before .before .before .before .before .before .before .before .before .before .before .before .before .before .before .before .before .before .pre) s opened in
+    wrote-as (listing-card image (c .before .before .before .before .before .before .before .before .before .before .before .before .before .before .before .before .before .before .args .counts) (c .before .before .before .before .before .before .before .before .before .before .before .before .before .before .before .before .before .before .pre) s opened)
+    (wrote-append (omega (arith, c .before .before .before .before .before .before .before .before .before .before .before .before .before .before .before .before .before .before .good .1 .1 .1 .0)) (c .before .before .before .before .before .before .before .before .before .before .before .before .before .before .put-counts .ensures) (c .before .before .list-words .ensures ((accepted image s passed) .root) (words-hold image s passed _ _ (c .before .before .before .before .before .before .before .before .before .before .open-card .ensures .1))))
+
+pub list-card-spec : {M : Type 1} → statement M
+list-card-spec =
+    tie.close
+    (tie.spec
+    put-counts-requires
+    open-card-requires
+    enum-told
+    enum-known-opened
+    cast-list-words
+    list-words-requires
+    same-length
+    returns
+    same-length-2
+    returns-2)

@@ -1,0 +1,45 @@
+-- The tree's lines as the code writes them: along the pages of a directory's slots, each directory at once by its own slots.
+use Prim.Native.Nat.{ℕ, suc, zero, _-_, _+_, _≤_}
+use mathlib.Core.Bool.{cond}
+use mathlib.Core.List.{List, [], _++_, _∷_}
+use mathlib.Core.Option.{Option, none, some}
+use mathlib.Core.Path.{_≡_}
+use Rattle.model.specs.Entry.{Entry, isDirectory, isLive}
+use Rattle.model.specs.View.{View}
+use Rattle.tree.specs.Slots.{nextOf, slotPages}
+use Rattle.listing.specs.declared.entries.Listed.{Listed}
+use Rattle.listing.specs.Paths.{nameRoom, pathOf}
+use Rattle.listing.specs.Text.{directoryLetter, entryLine, fileLetter, within}
+
+-- the line of the entry in a page; an unreadable page and a dead entry have none
+abbrev pub lineAt : List ℕ → Option Entry → List ℕ
+lineAt path none = []
+lineAt path (some e) =
+    cond (isLive e) (entryLine (cond (isDirectory e) directoryLetter fileLetter) (e .length) (within path (e .name))) []
+
+-- the text of pages by the path of their directory
+abbrev pub Texts : Type 0
+Texts = List ℕ → List ℕ → List ℕ
+
+-- what stands inside an entry: of a directory the text of its slots' pages
+abbrev pub insideAt : List ℕ → Texts → List ℕ → Option Entry → List ℕ
+insideAt table deeper path none = []
+insideAt table deeper path (some e) =
+    cond (isDirectory e) (deeper (within path (e .name)) (slotPages table (nextOf table (e .firstCluster)) 0 (e .length - 2))) []
+
+-- texts one after the other
+unfoldable pub joined : (ℕ → List ℕ) → List ℕ → List ℕ
+joined text [] = []
+joined text (p ∷ ps) = text p ++ joined text ps
+
+-- a directory's slots, with directories at most `below` further down
+unfoldable pub slotsText : View → List ℕ → ℕ → Texts
+slotsText v table zero path pages = joined (λ p. lineAt path (v .entry p)) pages
+slotsText v table (suc below) path pages =
+    joined (λ p. lineAt path (v .entry p) ++ insideAt table (slotsText v table below) path (v .entry p)) pages
+
+-- An entry that was listed: its path is at most a name longer, and the text of the slots inside it is what stands there.
+pub record Leads (table path : List ℕ) (o : Option Entry) (len : ℕ) (listed : Listed) : Type 0 where
+  pub short : listed .path .len ≤ len + nameRoom
+  pub inside : (deeper : Texts) → ((q : List ℕ) → deeper q [] ≡ [])
+      → deeper (pathOf (listed .path)) (slotPages table (listed .start) 0 (listed .count)) ≡ insideAt table deeper path o

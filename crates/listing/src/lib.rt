@@ -1,0 +1,84 @@
+// The listing of a card as text in a lent buffer.
+mod emit;
+mod entries;
+mod lines;
+mod path;
+
+use entries::list_tree;
+use layout::Opened;
+use layout::open_card;
+use lines::put_counts;
+use lines::put_refusal;
+use model::MOST_CLUSTERS;
+use tree::Checked;
+use tree::Counts;
+use tree::check;
+ghost use mathlib.Core.List.{[]};
+ghost use mathlib.Core.Path.{_≡_};
+ghost use Prim.Native.Nat.{_≤_};
+ghost use lib.ListN.{length, take};
+ghost use Rattle.layout.specs.See.{viewBy};
+ghost use Rattle.model.specs.Check.{ok};
+ghost use Rattle.model.specs.Holds.{HoldsCard};
+ghost use Rattle.model.specs.Tree.{Root};
+ghost use Rattle.tree.specs.Counted.{checkOf};
+ghost use Rattle.listing.specs.Emit.{Wrote};
+ghost use Rattle.listing.specs.Text.{fitted, listingOf, treeText};
+
+// The lines of all entries by the first `end` words of a table.
+fn list_words(
+    image: &[u8],
+    table: &[u32],
+    end: usize,
+    offset: u32,
+    out: &mut [u8],
+    at: usize,
+) -> usize
+    requires { ⌜ end ≤ length (now table) ⌝ }
+    ensures { λ r. ⌜ ((root : Root) → HoldsCard (viewBy offset (take end (now (table .entry))) (now (image .entry))) root → Wrote (now (out .entry)) at (treeText [] (root .slots)) (now (out .exit)) r) ⌝ }
+{
+    list_tree(image, &table[..end], offset, out, at)
+}
+
+// A card that the check accepts, with room for its table. It opens, since the check opened it.
+fn list_card(
+    image: &[u8],
+    table: &mut [u32; MOST_CLUSTERS],
+    counts: Counts,
+    out: &mut [u8],
+) -> usize
+    requires { ⌜ ok counts ≡ checkOf (now image) ⌝ }
+    ensures { λ r. ⌜ Wrote (now (out .entry)) 0 (listingOf (now (image .entry))) (now (out .exit)) r ⌝ }
+{
+    let at = put_counts(out, 0, counts);
+    let opened = open_card(image, table);
+    match opened {
+        Opened::Refused(_) => at,
+        Opened::Card(s) => list_words(image, table, s.end as usize, s.offset, out, at),
+    }
+}
+
+// Writes as much of the listing as fits, and tells how long the whole of it is.
+pub fn list(image: &[u8], out: &mut [u8]) -> usize
+    ensures length { λ r. ⌜ r ≡ length (listingOf (now (image .entry))) ⌝ }
+    ensures text { λ r. ⌜ now (out .exit) ≡ fitted (now (out .entry)) (listingOf (now (image .entry))) ⌝ }
+{
+    let checked = check(image);
+    match checked {
+        Checked::Refused(refusal) => put_refusal(out, refusal),
+        Checked::Card(counts) => {
+            let mut table = [0u32; MOST_CLUSTERS];
+            list_card(image, &mut table, counts, out)
+        }
+    }
+}
+
+// The part of a buffer in which a text of that length stands: all of the buffer where the text is longer.
+pub fn written(out: &[u8], length: usize) -> &[u8]
+    ensures { λ r. ⌜ now r ≡ take length (now (out .entry)) ⌝ }
+{
+    if out.len() <= length {
+        return out;
+    }
+    &out[..length]
+}

@@ -1,0 +1,117 @@
+// The lines of the listing: the counts, an entry, a refusal.
+use crate::emit::put;
+use crate::emit::put_byte;
+use crate::emit::put_number;
+use crate::path::Path;
+use crate::path::put_path;
+use layout::Refusal;
+use tree::Counts;
+ghost use mathlib.Core.Path.{_≡_};
+ghost use Prim.Native.Nat.{_≤_};
+ghost use Rattle.layout.specs.Refusal.{numberOf, pageOf};
+ghost use Rattle.listing.specs.Emit.{Wrote};
+ghost use Rattle.listing.specs.Paths.{pathOf, pathRoom};
+ghost use Rattle.listing.specs.Text.{countLine, countsText, entryLine, pageText, refusalText};
+
+// A word and a number.
+fn put_count(out: &mut [u8], at: usize, word: &[u8], number: u64) -> usize
+    ensures { λ r. ⌜ Wrote (now (out .entry)) at (countLine (now (word .entry)) number) (now (out .exit)) r ⌝ }
+{
+    let a = put(out, at, word);
+    let b = put_number(out, a, number);
+    put_byte(out, b, b'\n')
+}
+
+// N, free, reached and orphaned.
+pub(crate) fn put_counts(out: &mut [u8], at: usize, counts: Counts) -> usize
+    ensures { λ r. ⌜ Wrote (now (out .entry)) at (countsText counts) (now (out .exit)) r ⌝ }
+{
+    let a = put_count(out, at, b"card ", counts.clusters as u64);
+    let b = put_count(out, a, b"free ", counts.free as u64);
+    let c = put_count(out, b, b"reached ", counts.reached as u64);
+    put_count(out, c, b"orphaned ", counts.orphaned as u64)
+}
+
+// A letter, the length and the path of an entry.
+pub(crate) fn put_entry(out: &mut [u8], at: usize, letter: u8, length: u32, path: Path) -> usize
+    requires { ⌜ path .len ≤ pathRoom ⌝ }
+    ensures { λ r. ⌜ Wrote (now (out .entry)) at (entryLine letter length (pathOf path)) (now (out .exit)) r ⌝ }
+{
+    let a = put_byte(out, at, letter);
+    let b = put_byte(out, a, b' ');
+    let c = put_number(out, b, length as u64);
+    let d = put_byte(out, c, b' ');
+    let e = put_path(out, d, path);
+    put_byte(out, e, b'\n')
+}
+
+// The paper's number of a refusal, and the page of 2.
+struct Numbers {
+    number: u64,
+    page: u64,
+}
+
+fn numbers_of(refusal: Refusal) -> Numbers
+    ensures { λ r. ⌜ (r .number ≡ numberOf refusal) × (r .page ≡ pageOf refusal) ⌝ }
+{
+    match refusal {
+        Refusal::BadLength => Numbers { number: 1, page: 0 },
+        Refusal::UnreadablePage(page) => Numbers {
+            number: 2,
+            page: page as u64,
+        },
+        Refusal::BadText => Numbers { number: 3, page: 0 },
+        Refusal::BadSuperblock => Numbers { number: 4, page: 0 },
+        Refusal::BadTableName => Numbers { number: 5, page: 0 },
+        Refusal::BadChain => Numbers { number: 6, page: 0 },
+        Refusal::BadEntry => Numbers { number: 7, page: 0 },
+        Refusal::BadPath => Numbers { number: 8, page: 0 },
+        Refusal::BadTime => Numbers {
+            number: 14,
+            page: 0,
+        },
+        Refusal::Absent => Numbers { number: 9, page: 0 },
+        Refusal::WrongKind => Numbers {
+            number: 10,
+            page: 0,
+        },
+        Refusal::Exists => Numbers {
+            number: 11,
+            page: 0,
+        },
+        Refusal::NotEmpty => Numbers {
+            number: 13,
+            page: 0,
+        },
+        Refusal::BadOffset => Numbers {
+            number: 15,
+            page: 0,
+        },
+        Refusal::NoRoom => Numbers {
+            number: 12,
+            page: 0,
+        },
+    }
+}
+
+// The page after the number 2.
+fn put_page(out: &mut [u8], at: usize, number: u64, page: u64) -> usize
+    ensures { λ r. ⌜ Wrote (now (out .entry)) at (pageText number page) (now (out .exit)) r ⌝ }
+{
+    if number == 2 {
+        let a = put_byte(out, at, b' ');
+        return put_number(out, a, page);
+    }
+    at
+}
+
+// The one line of a refusal.
+pub(crate) fn put_refusal(out: &mut [u8], refusal: Refusal) -> usize
+    ensures { λ r. ⌜ Wrote (now (out .entry)) 0 (refusalText (numberOf refusal) (pageOf refusal)) (now (out .exit)) r ⌝ }
+{
+    let numbers = numbers_of(refusal);
+    let a = put(out, 0, b"refused ");
+    let b = put_number(out, a, numbers.number);
+    let c = put_page(out, b, numbers.number, numbers.page);
+    put_byte(out, c, b'\n')
+}
