@@ -1,12 +1,13 @@
--- A text that is compared by `check::same`, and a word in the first or the second of two joined pages.
+-- A text that is compared by `check::same`, and a word in the first or the second of two joined pages, or past them.
 use Prim.Native.Nat.{ℕ, _+_, _-_, _*_, _≤_, _<_}
 use mathlib.Core.Bool.{Bool, true, false}
 use mathlib.Core.List.{List, _++_}
 use mathlib.Core.Logic.{⊎-elim}
 use mathlib.Core.Path.{_≡_, refl, sym, ap, _∙_}
 use native.Mathlib.Omega.{arith}
-use lib.ListN.{length, take, drop, length-drop}
+use lib.ListN.{length, take, drop, length-append, length-drop}
 use lib.Seq.{take-append-le, drop-append-le, drop-append-add}
+use Rattle.fields.proofs.NumberLaws.{little-past}
 use Rattle.model.specs.Bytes.{little, word}
 use Rattle.model.specs.Names.{sameName}
 use Rattle.model.proofs.Equality.{bool, tf, Eq-name}
@@ -27,3 +28,6 @@ module _ (first second : List ℕ) (i : ℕ) (long : length first ≡ 512) where
   word-second h =
       let at : length first + 4 * (i - 128) ≡ 4 * i = omega arith in
       sym (ap (λ (l : List ℕ). little (take 4 l)) (rw at at (drop-append-add first second (4 * (i - 128)))))
+
+  pub word-past : length second ≡ 512 → 256 ≤ i → 0 ≡ word (first ++ second) (4 * i)
+  word-past size h = sym (little-past (first ++ second) (4 * i) 4 (omega (arith, length-append first second)))

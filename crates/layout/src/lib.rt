@@ -1,6 +1,6 @@
 // The superblock and the allocation table of a card, with the refusals in the paper's order.
 pub mod page0;
-mod table;
+pub mod table;
 
 use model::MOST_CLUSTERS;
 use page::read_page;

@@ -24,11 +24,14 @@ fn in_range(offset: u32, name: u32) -> bool
     (1 <= name) & (name < offset)
 }
 
-// Word i of the indirect cluster, whose two pages are given.
+// Word i of the indirect cluster, whose two pages are given. A missing word counts as zero.
 fn name_in(first: &[u8], second: &[u8], i: usize) -> u32
-    requires { ⌜ (length (now first) ≡ 512) × (i < 256) ⌝ }
+    requires { ⌜ (length (now first) ≡ 512) × (length (now second) ≡ 512) ⌝ }
     ensures { λ r. ⌜ r ≡ word (now (first .entry) ++ now (second .entry)) (4 * i) ⌝ }
 {
+    if 256 <= i {
+        return 0;
+    }
     if i < 128 {
         word_in(first, 4 * i)
     } else {
@@ -37,7 +40,6 @@ fn name_in(first: &[u8], second: &[u8], i: usize) -> u32
 }
 
 fn name_at(first: &[u8; 512], second: &[u8; 512], i: usize) -> u32
-    requires { ⌜ i < 256 ⌝ }
     ensures { λ r. ⌜ r ≡ word (now (first .entry) ++ now (second .entry)) (4 * i) ⌝ }
 {
     name_in(first, second, i)
@@ -80,12 +82,15 @@ fn good_names(
     true
 }
 
-// The image page that is page t of the table.
-fn table_page(first: &[u8; 512], second: &[u8; 512], count: usize, t: usize) -> usize
-    requires { ⌜ (t < 2 * count) × (count ≤ 256) ⌝ }
+// The image page that is page t of the table, by the first `count` names of the indirect cluster.
+pub fn table_page(first: &[u8; 512], second: &[u8; 512], count: usize, t: usize) -> usize
     ensures { λ r. ⌜ r ≡ tablePage (tableNames (now (first .entry) ++ now (second .entry)) count) t ⌝ }
 {
-    2 * (name_at(first, second, t / 2) as usize) + t % 2
+    let i = t / 2;
+    if count <= i {
+        return t % 2;
+    }
+    2 * (name_at(first, second, i) as usize) + t % 2
 }
 
 // Both pages of each table cluster in turn: the first that is unreadable decides.

@@ -13,10 +13,11 @@ use Rattle.model.specs.Holds.{HoldsCard}
 use Rattle.model.specs.Names.{Path}
 use Rattle.model.specs.Tree.{Root, Slot, Tree, rootSlot}
 use Rattle.model.specs.View.{View}
-use Rattle.lookup.specs.Descend.{Arrives, Stands, arrive}
+use Rattle.lookup.specs.Descend.{Stands}
 use Rattle.lookup.specs.Paths.{atPath, withPath}
 use Rattle.lookup.specs.declared.way.Arrival.{Arrival}
 use Rattle.lookup.specs.declared.way.Arrival.the-variants as arrival
+use Rattle.lookup.proofs.Arrivals.{Arrives, arrive}
 use Rattle.lookup.proofs.DescendLaws.{Leads}
 use Rattle.lookup.proofs.PathWalk.{at-path}
 

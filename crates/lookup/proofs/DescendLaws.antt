@@ -1,31 +1,29 @@
--- The names of a path one after the other: what is left of them leads from where the loop stands to where the whole path leads.
-use Prim.Native.Nat.{_+_, _<_, _≤_, suc, zero, ℕ}
+-- The names of a path one after the other: the code arrives where they lead in the tree.
+use Prim.Native.Nat.{_+_, _<_, suc, ℕ}
 use mathlib.Core.List.{List, [], _∷_}
-use mathlib.Core.Option.{some}
-use mathlib.Core.Path.{_∙_, _≡_, ap, refl, sym}
-use native.Mathlib.Numerals.{add-one}
+use mathlib.Core.Option.{Option, none, some}
+use mathlib.Core.Path.{_∙_, _≡_, ap, ap₂, refl, sym}
 use native.Mathlib.Omega.{arith}
-use lib.ListN.{drop, getD, length}
-use lib.Seq.{drop-cons}
+use lib.ListN.{getD, length}
+use Rattle.fields.proofs.PathLaws.{name-of-path}
+use Rattle.fields.specs.PathBytes.{nameAt, pathOf}
+use Rattle.layout.specs.See.{viewBy}
 use Rattle.model.specs.Check.{Result, andThen, fault, ok}
 use Rattle.model.specs.Entry.{Entry, entryOf}
 use Rattle.model.specs.Holds.{HoldsCard}
 use Rattle.model.specs.Lookup.{Found, absent, found, lookIn, tell}
 use Rattle.model.specs.Names.{Name, Path}
+use Rattle.model.specs.Pages.{decoded}
 use Rattle.model.specs.Tree.{Root, Slot, Tree, rootSlot}
 use Rattle.model.specs.View.{View}
-use Rattle.fields.specs.PathBytes.{nameAt, pathOf}
-use Rattle.fields.proofs.PathLaws.{name-of-path}
+use Rattle.reached.specs.Table.{tableLinks}
 use Rattle.lookup.specs.declared.way.Arrival.{Arrival}
 use Rattle.lookup.specs.declared.way.Arrival.the-variants as arrival
-use Rattle.lookup.specs.Descend.{Arrives, Stands, arrive}
-use Rattle.lookup.proofs.EnterLaws.{root-stands, some-same}
-
-drop-all : (q : Path) (i : ℕ) → length q ≤ i → drop i q ≡ []
-drop-all [] zero h = refl
-drop-all [] (suc i) h = refl
-drop-all (n ∷ q) zero h = absurd (omega arith)
-drop-all (n ∷ q) (suc i) h = drop-all q i (omega arith)
+use Rattle.lookup.specs.declared.way.Arrived.{Arrived}
+use Rattle.lookup.specs.Descend.{Stands, atRoot, descended, entered, namesFrom, onward}
+use Rattle.lookup.proofs.Arrivals.{Arrives, ArrivesBy, arrive}
+use Rattle.lookup.proofs.DescendSteps.{onward-absent, onward-kind, standing}
+use Rattle.lookup.proofs.EnterLaws.{enters, root-stands, some-same}
 
 -- one name, then the others
 arrive-more : (h : Slot) (s : Tree) (n : Name) (q : Path) → arrive h s (n ∷ q) ≡ andThen (arrive h s (n ∷ [])) (λ x. arrive (x .0) (x .1) q)
@@ -38,62 +36,78 @@ arrive-more (Slot.directory e cs) s n q = go (lookIn s (n ∷ []))
     go absent = refl
     go (found h t) = refl
 
--- where the loop stands: a slot with the entry of this page, from which the names from i on lead where the whole path leads
-abbrev pub Way : View → Root → Path → ℕ → ℕ → Entry → Type 0
-Way v root names i first e =
-    (h : Slot) × (s : Tree) × Stands v first e h s × (arrive h s (drop i names) ≡ arrive (rootSlot root) (root .slots) names)
+module _ (v : View) (t : List ℕ) (names : Path) where
+  -- the other names, from where the first one leads
+  abbrev pub Others : Type 0
+  Others = (first p : ℕ) (page : List ℕ) (h : Slot) (s : Tree) → Stands v first (entryOf page) h s → ArrivesBy v (arrive h s names) (onward v t (standing first p page) names)
 
--- the same for every card that the view holds and every path that the bytes are
-abbrev pub OnWay : View → List ℕ → ℕ → ℕ → ℕ → Entry → Type 0
-OnWay v path count i first e = (root : Root) → HoldsCard v root → (names : Path) → pathOf path ≡ some names → length names ≡ count → Way v root names i first e
+  ended : (a : Arrived) (r : Result (Slot × Tree)) → ((x : Slot × Tree) → ArrivesBy v (ok x) a → ⊥) → ArrivesBy v r a → ArrivesBy v (andThen r (λ x. arrive (x .0) (x .1) names)) a
+  unfolding andThen
+  ended a (fault k b) never u = u
+  ended a (ok y) never u = absurd (never y u)
 
+  next-arrives : Others → (a : Arrived) (r : Result (Slot × Tree)) → ArrivesBy v r a → ArrivesBy v (andThen r (λ x. arrive (x .0) (x .1) names)) (onward v t a names)
+  unfolding andThen
+  next-arrives others a r u = go (a .arrival) refl
+    where
+      on : (next p : ℕ) (page : List ℕ) (r : Result (Slot × Tree)) → Arrives v r (arrival.At next) page
+          → ArrivesBy v (andThen r (λ x. arrive (x .0) (x .1) names)) (onward v t (standing next p page) names)
+      on next p page (fault k b) u = absurd u
+      on next p page (ok y) u = others next p page (y .0) (y .1) u
+
+      go : (b : Arrival) → a .arrival ≡ b → ArrivesBy v (andThen r (λ x. arrive (x .0) (x .1) names)) (onward v t a names)
+      go arrival.Absent e = rw (onward-absent v t a names e) (ended a r (λ x u. rw e at u) u)
+      go arrival.WrongKind e = rw (onward-kind v t a names e) (ended a r (λ x u. rw e at u) u)
+      go (arrival.At next) e = rw e (on next (a .at) (a .page) r (rw e at u))
+
+-- the root stands where page 0 was read
+pub root-read : (v : View) → ((p : ℕ) → v .entry p ≡ decoded (v .page p)) → (root : Root) → HoldsCard v root → (page : List ℕ) → v .page 0 ≡ some page
+    → Stands v 0 (entryOf page) (rootSlot root) (root .slots)
+root-read v reads root card page e =
+    stands-same (root .rootEntry) (entryOf page) (some-same _ _ (sym (card .rootPage) ∙ (reads 0 ∙ ap decoded e))) (root-stands v root card)
+  where
+    stands-same : (d e : Entry) → d ≡ e → Stands v 0 d (rootSlot root) (root .slots) → Stands v 0 e (rootSlot root) (root .slots)
+    stands-same d e q x = rw (← q) x
+
+module _ (v : View) (t : List ℕ) (links : (c : ℕ) → v .link c ≡ tableLinks t c) (reads : (p : ℕ) → v .entry p ≡ decoded (v .page p)) where
+  -- from an entry that stands in the tree on
+  pub onward-arrives : (names : Path) (first p : ℕ) (page : List ℕ) (h : Slot) (s : Tree) → Stands v first (entryOf page) h s
+      → ArrivesBy v (arrive h s names) (onward v t (standing first p page) names)
+  unfolding onward andThen
+  onward-arrives [] first p page h s x = x
+  onward-arrives (n ∷ names) first p page h s x =
+      rw (arrive-more h s n names) (next-arrives v t names (λ first p page h s. onward-arrives names first p page h s) (entered v t first page n) (arrive h s (n ∷ [])) (enters v t links reads first page n h s x))
+
+  pub descended-arrives : (root : Root) → HoldsCard v root → (names : Path)
+      → ArrivesBy v (arrive (rootSlot root) (root .slots) names) (descended v t names)
+  unfolding descended
+  descended-arrives root card names = go (v .page 0) refl
+    where
+      go : (o : Option (List ℕ)) → v .page 0 ≡ o → ArrivesBy v (arrive (rootSlot root) (root .slots) names) (onward v t (atRoot o) names)
+      go none e = absurd (let z : none ≡ some (root .rootEntry) = sym (reads 0 ∙ ap decoded e) ∙ card .rootPage in let w : _≡_ {A = ℕ} 0 1 = cc in omega arith)
+      go (some page) e = onward-arrives names 0 0 page (rootSlot root) (root .slots) (root-read v reads root card page e)
+
+-- ---- the names of a path's bytes
+
+names-get : (q : Path) (bytes : List ℕ) (i : ℕ) → ((j : ℕ) → j < length q → nameAt bytes (i + j) ≡ getD q j []) → namesFrom bytes i (length q) ≡ q
+names-get [] bytes i h = refl
+names-get (n ∷ q) bytes i h =
+    let z : i + 0 ≡ i = omega arith in
+    ap₂ (λ x y. x ∷ y) (ap (nameAt bytes) (sym z) ∙ h 0 (omega arith))
+    (names-get q bytes (suc i) (λ j l. let y : suc i + j ≡ i + suc j = omega arith in ap (nameAt bytes) y ∙ h (suc j) (omega arith)))
+
+-- of a path they are its own
+pub names-of-path : (bytes : List ℕ) (names : Path) → pathOf bytes ≡ some names → namesFrom bytes 0 (length names) ≡ names
+names-of-path bytes names e =
+    names-get names bytes 0 (λ j l. let z : 0 + j ≡ j = omega arith in ap (nameAt bytes) z ∙ name-of-path bytes names j e l)
+
+-- for every card that the view holds and every path that the bytes are
 abbrev pub Leads : View → List ℕ → ℕ → Arrival → List ℕ → Type 0
 Leads v path count a page =
     (root : Root) → HoldsCard v root → (names : Path) → pathOf path ≡ some names → length names ≡ count → Arrives v (arrive (rootSlot root) (root .slots) names) a page
 
-module _ (v : View) (path : List ℕ) (count : ℕ) where
-  pub way-start : (e : Entry) → v .entry 0 ≡ some e → OnWay v path count 0 0 e
-  way-start e x root c names p l =
-      (rootSlot root, root .slots, rw (← some-same _ _ (sym (c .rootPage) ∙ x)) (root-stands v root c), refl)
-
-  module _ (i first : ℕ) (e : Entry) (w : OnWay v path count i first e) (page : List ℕ) where
-    -- at the end of the names
-    pub way-end : e ≡ entryOf page → count ≤ i → Leads v path count (arrival.At first) page
-    way-end q h root c names p l =
-        let x = w root c names p l in
-        let z : drop i names ≡ [] = drop-all names i (omega arith) in
-        rw (← x .3, z, ← q) (x .2)
-
-    module _ (h : i < count) (a : Arrival) (n : Name) (named : n ≡ nameAt path i)
-        (step : (g : Slot) (s : Tree) → Stands v first e g s → Arrives v (arrive g s (n ∷ [])) a page) where
-      onward : (root : Root) → HoldsCard v root → (names : Path) → pathOf path ≡ some names → length names ≡ count
-          → (r : Result (Slot × Tree)) × Arrives v r a page × (arrive (rootSlot root) (root .slots) names ≡ andThen r (λ x. arrive (x .0) (x .1) (drop (i + 1) names)))
-      onward root c names p l =
-          let x = w root c names p l in
-          let m : n ≡ getD names i [] = named ∙ name-of-path path names i p (omega arith) in
-          let d : drop i names ≡ n ∷ drop (i + 1) names = drop-cons names i [] (omega arith) ∙ rw (add-one i, m) in
-          (arrive (x .0) (x .1) (n ∷ []), step (x .0) (x .1) (x .2), sym (x .3) ∙ ap (arrive (x .0) (x .1)) d ∙ arrive-more (x .0) (x .1) n (drop (i + 1) names))
-
-      refused : ((x : Slot × Tree) → Arrives v (ok x) a page → ⊥) → Leads v path count a page
-      unfolding andThen
-      refused never root c names p l = let y = onward root c names p l in go (y .0) (y .1) (y .2)
-        where
-          go : (r : Result (Slot × Tree)) → Arrives v r a page → arrive (rootSlot root) (root .slots) names ≡ andThen r (λ x. arrive (x .0) (x .1) (drop (i + 1) names))
-              → Arrives v (arrive (rootSlot root) (root .slots) names) a page
-          go (fault k b) u z = rw z u
-          go (ok x) u z = absurd (never x u)
-
-      pub way-absent : a ≡ arrival.Absent → Leads v path count a page
-      way-absent q = refused (λ x u. rw q at u)
-
-      pub way-kind : a ≡ arrival.WrongKind → Leads v path count a page
-      way-kind q = refused (λ x u. rw q at u)
-
-      pub way-on : (next : ℕ) → a ≡ arrival.At next → OnWay v path count (i + 1) next (entryOf page)
-      unfolding andThen
-      way-on next q root c names p l = let y = onward root c names p l in go (y .0) (y .1) (y .2)
-        where
-          go : (r : Result (Slot × Tree)) → Arrives v r a page → arrive (rootSlot root) (root .slots) names ≡ andThen r (λ x. arrive (x .0) (x .1) (drop (i + 1) names))
-              → Way v root names (i + 1) next (entryOf page)
-          go (fault k b) u z = absurd (rw q at u)
-          go (ok x) u z = (x .0, x .1, rw q at u, sym z)
+pub leads : (offset : ℕ) (table image path : List ℕ) (count : ℕ) (r : Arrived) → r ≡ descended (viewBy offset table image) table (namesFrom path 0 count)
+    → Leads (viewBy offset table image) path count (r .arrival) (r .page)
+leads offset table image path count r e root card names p l =
+    let same : namesFrom path 0 count ≡ names = ap (namesFrom path 0) (sym l) ∙ names-of-path path names p in
+    rw (e, same) (descended-arrives (viewBy offset table image) table (λ c. refl) (λ a. refl) root card names)

@@ -1,23 +1,27 @@
 -- One name further: from a slot that the view holds to the slot that is found inside it.
-use Prim.Native.Nat.{_-_, _<_, ℕ}
+use Prim.Native.Nat.{_-_, ℕ}
 use mathlib.Core.Bool.{Bool, _&&_, false, not, true}
 use mathlib.Core.List.{List, [], _∷_}
-use mathlib.Core.Option.{some}
+use mathlib.Core.Option.{Option, none, some}
 use mathlib.Core.Path.{_∙_, _≡_, ap, refl, sym}
+use native.Mathlib.Omega.{arith}
 use lib.Dec.{leb→le}
 use Rattle.model.proofs.Equality.{and-l, and-r, tf, to-T}
+use Rattle.model.specs.Bytes.{word}
 use Rattle.model.specs.Check.{ok}
 use Rattle.model.specs.Entry.{Entry, entryOf, hasBit, isDirectory, isFile, isLive}
 use Rattle.model.specs.Holds.{HoldsCard, HoldsSlot, HoldsSlots, deepest}
 use Rattle.model.specs.Lookup.{absent, lookIn}
 use Rattle.model.specs.Names.{Name, goodName, sameName}
+use Rattle.model.specs.Pages.{decoded}
 use Rattle.model.specs.Tree.{Root, Slot, Tree, entryPages, rootSlot}
 use Rattle.model.specs.View.{View}
 use Rattle.reached.specs.Table.{tableLinks}
 use Rattle.lookup.specs.declared.way.Arrival.the-variants as arrival
 use Rattle.lookup.specs.declared.along.Place.{Place}
 use Rattle.lookup.specs.declared.along.Place.the-variants as place
-use Rattle.lookup.specs.Descend.{Arrives, Stands, Within, arrive, bearing, scan}
+use Rattle.lookup.specs.Descend.{Stands, bearing, entered, landed, landedAt, nowhere, pickArrived, scan}
+use Rattle.lookup.proofs.Arrivals.{Arrives, ArrivesBy, arrive}
 use Rattle.tree.specs.Slots.{nextOf, slotPages}
 use Rattle.tree.proofs.ChainPages.{directory-pages}
 use Rattle.lookup.proofs.FindLaws.{Finds, scan-finds}
@@ -46,24 +50,29 @@ root-stands v r x =
 pub some-same : (a b : Entry) → some a ≡ some b → a ≡ b
 some-same a b e = cc
 
+-- the slots of a directory that stands: their pages are those that the code steps through, and they hold the tree's
+module _ (v : View) (t : List ℕ) (links : (c : ℕ) → v .link c ≡ tableLinks t c) (first : ℕ) (e d : Entry) (cs : List ℕ) (s : Tree) (x : Stands v first e (Slot.directory d cs) s) where
+  pub stands-chain : (ds : List ℕ) × (cs ≡ first ∷ ds) × (entryPages (Slot.directory d cs) ≡ slotPages t (nextOf t first) 0 (e .length - 2))
+  stands-chain = let a = directory-pages v t links first cs (x .4) (e .length) (x .2) (x .3) in (a .0, a .1, rw (x .0) (a .2))
+
+  pub stands-held : HoldsSlots v (x .5 .0) (slotPages t (nextOf t first) 0 (e .length - 2)) s
+  stands-held = rw (stands-chain .2) at (x .5 .1)
+
 module _ (v : View) (t : List ℕ) (links : (c : ℕ) → v .link c ≡ tableLinks t c) (first : ℕ) (e : Entry) (n : Name) where
   -- the place of a name in a directory of this entry
-  abbrev pub placed : Place
+  abbrev placed : Place
   placed = scan (bearing v n) (slotPages t (nextOf t first) 0 (e .length - 2)) 0
 
-  pub enter-file : (h : Slot) (s : Tree) (page : List ℕ) → Stands v first e h s → isDirectory e ≡ false → Arrives v (arrive h s (n ∷ [])) arrival.WrongKind page
+  enter-file : (h : Slot) (s : Tree) (page : List ℕ) → Stands v first e h s → isDirectory e ≡ false → Arrives v (arrive h s (n ∷ [])) arrival.WrongKind page
   enter-file Slot.dead s page x f = absurd x
   enter-file (Slot.file d cs ds) s page x f = (refl, refl)
   enter-file (Slot.directory d cs) s page x f = tf (x .1) f
 
   -- a directory's place of a name says what is found
   directory-finds : (d : Entry) (cs : List ℕ) (s : Tree) → (x : Stands v first e (Slot.directory d cs) s) → Finds v (x .5 .0) s n placed
-  directory-finds d cs s x =
-      let a = directory-pages v t links first cs (x .4) (e .length) (x .2) (x .3) in
-      let y : HoldsSlots v (x .5 .0) (slotPages t (nextOf t first) 0 (e .length - 2)) s = rw (x .0, a .2) at (x .5 .1) in
-      scan-finds v (x .5 .0) n (slotPages t (nextOf t first) 0 (e .length - 2)) s 0 y
+  directory-finds d cs s x = scan-finds v (x .5 .0) n (slotPages t (nextOf t first) 0 (e .length - 2)) s 0 (stands-held v t links first e d cs s x)
 
-  pub enter-absent : (h : Slot) (s : Tree) (page : List ℕ) → Stands v first e h s → isDirectory e ≡ true → placed ≡ place.Nowhere → Arrives v (arrive h s (n ∷ [])) arrival.Absent page
+  enter-absent : (h : Slot) (s : Tree) (page : List ℕ) → Stands v first e h s → isDirectory e ≡ true → placed ≡ place.Nowhere → Arrives v (arrive h s (n ∷ [])) arrival.Absent page
   enter-absent Slot.dead s page x f q = absurd x
   enter-absent (Slot.file d cs ds) s page x f q = tf f (x .1)
   enter-absent (Slot.directory d cs) s page x f q =
@@ -71,7 +80,7 @@ module _ (v : View) (t : List ℕ) (links : (c : ℕ) → v .link c ≡ tableLin
       rw y (refl, refl)
 
   -- the page of a name that is found holds an entry, which stands there
-  pub enter-found : (h : Slot) (s : Tree) → Stands v first e h s → isDirectory e ≡ true → (k p : ℕ) → placed ≡ place.At k p
+  enter-found : (h : Slot) (s : Tree) → Stands v first e h s → isDirectory e ≡ true → (k p : ℕ) → placed ≡ place.At k p
       → (g : Slot) × (u : Tree) × (d : Entry) × (v .entry p ≡ some d) × Stands v (d .firstCluster) d g u × (arrive h s (n ∷ []) ≡ ok (g, u))
   enter-found Slot.dead s x f k p q = absurd x
   enter-found (Slot.file d cs ds) s x f k p q = tf f (x .1)
@@ -84,17 +93,29 @@ module _ (v : View) (t : List ℕ) (links : (c : ℕ) → v .link c ≡ tableLin
   stands-as g u d d′ next x z eq = rw (eq, ← z) x
 
   -- the entry that was read stands where the name leads
-  pub enter-there : (h : Slot) (s : Tree) → Stands v first e h s → isDirectory e ≡ true → (k p : ℕ) → placed ≡ place.At k p
+  enter-there : (h : Slot) (s : Tree) → Stands v first e h s → isDirectory e ≡ true → (k p : ℕ) → placed ≡ place.At k p
       → (page : List ℕ) (next : ℕ) → v .entry p ≡ some (entryOf page) → next ≡ (entryOf page) .firstCluster → Arrives v (arrive h s (n ∷ [])) (arrival.At next) page
   enter-there h s x f k p q page next read eq =
       let y = enter-found h s x f k p q in
       let z : y .2 ≡ entryOf page = some-same _ _ (sym (y .3) ∙ read) in
       rw (y .5) (stands-as (y .0) (y .1) (y .2) (entryOf page) next (y .4) z eq)
 
--- the code's place of a name is the one asked for
-pub placed-as : (v : View) (t : List ℕ) (n : Name) (first length start count len : ℕ) {r : Place} → start ≡ nextOf t first → count ≡ len - 2 → len ≡ length
-    → r ≡ scan (bearing v n) (slotPages t start 0 count) 0 → scan (bearing v n) (slotPages t (nextOf t first) 0 (length - 2)) 0 ≡ r
-placed-as v t n first length start count len a b c d = sym (rw (a, b, c) at d)
+-- One name further the code arrives where the tree's name leads; the view's entries are those of its pages.
+pub enters : (v : View) (t : List ℕ) → ((c : ℕ) → v .link c ≡ tableLinks t c) → ((p : ℕ) → v .entry p ≡ decoded (v .page p)) → (first : ℕ) (page : List ℕ) (n : Name) (h : Slot) (s : Tree)
+    → Stands v first (entryOf page) h s → ArrivesBy v (arrive h s (n ∷ [])) (entered v t first page n)
+unfolding entered
+enters v t links reads first page n h s x = kind (isDirectory (entryOf page)) refl
+  where
+    read : isDirectory (entryOf page) ≡ true → (k p : ℕ) → placed v t links first (entryOf page) n ≡ place.At k p → (o : Option (List ℕ)) → v .page p ≡ o → ArrivesBy v (arrive h s (n ∷ [])) (landed p o)
+    read d k p q none r =
+        let y = enter-found v t links first (entryOf page) n h s x d k p q in
+        absurd (let z : none ≡ some (y .2) = sym (reads p ∙ ap decoded r) ∙ y .3 in let w : _≡_ {A = ℕ} 0 1 = cc in omega arith)
+    read d k p q (some bytes) r = enter-there v t links first (entryOf page) n h s x d k p q bytes (word bytes 0x10) (reads p ∙ ap decoded r) refl
 
-pub within : (count : ℕ) (r : Place) (k p : ℕ) → Within count r → r ≡ place.At k p → (p < 8589934592) × (k < count)
-within count r k p w e = rw e at w
+    found : isDirectory (entryOf page) ≡ true → (r : Place) → placed v t links first (entryOf page) n ≡ r → ArrivesBy v (arrive h s (n ∷ [])) (landedAt v r)
+    found d place.Nowhere q = enter-absent v t links first (entryOf page) n h s _ x d q
+    found d (place.At k p) q = read d k p q (v .page p) refl
+
+    kind : (b : Bool) → isDirectory (entryOf page) ≡ b → ArrivesBy v (arrive h s (n ∷ [])) (pickArrived b (landedAt v (placed v t links first (entryOf page) n)) (nowhere arrival.WrongKind))
+    kind true d = found d (placed v t links first (entryOf page) n) refl
+    kind false d = enter-file v t links first (entryOf page) n h s _ x d

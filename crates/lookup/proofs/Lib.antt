@@ -2,9 +2,15 @@
 pub mod PageReads
 pub mod ScanLaws
 pub mod FindLaws
+pub mod Arrivals
+pub mod SlotLaws
 pub mod EnterLaws
+pub mod EnterSteps
+pub mod DescendSteps
 pub mod DescendLaws
+pub mod WayPages
 pub mod PathWalk
+pub mod SiteLaws
 pub mod CallLaws
 pub mod AnswerLaws
 pub mod StepLaws

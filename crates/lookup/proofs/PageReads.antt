@@ -1,5 +1,5 @@
 -- What the code reads of a page is the view's.
-use mathlib.Core.Bool.{Bool, _&&_, cond, false, true}
+use mathlib.Core.Bool.{Bool, _&&_, cond, false, not, true}
 use mathlib.Core.List.{List}
 use mathlib.Core.Option.{Option, none, some}
 use mathlib.Core.Path.{_∙_, _≡_, refl}
@@ -13,7 +13,7 @@ use Rattle.page.proofs.Laws.{page-length}
 use Rattle.layout.specs.See.{pageIn}
 use lib.Dec.{ltb}
 use lib.ListN.{length}
-use Rattle.lookup.specs.Descend.{bears, lives}
+use Rattle.lookup.specs.Descend.{bears, dies, lives}
 use Rattle.tree.proofs.LookLaws.{was-read}
 
 -- a page with an entry is readable
@@ -31,6 +31,10 @@ named-live n a b k e f g = rw (was-read k e, f, g)
 pub shown-live : {o : Option (List ℕ)} {before after : List ℕ} {r : Bool} (a : Bool) → Read o before r after → r ≡ true
     → a ≡ isLive (entryOf after) → a ≡ lives (decoded o)
 shown-live a k e f = rw (was-read k e, f)
+
+pub shown-dead : {o : Option (List ℕ)} {before after : List ℕ} {r : Bool} (a : Bool) → Read o before r after → r ≡ true
+    → a ≡ isLive (entryOf after) → not a ≡ dies (decoded o)
+shown-dead a k e f = rw (was-read k e, f)
 
 pub none-lives : {o : Option Entry} → o ≡ none → false ≡ lives o
 none-lives e = rw e

@@ -5,8 +5,8 @@ use mathlib.Core.List.{List}
 use mathlib.Core.Path.{_∙_, _≡_, ap, refl, sym}
 use native.Mathlib.Numerals.{add-one}
 use native.Mathlib.Omega.{arith}
-use Rattle.lookup.specs.Descend.{pickPlace, scan}
-use Rattle.tree.specs.Slots.{clusterAt, slotPage, slotPages, stepOf}
+use Rattle.lookup.specs.Descend.{Within, pickPlace, scan}
+use Rattle.tree.specs.Slots.{clusterAt, nextOf, slotPage, slotPages, stepOf}
 use Rattle.lookup.specs.declared.along.Place.{Place}
 use Rattle.lookup.specs.declared.along.Place.the-variants as place
 
@@ -40,3 +40,11 @@ module _ (test : ℕ → ℕ → Bool) (t : List ℕ) (c k n : ℕ) (h : k < n) 
 
   pub scan-later : (page x : ℕ) → page ≡ slotPage c k → x ≡ stepOf t c k → test k page ≡ false → rest test t x (k + 1) n ≡ rest test t c k n
   scan-later page x at s e = let f : test k (slotPage c k) ≡ false = ap (test k) (sym at) ∙ e in rw (add-one k, s) (sym (one ∙ rw f))
+
+pub within : (count : ℕ) (r : Place) (k p : ℕ) → Within count r → r ≡ place.At k p → (p < 8589934592) × (k < count)
+within count r k p w e = rw e at w
+
+-- the code's scan of a directory's slots, by the numbers that it computed, is the one asked for
+pub scan-as : (test : ℕ → ℕ → Bool) (t : List ℕ) (first length start count len : ℕ) (r : Place) → start ≡ nextOf t first → count ≡ len - 2 → len ≡ length
+    → r ≡ scan test (slotPages t start 0 count) 0 → scan test (slotPages t (nextOf t first) 0 (length - 2)) 0 ≡ r
+scan-as test t first length start count len r a b c d = sym (rw (a, b, c) at d)

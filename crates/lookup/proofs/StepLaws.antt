@@ -27,9 +27,9 @@ use Rattle.lookup.specs.declared.along.Place.{Place}
 use Rattle.lookup.specs.declared.along.Place.the-variants as place
 use Rattle.lookup.specs.declared.stepping.Stepped.the-variants as stepped
 use Rattle.lookup.specs.declared.stepping.SteppedEntry.{SteppedEntry}
-use Rattle.tree.proofs.ChainPages.{directory-pages}
+use Rattle.lookup.proofs.ScanLaws.{scan-as}
 use Rattle.lookup.proofs.FindLaws.{directory-live, file-live}
-use Rattle.lookup.proofs.EnterLaws.{some-same}
+use Rattle.lookup.proofs.EnterLaws.{some-same, stands-held}
 
 -- slots are counted from slot 2
 shift : (slot k at : ℕ) → at ≡ k + 2 → leb (slot - 2) k ≡ leb slot at
@@ -92,9 +92,7 @@ module _ (v : View) (t : List ℕ) (links : (c : ℕ) → v .link c ≡ tableLin
   lived Slot.dead s x f = absurd x
   lived (Slot.file d cs ds) s x f = tf f (x .1)
   lived (Slot.directory d cs) s x f =
-      let a = directory-pages v t links first cs (x .4) (e .length) (x .2) (x .3) in
-      let y : HoldsSlots v (x .5 .0) (slotPages t (nextOf t first) 0 (e .length - 2)) s = rw (x .0, a .2) at (x .5 .1) in
-      (liveFrom slot 2 s, refl, scan-lives v slot (x .5 .0) (slotPages t (nextOf t first) 0 (e .length - 2)) s 0 2 refl y)
+      (liveFrom slot 2 s, refl, scan-lives v slot (x .5 .0) (slotPages t (nextOf t first) 0 (e .length - 2)) s 0 2 refl (stands-held v t links first e d cs s x))
 
   module _ (h : Slot) (s : Tree) (x : Stands v first e h s) (f : isDirectory e ≡ true) where
     pub step-end : (d : fields.Entry) → next-live ≡ place.Nowhere → d ≡ blankEntry → TellsStep (stepFrom slot h s) (record { place = stepped.End; entry = d })
@@ -124,7 +122,7 @@ module _ (v : View) (t : List ℕ) (links : (c : ℕ) → v .link c ≡ tableLin
 -- the code's scan is the one asked for
 pub live-as : (v : View) (t : List ℕ) (first slot length start count len from : ℕ) {r : Place} → start ≡ nextOf t first → count ≡ len - 2 → len ≡ length → from ≡ slot - 2
     → r ≡ scan (livingFrom v from) (slotPages t start 0 count) 0 → scan (livingFrom v (slot - 2)) (slotPages t (nextOf t first) 0 (length - 2)) 0 ≡ r
-live-as v t first slot length start count len from a b c d e = sym (rw (a, b, c, d) at e)
+live-as v t first slot length start count len from {r} a b c d e = scan-as (livingFrom v (slot - 2)) t first length start count len r a b c (rw d at e)
 
 -- the step at a path is the one from the slot there
 pub step-at : (slot : ℕ) (x : Result (Option (ℕ × Entry))) (v : View) (first : ℕ) (e : Entry) (r : SteppedEntry)

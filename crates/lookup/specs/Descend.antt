@@ -1,21 +1,23 @@
 -- The lookup as the code does it: along a directory's slots, and from one directory to the next.
-use Prim.Native.Nat.{ℕ, suc, _+_, _/_, _<_, _≤_}
+use Prim.Native.Nat.{ℕ, suc, zero, _+_, _-_, _/_, _<_, _≤_}
 use mathlib.Core.Bool.{Bool, _&&_, false, not, true}
 use mathlib.Core.List.{List, [], _++_, _∷_, map}
 use mathlib.Core.Logic.{_⊎_}
 use mathlib.Core.Option.{Option, none, some}
 use mathlib.Core.Path.{_≡_}
 use lib.Dec.{leb}
-use lib.ListN.{length}
-use Rattle.model.specs.Check.{Result, fault, ok}
+use lib.ListN.{length, replicate}
+use Rattle.fields.specs.PathBytes.{nameAt}
+use Rattle.model.specs.Bytes.{word}
 use Rattle.model.specs.Entry.{Entry, directoryClusters, entryOf, fileClusters, isDirectory, isLive}
 use Rattle.model.specs.Holds.{Chain, HoldsSlots}
-use Rattle.model.specs.Lookup.{lookIn, tell}
 use Rattle.model.specs.Names.{Name, Path, sameName}
 use Rattle.model.specs.Tree.{Slot, Tree, entryPages}
 use Rattle.model.specs.View.{View, pagesOf}
 use Rattle.page.specs.Page.{isSome}
 use Rattle.reached.specs.Table.{firstLinkOf}
+use Rattle.tree.specs.Slots.{nextOf, slotPages}
+use Rattle.lookup.specs.declared.way.Arrived.{Arrived}
 use Rattle.lookup.specs.declared.way.Arrival.{Arrival}
 use Rattle.lookup.specs.declared.way.Arrival.the-variants as arrival
 use Rattle.lookup.specs.declared.along.Place.{Place}
@@ -53,6 +55,14 @@ lives (some e) = isLive e
 abbrev pub livingFrom : View → ℕ → ℕ → ℕ → Bool
 livingFrom v from k p = leb from k && lives (v .entry p)
 
+-- a dead entry
+abbrev pub dies : Option Entry → Bool
+dies none = false
+dies (some e) = not (isLive e)
+
+abbrev pub dying : View → ℕ → ℕ → Bool
+dying v k p = dies (v .entry p)
+
 -- a page that is unreadable
 abbrev pub unread : View → ℕ → ℕ → Bool
 unread v k p = not (isSome (v .page p))
@@ -79,13 +89,6 @@ pub record Piece (skip left n : ℕ) : Type 0 where
 
 -- ---- from one directory to the next
 
--- from a slot on: each name in the directory that the names before it lead to
-abbrev pub arrive : Slot → Tree → Path → Result (Slot × Tree)
-arrive h s [] = ok (h, s)
-arrive Slot.dead s (n ∷ path) = fault 9 0
-arrive (Slot.file e chain pages) s (n ∷ path) = fault 10 0
-arrive (Slot.directory e chain) s (n ∷ path) = tell (λ h t. arrive h t path) (fault 9 0) (lookIn s (n ∷ []))
-
 -- the view holds this slot, whose entry is e and whose chain begins with cluster `first`, and all that is inside it
 abbrev pub Stands : View → ℕ → Entry → Slot → Tree → Type 0
 Stands v first e Slot.dead s = ⊥
@@ -95,11 +98,49 @@ Stands v first e (Slot.directory d chain) s =
     (d ≡ e) × (isDirectory e ≡ true) × (2 ≤ e .length) × (length chain ≡ directoryClusters e) × Chain v (firstLinkOf first) chain
     × ((below : ℕ) × HoldsSlots v below (entryPages (Slot.directory d chain)) s)
 
--- what an arrival says, with the page of the entry there
-abbrev pub Arrives : View → Result (Slot × Tree) → Arrival → List ℕ → Type 0
-Arrives v (fault n p) (arrival.At first) page = ⊥
-Arrives v (fault n p) arrival.Absent page = (n ≡ 9) × (p ≡ 0)
-Arrives v (fault n p) arrival.WrongKind page = (n ≡ 10) × (p ≡ 0)
-Arrives v (ok x) (arrival.At first) page = Stands v first (entryOf page) (x .0) (x .1)
-Arrives v (ok x) arrival.Absent page = ⊥
-Arrives v (ok x) arrival.WrongKind page = ⊥
+-- a way that leads nowhere: no page
+abbrev pub nowhere : Arrival → Arrived
+nowhere a = record { arrival = a; at = 0; page = replicate 512 0 }
+
+-- at the entry in page p, by what was read there
+abbrev pub landed : ℕ → Option (List ℕ) → Arrived
+landed p none = nowhere arrival.Absent
+landed p (some page) = record { arrival = arrival.At (word page 0x10); at = p; page = page }
+
+abbrev pub landedAt : View → Place → Arrived
+landedAt v place.Nowhere = nowhere arrival.Absent
+landedAt v (place.At k p) = landed p (v .page p)
+
+abbrev pub pickArrived : Bool → Arrived → Arrived → Arrived
+pickArrived true a b = a
+pickArrived false a b = b
+
+-- one name further: from the entry in a page, whose chain begins with cluster `first`, to the entry with this name in it
+unfoldable pub entered : View → List ℕ → ℕ → List ℕ → Name → Arrived
+entered v table first page n =
+    pickArrived (isDirectory (entryOf page))
+    (landedAt v (scan (bearing v n) (slotPages table (nextOf table first) 0 ((entryOf page) .length - 2)) 0))
+    (nowhere arrival.WrongKind)
+
+-- an arrival that is no entry ends the way
+abbrev pub further : Arrival → Arrived → (ℕ → Arrived) → Arrived
+further (arrival.At first) here next = next first
+further arrival.Absent here next = here
+further arrival.WrongKind here next = here
+
+unfoldable pub onward : View → List ℕ → Arrived → Path → Arrived
+onward v table here [] = here
+onward v table here (n ∷ names) = further (here .arrival) here (λ first. onward v table (entered v table first (here .page) n) names)
+
+-- The root's own first entry is in page 0, its chain begins with cluster 0.
+abbrev pub atRoot : Option (List ℕ) → Arrived
+atRoot none = nowhere arrival.Absent
+atRoot (some page) = record { arrival = arrival.At 0; at = 0; page = page }
+
+unfoldable pub descended : View → List ℕ → Path → Arrived
+descended v table names = onward v table (atRoot (v .page 0)) names
+
+-- `count` names of a path's bytes, from place i on
+abbrev pub namesFrom : List ℕ → ℕ → ℕ → Path
+namesFrom bytes i zero = []
+namesFrom bytes i (suc count) = nameAt bytes i ∷ namesFrom bytes (suc i) count

@@ -9,10 +9,10 @@ ghost use Prim.Native.Nat.{_-_, _<_};
 ghost use Rattle.lookup.specs.declared.along.Place.the-variants.{Nowhere};
 ghost use Rattle.layout.specs.See.{viewBy};
 ghost use Rattle.tree.specs.Slots.{clusterAt, slotPages};
-ghost use Rattle.lookup.specs.Descend.{Within, bearing, bears, livingFrom, scan, unread};
+ghost use Rattle.lookup.specs.Descend.{Within, bearing, bears, dies, dying, livingFrom, scan, unread};
 
 // A slot of a directory, counted from slot 2, and its page.
-pub(crate) enum Place {
+pub enum Place {
     At { slot: u32, page: usize },
     Nowhere,
 }
@@ -30,7 +30,7 @@ fn named_at(image: &[u8], table: &[u32], offset: u32, page: usize, name: &[u8]) 
 }
 
 // The first of `count` slots, which begin in cluster `start`, whose live entry has this name.
-pub(crate) fn find_name(
+pub fn find_name(
     image: &[u8],
     table: &[u32],
     offset: u32,
@@ -74,7 +74,7 @@ fn live_at(image: &[u8], table: &[u32], offset: u32, from: u32, k: u32, page: us
 }
 
 // The first of `count` slots, which begin in cluster `start`, that is `from` or a later one and has a live entry.
-pub(crate) fn first_live(
+pub fn first_live(
     image: &[u8],
     table: &[u32],
     offset: u32,
@@ -102,8 +102,42 @@ pub(crate) fn first_live(
     Place::Nowhere
 }
 
+// Whether a dead entry stands in the page.
+fn dead_at(image: &[u8], table: &[u32], offset: u32, page: usize) -> bool
+    requires { ⌜ page < 8589934592 ⌝ }
+    ensures { λ r. ⌜ r ≡ dies ((viewBy offset (now (table .entry)) (now (image .entry))) .entry page) ⌝ }
+{
+    let mut d = [0u8; 512];
+    if !read_slot(image, offset, table.len(), page, &mut d) {
+        return false;
+    }
+    !is_live(&d)
+}
+
+// The first of `count` slots, which begin in cluster `start`, whose entry is dead.
+pub fn first_dead(image: &[u8], table: &[u32], offset: u32, start: u32, count: u32) -> Place
+    ensures { λ r. ⌜ (r ≡ scan (dying (viewBy offset (now (table .entry)) (now (image .entry)))) (slotPages (now (table .entry)) start 0 count) 0) × Within count r ⌝ }
+{
+    let mut c = start;
+    let mut k: u32 = 0;
+    while k < count {
+        let page = slot_page(c, k);
+        if dead_at(image, table, offset, page) {
+            return Place::At {
+                slot: k,
+                page: page,
+            };
+        }
+        if k % 2 == 1 {
+            c = next_of(table, c);
+        }
+        k += 1;
+    }
+    Place::Nowhere
+}
+
 // The cluster of half cluster `count` of the chain that begins with cluster `first`.
-pub(crate) fn cluster_at(table: &[u32], first: u32, count: u32) -> u32
+pub fn cluster_at(table: &[u32], first: u32, count: u32) -> u32
     ensures { λ r. ⌜ r ≡ clusterAt (now (table .entry)) first count ⌝ }
 {
     let mut c = first;
@@ -127,7 +161,7 @@ fn unreadable_at(image: &[u8], table: &[u32], offset: u32, k: u32, page: usize) 
 }
 
 // The first unreadable one of the pages `low` to `high` - 1 of a file; page `low` lies in cluster `start`.
-pub(crate) fn first_unreadable(
+pub fn first_unreadable(
     image: &[u8],
     table: &[u32],
     offset: u32,

@@ -30,7 +30,7 @@ mul-loop : tie.Need-mul-loop Inv-loop μ-loop
 mul-loop c = omega arith
 
 table-page-requires : tie.Need-table-page-requires Inv-loop μ-loop
-table-page-requires c κs = (omega arith, omega arith)
+table-page-requires c κs = search needs
 
 read-page-requires : tie.Need-read-page-requires Inv-loop μ-loop
 read-page-requires c κs = search needs

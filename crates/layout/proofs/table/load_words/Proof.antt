@@ -28,7 +28,7 @@ loop-holds : tie.Need-loop-holds Inv-loop μ-loop
 loop-holds c = (omega arith, sym (filled-none _ _), refl, λ n. absurd (n refl))
 
 table-page-requires : tie.Need-table-page-requires Inv-loop μ-loop
-table-page-requires c κs = (omega arith, omega arith)
+table-page-requires c κs = search needs
 
 read-page-requires : tie.Need-read-page-requires Inv-loop μ-loop
 read-page-requires c κs = search needs

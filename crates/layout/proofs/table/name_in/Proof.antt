@@ -1,10 +1,15 @@
--- The word lies whole in the first page or in the second.
+-- The word lies whole in the first page or in the second, or past both.
 use mathlib.Core.Path.{_∙_}
 use denote.Ref.{now}
-use Rattle.layout.proofs.Texts.{word-first, word-second}
+use Rattle.layout.proofs.Texts.{word-first, word-past, word-second}
 use borrow.Author.Needs.{needs}
 use Rattle.layout.proofs.table.name_in.Statement.{statement}
 use Rattle.layout.proofs.table.name_in.Tie as tie
+
+returns : tie.Need-returns
+returns c =
+    let a = c .before .before .before .args in
+    word-past (now (a .first)) (now (a .second)) (a .i) (search needs) (search needs) (search needs)
 
 mul-word-in : tie.Need-mul-word-in
 mul-word-in c = search needs
@@ -18,15 +23,24 @@ mul-word-in-2 c = search needs
 word-in-requires-2 : tie.Need-word-in-requires-2
 word-in-requires-2 c κs = search needs
 
-returns : tie.Need-returns
-returns c =
-    c .word-in .ensures ∙ word-first (now (c .before .before .before .before .args .first)) (now (c .before .before .before .before .args .second)) (c .before .before .before .before .args .i) (search needs) (search needs)
-
 returns-2 : tie.Need-returns-2
 returns-2 c =
-    c .word-in2 .ensures ∙ word-second (now (c .before .before .before .before .args .first)) (now (c .before .before .before .before .args .second)) (c .before .before .before .before .args .i) (search needs) (search needs)
+    let a = c .before .before .before .before .before .args in
+    c .word-in .ensures ∙ word-first (now (a .first)) (now (a .second)) (a .i) (search needs) (search needs)
+
+returns-3 : tie.Need-returns-3
+returns-3 c =
+    let a = c .before .before .before .before .before .args in
+    c .word-in2 .ensures ∙ word-second (now (a .first)) (now (a .second)) (a .i) (search needs) (search needs)
 
 pub name-in-spec : {M : Type 1} → statement M
 name-in-spec =
     tie.close
-    (tie.spec mul-word-in word-in-requires mul-word-in-2 word-in-requires-2 returns returns-2)
+    (tie.spec
+    returns
+    mul-word-in
+    word-in-requires
+    mul-word-in-2
+    word-in-requires-2
+    returns-2
+    returns-3)

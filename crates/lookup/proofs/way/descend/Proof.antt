@@ -1,35 +1,37 @@
 -- The loop of `descend` keeps that the names left lead on to where the whole path leads.
 use Prim.Native.Nat.{_-_, _<_, _≤_, _^_}
-use mathlib.Core.Path.{refl}
+use mathlib.Core.Path.{_∙_}
 use native.Mathlib.Omega.{arith}
+use lib.ListN.{length}
 use borrow.Author.Needs.{needs}
 use borrow.Author.Tests.{not-false, not-true}
-use Rattle.model.proofs.Equality.{tf}
-use Rattle.model.specs.Entry.{entryOf}
-use Rattle.layout.specs.See.{viewBy}
-use Rattle.lookup.proofs.DescendLaws.{OnWay, way-absent, way-end, way-kind, way-on, way-start}
-use Rattle.lookup.proofs.PageReads.{readable}
+use Rattle.layout.specs.See.{pageIn, viewBy}
+use Rattle.page.proofs.Puts.{read-none, read-some}
+use Rattle.lookup.proofs.DescendSteps.{OnWay, way-absent, way-end, way-kind, way-none, way-on, way-start}
+use Rattle.lookup.proofs.EnterSteps.{stays-zero}
 use Rattle.lookup.proofs.way.descend.Statement.{statement}
 use Rattle.lookup.proofs.way.descend.Tie as tie
-use Rattle.tree.proofs.LookLaws.{was-read}
 
 abbrev Inv-loop : tie.InvT-loop
-Inv-loop image table offset path count page₀ first₀ i₀ page first i =
-    (i ≤ count) × (first < 2 ^ 32) × OnWay (viewBy offset table image) path count i first (entryOf page)
+Inv-loop image table offset path count page₀ first₀ at₀ i₀ page first at i =
+    (i ≤ count) × (first < 2 ^ 32) × (at < 2 ^ 64) × OnWay (viewBy offset table image) table path count i first at page
 
 abbrev μ-loop : tie.MeasureT-loop
-μ-loop image table offset path count page₀ first₀ i₀ page first i = count - i
+μ-loop image table offset path count page₀ first₀ at₀ i₀ page first at i = count - i
 
 read-slot-requires : tie.Need-read-slot-requires Inv-loop μ-loop
 read-slot-requires c κs = search needs
 
 returns : tie.Need-returns Inv-loop μ-loop
 returns c =
-    λ root card names p l. absurd (tf (readable (c .before .read-slot .ensures) (card .rootPage)) (not-true _ (c .if1 .taken)))
+    let a = c .before .before .before .before .before .before .args in
+    stays-zero (pageIn (a .offset) (length (a .table .now)) (a .image .now) 0) _ _ (c .before .read-slot .ensures) (not-true _ (c .if1 .taken))
+    ∙ way-none (viewBy (a .offset) (a .table .now) (a .image .now)) (a .table .now) (a .path .now) (a .count) (read-none _ (c .before .read-slot .ensures) (not-true _ (c .if1 .taken)))
 
 loop-holds : tie.Need-loop-holds Inv-loop μ-loop
 loop-holds c =
-    (omega arith, omega arith, way-start (viewBy (c .before .before .before .before .before .before .args .offset) (c .before .before .before .before .before .before .args .table .now) (c .before .before .before .before .before .before .args .image .now)) (c .before .before .before .before .before .before .args .path .now) (c .before .before .before .before .before .before .args .count) _ (was-read (c .before .read-slot .ensures) (not-false _ (c .if1 .left))))
+    let a = c .before .before .before .before .before .before .args in
+    (omega arith, omega arith, omega arith, way-start (viewBy (a .offset) (a .table .now) (a .image .now)) (a .table .now) (a .path .now) (a .count) _ (read-some _ (c .before .read-slot .ensures) (not-false _ (c .if1 .left))))
 
 name-at-requires : tie.Need-name-at-requires Inv-loop μ-loop
 name-at-requires c κs = search needs
@@ -42,14 +44,16 @@ enum-told c = search needs
 
 returns-2 : tie.Need-returns-2 Inv-loop μ-loop
 returns-2 c =
-    way-absent (viewBy (c .before .before .before .before .before .before .before .before .before .before .before .before .before .args .offset) (c .before .before .before .before .before .before .before .before .before .before .before .before .before .args .table .now) (c .before .before .before .before .before .before .before .before .before .before .before .before .before .args .image .now)) (c .before .before .before .before .before .before .before .before .before .before .before .before .before .args .path .now) (c .before .before .before .before .before .before .before .before .before .before .before .before .before .args .count) _ _ _ (c .before .before .before .before .before .before .loop .inv .2) _ (c .before .before .before .before .before .loop-test .taken) _ _ (c .before .before .before .name-at .ensures) (c .before .before .enter .ensures) (c .enum-told .given .1)
+    let a = c .before .before .before .before .before .before .before .before .before .before .before .before .before .args in
+    way-absent (viewBy (a .offset) (a .table .now) (a .image .now)) (a .table .now) (a .path .now) (a .count) _ _ _ _ (c .before .before .before .before .before .before .loop .inv .3) (c .before .before .before .before .before .loop-test .taken) _ (c .before .before .before .name-at .ensures) _ (c .before .before .enter .ensures) (c .enum-told .given .1)
 
 enum-told-2 : tie.Need-enum-told-2 Inv-loop μ-loop
 enum-told-2 c = search needs
 
 returns-3 : tie.Need-returns-3 Inv-loop μ-loop
 returns-3 c =
-    way-kind (viewBy (c .before .before .before .before .before .before .before .before .before .before .before .before .before .args .offset) (c .before .before .before .before .before .before .before .before .before .before .before .before .before .args .table .now) (c .before .before .before .before .before .before .before .before .before .before .before .before .before .args .image .now)) (c .before .before .before .before .before .before .before .before .before .before .before .before .before .args .path .now) (c .before .before .before .before .before .before .before .before .before .before .before .before .before .args .count) _ _ _ (c .before .before .before .before .before .before .loop .inv .2) _ (c .before .before .before .before .before .loop-test .taken) _ _ (c .before .before .before .name-at .ensures) (c .before .before .enter .ensures) (c .enum-told2 .given .1)
+    let a = c .before .before .before .before .before .before .before .before .before .before .before .before .before .args in
+    way-kind (viewBy (a .offset) (a .table .now) (a .image .now)) (a .table .now) (a .path .now) (a .count) _ _ _ _ (c .before .before .before .before .before .before .loop .inv .3) (c .before .before .before .before .before .loop-test .taken) _ (c .before .before .before .name-at .ensures) _ (c .before .before .enter .ensures) (c .enum-told2 .given .1)
 
 enum-known-arrival : tie.Need-enum-known-arrival Inv-loop μ-loop
 enum-known-arrival c = search needs
@@ -62,11 +66,13 @@ loop-less c = omega arith
 
 loop-again : tie.Need-loop-again Inv-loop μ-loop
 loop-again c =
-    (omega arith, search needs, way-on (viewBy (c .before .before .before .before .before .before .before .before .before .before .before .before .before .before .before .args .offset) (c .before .before .before .before .before .before .before .before .before .before .before .before .before .before .before .args .table .now) (c .before .before .before .before .before .before .before .before .before .before .before .before .before .before .before .args .image .now)) (c .before .before .before .before .before .before .before .before .before .before .before .before .before .before .before .args .path .now) (c .before .before .before .before .before .before .before .before .before .before .before .before .before .before .before .args .count) _ _ _ (c .before .before .before .before .before .before .before .before .loop .inv .2) _ (c .before .before .before .before .before .before .before .loop-test .taken) _ _ (c .before .before .before .before .before .name-at .ensures) (c .before .before .before .before .enter .ensures) _ (c .before .before .arrival .given .1))
+    let a = c .before .before .before .before .before .before .before .before .before .before .before .before .before .before .before .args in
+    (omega arith, search needs, search needs, way-on (viewBy (a .offset) (a .table .now) (a .image .now)) (a .table .now) (a .path .now) (a .count) _ _ _ _ (c .before .before .before .before .before .before .before .before .loop .inv .3) (c .before .before .before .before .before .before .before .loop-test .taken) _ (c .before .before .before .before .before .name-at .ensures) _ (c .before .before .before .before .enter .ensures) _ (c .before .before .arrival .given .1))
 
 returns-4 : tie.Need-returns-4 Inv-loop μ-loop
 returns-4 c =
-    way-end (viewBy (c .before .before .before .before .before .before .before .before .args .offset) (c .before .before .before .before .before .before .before .before .args .table .now) (c .before .before .before .before .before .before .before .before .args .image .now)) (c .before .before .before .before .before .before .before .before .args .path .now) (c .before .before .before .before .before .before .before .before .args .count) (c .before .loop .i) _ _ (c .before .loop .inv .2) _ refl (omega arith)
+    let a = c .before .before .before .before .before .before .before .before .args in
+    way-end (viewBy (a .offset) (a .table .now) (a .image .now)) (a .table .now) (a .path .now) (a .count) (c .before .loop .i) _ _ _ (c .before .loop .inv .3) (omega arith)
 
 pub descend-spec : {M : Type 1} → statement M
 descend-spec =

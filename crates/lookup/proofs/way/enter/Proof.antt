@@ -1,22 +1,19 @@
--- `enter` reads the entry that the scan of the directory's slots finds; the laws say what stands there.
-use mathlib.Core.Path.{_∙_, refl, sym}
-use borrow.Author.Tests.{not-false, not-true}
-use Rattle.model.proofs.Equality.{tf}
-use Rattle.layout.specs.See.{viewBy}
-use Rattle.model.specs.Entry.{entryOf}
-use Rattle.lookup.proofs.EnterLaws.{enter-absent, enter-file, enter-found, enter-there, placed-as}
-use Rattle.lookup.proofs.PageReads.{readable}
+-- `enter` reads the page of the entry that the scan of the directory's slots finds, as the definition says.
+use mathlib.Core.Path.{_∙_, sym}
 use borrow.Author.Needs.{needs}
+use borrow.Author.Tests.{not-false, not-true}
+use Rattle.layout.specs.See.{viewBy}
+use Rattle.lookup.proofs.EnterSteps.{entered-absent, entered-kind, entered-read, entered-unread}
 use Rattle.lookup.proofs.way.enter.Statement.{statement}
 use Rattle.lookup.proofs.way.enter.Tie as tie
-use Rattle.tree.proofs.LookLaws.{was-read}
 
 is-directory-requires : tie.Need-is-directory-requires
 is-directory-requires c κs = search needs
 
 returns : tie.Need-returns
 returns c =
-    λ h s x. enter-file (viewBy (c .before .before .before .before .before .args .offset) (c .before .before .before .before .before .args .table .now) (c .before .before .before .before .before .args .image .now)) (c .before .before .before .before .before .args .table .now) (λ a. refl) (c .before .before .before .before .before .args .first) (entryOf (c .before .before .before .before .before .args .page .now)) (c .before .before .before .before .before .args .name .now) h s _ x (sym (c .before .is-directory .ensures) ∙ not-true _ (c .if1 .taken))
+    let a = c .before .before .before .before .before .args in
+    entered-kind (viewBy (a .offset) (a .table .now) (a .image .now)) (a .table .now) (a .name .now) (a .first) (a .page .now) (sym (c .before .is-directory .ensures) ∙ not-true _ (c .if1 .taken))
 
 next-of-requires : tie.Need-next-of-requires
 next-of-requires c κs = search needs
@@ -41,18 +38,21 @@ read-slot-requires c κs = search needs
 
 returns-2 : tie.Need-returns-2
 returns-2 c =
-    λ h s x. absurd (let f = enter-found (viewBy (c .before .before .before .before .before .before .before .before .before .before .before .before .before .before .before .args .offset) (c .before .before .before .before .before .before .before .before .before .before .before .before .before .before .before .args .table .now) (c .before .before .before .before .before .before .before .before .before .before .before .before .before .before .before .args .image .now)) (c .before .before .before .before .before .before .before .before .before .before .before .before .before .before .before .args .table .now) (λ a. refl) (c .before .before .before .before .before .before .before .before .before .before .before .before .before .before .before .args .first) (entryOf (c .before .before .before .before .before .before .before .before .before .before .before .before .before .before .before .args .page .now)) (c .before .before .before .before .before .before .before .before .before .before .before .before .before .before .before .args .name .now) h s x (sym (c .before .before .before .before .before .before .before .before .before .before .before .is-directory .ensures) ∙ not-false _ (c .before .before .before .before .before .before .before .before .before .before .if1 .left)) _ _ (placed-as (viewBy (c .before .before .before .before .before .before .before .before .before .before .before .before .before .before .before .args .offset) (c .before .before .before .before .before .before .before .before .before .before .before .before .before .before .before .args .table .now) (c .before .before .before .before .before .before .before .before .before .before .before .before .before .before .before .args .image .now)) (c .before .before .before .before .before .before .before .before .before .before .before .before .before .before .before .args .table .now) (c .before .before .before .before .before .before .before .before .before .before .before .before .before .before .before .args .name .now) (c .before .before .before .before .before .before .before .before .before .before .before .before .before .before .before .args .first) ((entryOf (c .before .before .before .before .before .before .before .before .before .before .before .before .before .before .before .args .page .now)) .length) _ _ _ (c .before .before .before .before .before .before .before .before .before .next-of .ensures) (c .before .before .before .before .before .before .before .slots-of .ensures) (c .before .before .before .before .before .before .before .before .word-at .ensures) (c .before .before .before .before .before .before .find-name .ensures .0) ∙ c .before .before .before .before .place .given .1) in tf (readable (c .before .read-slot .ensures) (f .3)) (not-true _ (c .if2 .taken)))
+    let a = c .before .before .before .before .before .before .before .before .before .before .before .before .before .before .before .args in
+    entered-unread (viewBy (a .offset) (a .table .now) (a .image .now)) (a .table .now) (a .name .now) (a .first) (a .page .now) (sym (c .before .before .before .before .before .before .before .before .before .before .before .is-directory .ensures) ∙ not-false _ (c .before .before .before .before .before .before .before .before .before .before .if1 .left)) _ _ _ _ (c .before .before .before .before .before .before .before .before .before .next-of .ensures) (c .before .before .before .before .before .before .before .slots-of .ensures) (c .before .before .before .before .before .before .before .before .word-at .ensures) (c .before .before .before .before .before .before .find-name .ensures .0) _ _ (c .before .before .before .before .place .given .1) _ _ (c .before .read-slot .ensures) (not-true _ (c .if2 .taken))
 
 word-at-requires-2 : tie.Need-word-at-requires-2
 word-at-requires-2 c κs = search needs
 
 returns-3 : tie.Need-returns-3
 returns-3 c =
-    λ h s x. enter-absent (viewBy (c .before .before .before .before .before .before .before .before .before .before .before .args .offset) (c .before .before .before .before .before .before .before .before .before .before .before .args .table .now) (c .before .before .before .before .before .before .before .before .before .before .before .args .image .now)) (c .before .before .before .before .before .before .before .before .before .before .before .args .table .now) (λ a. refl) (c .before .before .before .before .before .before .before .before .before .before .before .args .first) (entryOf (c .before .before .before .before .before .before .before .before .before .before .before .args .page .now)) (c .before .before .before .before .before .before .before .before .before .before .before .args .name .now) h s _ x (sym (c .before .before .before .before .before .before .before .is-directory .ensures) ∙ not-false _ (c .before .before .before .before .before .before .if1 .left)) (placed-as (viewBy (c .before .before .before .before .before .before .before .before .before .before .before .args .offset) (c .before .before .before .before .before .before .before .before .before .before .before .args .table .now) (c .before .before .before .before .before .before .before .before .before .before .before .args .image .now)) (c .before .before .before .before .before .before .before .before .before .before .before .args .table .now) (c .before .before .before .before .before .before .before .before .before .before .before .args .name .now) (c .before .before .before .before .before .before .before .before .before .before .before .args .first) ((entryOf (c .before .before .before .before .before .before .before .before .before .before .before .args .page .now)) .length) _ _ _ (c .before .before .before .before .before .next-of .ensures) (c .before .before .before .slots-of .ensures) (c .before .before .before .before .word-at .ensures) (c .before .before .find-name .ensures .0) ∙ c .enum-told .given .1)
+    let a = c .before .before .before .before .before .before .before .before .before .before .before .args in
+    entered-absent (viewBy (a .offset) (a .table .now) (a .image .now)) (a .table .now) (a .name .now) (a .first) (a .page .now) (sym (c .before .before .before .before .before .before .before .is-directory .ensures) ∙ not-false _ (c .before .before .before .before .before .before .if1 .left)) _ _ _ _ (c .before .before .before .before .before .next-of .ensures) (c .before .before .before .slots-of .ensures) (c .before .before .before .before .word-at .ensures) (c .before .before .find-name .ensures .0) (c .enum-told .given .1)
 
 returns-4 : tie.Need-returns-4
 returns-4 c =
-    λ h s x. enter-there (viewBy (c .before .before .before .before .before .before .before .before .before .before .before .before .before .before .before .before .before .args .offset) (c .before .before .before .before .before .before .before .before .before .before .before .before .before .before .before .before .before .args .table .now) (c .before .before .before .before .before .before .before .before .before .before .before .before .before .before .before .before .before .args .image .now)) (c .before .before .before .before .before .before .before .before .before .before .before .before .before .before .before .before .before .args .table .now) (λ a. refl) (c .before .before .before .before .before .before .before .before .before .before .before .before .before .before .before .before .before .args .first) (entryOf (c .before .before .before .before .before .before .before .before .before .before .before .before .before .before .before .before .before .args .page .now)) (c .before .before .before .before .before .before .before .before .before .before .before .before .before .before .before .before .before .args .name .now) h s x (sym (c .before .before .before .before .before .before .before .before .before .before .before .before .before .is-directory .ensures) ∙ not-false _ (c .before .before .before .before .before .before .before .before .before .before .before .before .if1 .left)) _ _ (placed-as (viewBy (c .before .before .before .before .before .before .before .before .before .before .before .before .before .before .before .before .before .args .offset) (c .before .before .before .before .before .before .before .before .before .before .before .before .before .before .before .before .before .args .table .now) (c .before .before .before .before .before .before .before .before .before .before .before .before .before .before .before .before .before .args .image .now)) (c .before .before .before .before .before .before .before .before .before .before .before .before .before .before .before .before .before .args .table .now) (c .before .before .before .before .before .before .before .before .before .before .before .before .before .before .before .before .before .args .name .now) (c .before .before .before .before .before .before .before .before .before .before .before .before .before .before .before .before .before .args .first) ((entryOf (c .before .before .before .before .before .before .before .before .before .before .before .before .before .before .before .before .before .args .page .now)) .length) _ _ _ (c .before .before .before .before .before .before .before .before .before .before .before .next-of .ensures) (c .before .before .before .before .before .before .before .before .before .slots-of .ensures) (c .before .before .before .before .before .before .before .before .before .before .word-at .ensures) (c .before .before .before .before .before .before .before .before .find-name .ensures .0) ∙ c .before .before .before .before .before .before .place .given .1) _ _ (was-read (c .before .before .before .read-slot .ensures) (not-false _ (c .before .before .if2 .left))) (c .word-at2 .ensures)
+    let a = c .before .before .before .before .before .before .before .before .before .before .before .before .before .before .before .before .before .args in
+    entered-read (viewBy (a .offset) (a .table .now) (a .image .now)) (a .table .now) (a .name .now) (a .first) (a .page .now) (sym (c .before .before .before .before .before .before .before .before .before .before .before .before .before .is-directory .ensures) ∙ not-false _ (c .before .before .before .before .before .before .before .before .before .before .before .before .if1 .left)) _ _ _ _ (c .before .before .before .before .before .before .before .before .before .before .before .next-of .ensures) (c .before .before .before .before .before .before .before .before .before .slots-of .ensures) (c .before .before .before .before .before .before .before .before .before .before .word-at .ensures) (c .before .before .before .before .before .before .before .before .find-name .ensures .0) _ _ (c .before .before .before .before .before .before .place .given .1) _ _ (c .before .before .before .read-slot .ensures) _ (not-false _ (c .before .before .if2 .left)) (c .word-at2 .ensures)
 
 pub enter-spec : {M : Type 1} → statement M
 enter-spec =

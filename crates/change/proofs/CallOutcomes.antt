@@ -1,0 +1,228 @@
+-- A call from its path on: what the code answers at each step is what the model says of the change.
+use Prim.Native.Nat.{ℕ, suc, _<_}
+use mathlib.Core.Bool.{Bool, _&&_, cond, false, true}
+use mathlib.Core.List.{List, [], _∷_}
+use mathlib.Core.Logic.{_⊎_, inl, inr}
+use mathlib.Core.Option.{none, some}
+use mathlib.Core.Path.{_∙_, _≡_, ap, refl, sym}
+use native.Mathlib.Omega.{arith}
+use borrow.Author.Tests.{le-leb, lt-leb, lt-ltb, ltb-true}
+use lib.Dec.{eqb, leb, ltb}
+use lib.ListN.{length}
+use Rattle.fields.specs.PathBytes.{nameAt, pathOf, splitNames}
+use Rattle.layout.specs.declared.Superblock.{Superblock}
+use Rattle.layout.specs.See.{checkImage, see}
+use Rattle.layout.specs.Table.{tableOf}
+use Rattle.lookup.specs.declared.way.Arrival.the-variants as arrival
+use Rattle.lookup.specs.declared.way.Arrived.{Arrived}
+use Rattle.lookup.specs.Descend.{descended, entered, namesFrom}
+use Rattle.lookup.proofs.SiteLaws as lookup
+use Rattle.model.specs.Change.{Change, Rules, path}
+use Rattle.model.specs.Check.{Marks, ok}
+use Rattle.model.specs.Entry.{entryOf, isDirectory}
+use Rattle.model.specs.Holds.{HoldsCard, deepest}
+use Rattle.model.specs.Lookup.{lookUp}
+use Rattle.model.specs.Names.{Path, goodNames, goodPath, lastName}
+use Rattle.model.specs.Refusal.{refusal, static, way}
+use Rattle.model.specs.Tree.{Root}
+use Rattle.model.specs.View.{View}
+use Rattle.model.proofs.CheckHolds.{check-holds}
+use Rattle.model.proofs.Equality.{and-l, and-r, bool, tf}
+use Rattle.change.specs.declared.calls.Kind.{Kind}
+use Rattle.change.specs.declared.calls.Kind.the-variants as kind
+use Rattle.change.specs.Calls.{CanDelete, CanRemove, CanReplace, createdIn, deletedIn, madeIn, refusedBy, removedIn, replacedIn}
+use Rattle.change.specs.Changed.{changed, rulesOf}
+use Rattle.change.specs.Kinds.{Can, changeOf, changedIn, takesNames, takesTime}
+use Rattle.change.proofs.AddOutcomes.{can-create, can-make, created-here, made-here}
+use Rattle.change.proofs.ChangedLaws.{checked-parts, refuses}
+use Rattle.change.proofs.EditOutcomes.{can-delete, can-remove, can-replace, deleted-here, removed-here, replaced-here}
+use Rattle.change.proofs.Sites.{Site}
+
+-- ---- the path and the time
+
+pub path-good : (l : List ℕ) (p : Path) → pathOf l ≡ some p → 0 < length p → goodPath (suc deepest) p ≡ true
+path-good [] p e h = absurd (let z : _≡_ {A = ℕ} 0 1 = cc in omega arith)
+path-good (b ∷ []) p e h = go (eqb b 0x2F) e
+  where
+    go : (x : Bool) → cond x (some []) none ≡ some p → goodPath (suc deepest) p ≡ true
+    go true e = absurd (let z : [] ≡ p = cc in let y : length p ≡ 0 = ap length (sym z) in omega arith)
+    go false e = absurd (let z : _≡_ {A = ℕ} 0 1 = cc in omega arith)
+path-good (b ∷ c ∷ bs) p e h = go (eqb b 0x2F) (goodPath (suc deepest) (splitNames (c ∷ bs))) refl e
+  where
+    go : (x y : Bool) → goodPath (suc deepest) (splitNames (c ∷ bs)) ≡ y → cond (x && y) (some (splitNames (c ∷ bs))) none ≡ some p → goodPath (suc deepest) p ≡ true
+    go true true i e = let z : splitNames (c ∷ bs) ≡ p = cc in rw (← z) i
+    go true false i e = absurd (let z : _≡_ {A = ℕ} 0 1 = cc in omega arith)
+    go false y i e = absurd (let z : _≡_ {A = ℕ} 0 1 = cc in omega arith)
+
+-- bytes that are no path, and the root's
+pub no-path : (K : Kind) (time bytes : List ℕ) → static (changeOf K [] time bytes) ≡ 8
+no-path kind.Create time bytes = refl
+no-path kind.Make time bytes = refl
+no-path kind.Replace time bytes = refl
+no-path kind.Delete time bytes = refl
+no-path kind.Remove time bytes = refl
+
+module _ (p : Path) (good : goodPath (suc deepest) p ≡ true) where
+  -- of a good path only a new directory's length is still to be judged
+  short : length p < 4 → goodPath deepest p ≡ true
+  short h =
+      let names : goodNames p ≡ true = and-r (ltb 0 (length p) && leb (length p) 4) _ good in
+      let some-names : ltb 0 (length p) ≡ true = and-l _ _ (and-l (ltb 0 (length p) && leb (length p) 4) _ good) in
+      rw (some-names, le-leb (length p) 3 (omega arith), names)
+
+  long : (length p < 4 → ⊥) → goodPath deepest p ≡ false
+  long h =
+      let some-names : ltb 0 (length p) ≡ true = and-l _ _ (and-l (ltb 0 (length p) && leb (length p) 4) _ good) in
+      rw (some-names, lt-leb (length p) 3 (omega arith))
+
+  -- 0, 8 or 14, by what the call takes
+  pub static-fine : (K : Kind) (time bytes : List ℕ) → takesNames K (length p) ≡ true → takesTime K time ≡ true → static (changeOf K p time bytes) ≡ 0
+  static-fine kind.Create time bytes n t = rw (good, t)
+  static-fine kind.Make time bytes n t = rw (short (ltb-true (length p) 4 (and-r (ltb 0 (length p)) _ n)), t)
+  static-fine kind.Replace time bytes n t = rw (good, t)
+  static-fine kind.Delete time bytes n t = rw good
+  static-fine kind.Remove time bytes n t = rw good
+
+  pub static-late : (K : Kind) (time bytes : List ℕ) → takesNames K (length p) ≡ true → takesTime K time ≡ false → static (changeOf K p time bytes) ≡ 14
+  static-late kind.Create time bytes n t = rw (good, t)
+  static-late kind.Make time bytes n t = rw (short (ltb-true (length p) 4 (and-r (ltb 0 (length p)) _ n)), t)
+  static-late kind.Replace time bytes n t = rw (good, t)
+  static-late kind.Delete time bytes n t = tf refl t
+  static-late kind.Remove time bytes n t = tf refl t
+
+pub static-deep : (p : Path) → (0 < length p → goodPath (suc deepest) p ≡ true) → (K : Kind) (time bytes : List ℕ) → takesNames K (length p) ≡ false → static (changeOf K p time bytes) ≡ 8
+static-deep [] good K time bytes n = no-path K time bytes
+static-deep (a ∷ p) good kind.Create time bytes n = tf (lt-ltb 0 (length (a ∷ p)) (omega arith)) n
+static-deep (a ∷ p) good kind.Make time bytes n = rw (long (a ∷ p) (good (omega arith)) (λ h. tf (lt-ltb (length (a ∷ p)) 4 h) (rw (lt-ltb 0 (length (a ∷ p)) (omega arith)) at n)))
+static-deep (a ∷ p) good kind.Replace time bytes n = tf (lt-ltb 0 (length (a ∷ p)) (omega arith)) n
+static-deep (a ∷ p) good kind.Delete time bytes n = tf (lt-ltb 0 (length (a ∷ p)) (omega arith)) n
+static-deep (a ∷ p) good kind.Remove time bytes n = tf (lt-ltb 0 (length (a ∷ p)) (omega arith)) n
+
+static-first : (y : Rules) (c : Change) (v : View) (root : Root) (n : ℕ) → static c ≡ suc n → refusal y c v root ≡ suc n
+unfolding refusal
+static-first y c v root n e = rw e
+
+way-second : (y : Rules) (c : Change) (v : View) (root : Root) (n : ℕ) → static c ≡ 0 → way (lookUp root) (path c) ≡ suc n → refusal y c v root ≡ suc n
+unfolding refusal
+way-second y c v root n fine e = rw (fine, e)
+
+module _ (image : List ℕ) (s : Superblock) (root : Root) (m : Marks) (checked : checkImage image ≡ ok (s, root, m)) where
+  holds : HoldsCard (see s image) root
+  holds = (check-holds (see s image) root m ((checked-parts image s root m checked) .1)) .0
+
+  -- refused by path or time, and by a name on the way
+  pub static-refused : (c : Change) (n : ℕ) → static c ≡ suc n → changed c image ≡ refusedBy (suc n) image
+  static-refused c n e = (refuses image s root m checked c n met) .0
+    where
+      met : refusal (rulesOf s) c (see s image) root ≡ suc n
+      met = static-first (rulesOf s) c (see s image) root n e
+
+  pub way-refused : (c : Change) (n : ℕ) → static c ≡ 0 → way (lookUp root) (path c) ≡ suc n → changed c image ≡ refusedBy (suc n) image
+  way-refused c n fine e = (refuses image s root m checked c n (way-second (rulesOf s) c (see s image) root n fine e)) .0
+
+  -- ---- in the directory that the names before the last lead to
+  module _ (path′ : List ℕ) (names : Path) (k : ℕ) (parsed : pathOf path′ ≡ some names) (count : length names ≡ suc k) (a : Arrived)
+      (led : a ≡ descended (see s image) (tableOf image s) (namesFrom path′ 0 k)) where
+    path-same : (K : Kind) (time bytes : List ℕ) → path (changeOf K names time bytes) ≡ names
+    path-same kind.Create time bytes = refl
+    path-same kind.Make time bytes = refl
+    path-same kind.Replace time bytes = refl
+    path-same kind.Delete time bytes = refl
+    path-same kind.Remove time bytes = refl
+
+    refused-way : (K : Kind) (time bytes : List ℕ) (n : ℕ) → static (changeOf K names time bytes) ≡ 0 → way (lookUp root) names ≡ suc n → changed (changeOf K names time bytes) image ≡ refusedBy (suc n) image
+    refused-way K time bytes n fine w = way-refused (changeOf K names time bytes) n fine (ap (way (lookUp root)) (path-same K time bytes) ∙ w)
+
+    pub call-absent : (K : Kind) (time bytes : List ℕ) → static (changeOf K names time bytes) ≡ 0 → a .arrival ≡ arrival.Absent → changed (changeOf K names time bytes) image ≡ refusedBy 9 image
+    call-absent K time bytes fine e =
+        refused-way K time bytes 8 fine (lookup.site-absent (see s image) (tableOf image s) (λ c. refl) (λ q. refl) root holds path′ names k parsed count a led e)
+
+    pub call-kind : (K : Kind) (time bytes : List ℕ) → static (changeOf K names time bytes) ≡ 0 → a .arrival ≡ arrival.WrongKind → changed (changeOf K names time bytes) image ≡ refusedBy 10 image
+    call-kind K time bytes fine e =
+        refused-way K time bytes 9 fine (lookup.site-kind (see s image) (tableOf image s) (λ c. refl) (λ q. refl) root holds path′ names k parsed count a led e)
+
+    module _ (first : ℕ) (e : a .arrival ≡ arrival.At first) where
+      last-so : isDirectory (entryOf (a .page)) ≡ true → nameAt path′ k ≡ lastName names
+      last-so d = sym ((lookup.site-at (see s image) (tableOf image s) (λ c. refl) (λ q. refl) root holds path′ names k parsed count a led first e d) .last)
+
+      site-here : isDirectory (entryOf (a .page)) ≡ true → Site (see s image) (tableOf image s) root names (a .at) first (a .page)
+      site-here d =
+          let z = lookup.site-at (see s image) (tableOf image s) (λ c. refl) (λ q. refl) root holds path′ names k parsed count a led first e d in
+          record {
+            chain = z .chain;
+            rest = z .rest;
+            slots = z .slots;
+            below = z .below;
+            open-way = z .open-way;
+            found-so = z .found-so;
+            page-so = z .number;
+            read = z .shown;
+            two = z .two;
+            long = z .long;
+            linked = z .links;
+            starts = z .begins;
+            pages = z .pages;
+            held = rw (z .pages) (z .held);
+            named = z .asked;
+          }
+
+      -- a file in the directory's place
+      no-directory : (K : Kind) (time bytes : List ℕ) → isDirectory (entryOf (a .page)) ≡ false
+          → changedIn s image (tableOf image s) (a .at) first (a .page) (nameAt path′ k) time bytes K ≡ refusedBy 10 image
+      unfolding createdIn madeIn replacedIn deletedIn removedIn entered
+      no-directory kind.Create time bytes f = rw f
+      no-directory kind.Make time bytes f = rw f
+      no-directory kind.Replace time bytes f = rw f
+      no-directory kind.Delete time bytes f = rw f
+      no-directory kind.Remove time bytes f = rw f
+
+      in-directory : (K : Kind) (time bytes : List ℕ) → static (changeOf K names time bytes) ≡ 0 → isDirectory (entryOf (a .page)) ≡ true
+          → changedIn s image (tableOf image s) (a .at) first (a .page) (lastName names) time bytes K ≡ changed (changeOf K names time bytes) image
+      in-directory kind.Create time bytes fine d = created-here image s root m checked names (a .at) first (a .page) (site-here d) d time bytes fine
+      in-directory kind.Make time bytes fine d = made-here image s root m checked names (a .at) first (a .page) (site-here d) d time fine
+      in-directory kind.Replace time bytes fine d = replaced-here image s root m checked names (a .at) first (a .page) (site-here d) d time bytes fine
+      in-directory kind.Delete time bytes fine d = deleted-here image s root m checked names (a .at) first (a .page) (site-here d) d fine
+      in-directory kind.Remove time bytes fine d = removed-here image s root m checked names (a .at) first (a .page) (site-here d) d fine
+
+      pub call-in : (K : Kind) (time bytes : List ℕ) → static (changeOf K names time bytes) ≡ 0
+          → changedIn s image (tableOf image s) (a .at) first (a .page) (nameAt path′ k) time bytes K ≡ changed (changeOf K names time bytes) image
+      call-in K time bytes fine = go (bool (isDirectory (entryOf (a .page))))
+        where
+          go : (isDirectory (entryOf (a .page)) ≡ true) ⊎ (isDirectory (entryOf (a .page)) ≡ false)
+              → changedIn s image (tableOf image s) (a .at) first (a .page) (nameAt path′ k) time bytes K ≡ changed (changeOf K names time bytes) image
+          go (inl d) = ap (λ n. changedIn s image (tableOf image s) (a .at) first (a .page) n time bytes K) (last-so d) ∙ in-directory K time bytes fine d
+          go (inr f) =
+              no-directory K time bytes f
+              ∙ sym (refused-way K time bytes 9 fine (lookup.site-file (see s image) (tableOf image s) (λ c. refl) (λ q. refl) root holds path′ names k parsed count a led first e f))
+
+      -- no entry is entered from a file
+      not-entered : {A : Type 0} (next : ℕ) → isDirectory (entryOf (a .page)) ≡ false → (entered (see s image) (tableOf image s) first (a .page) (nameAt path′ k)) .arrival ≡ arrival.At next → A
+      unfolding entered
+      not-entered next f h = absurd (let z : arrival.WrongKind ≡ arrival.At next = rw f at h in let y : _≡_ {A = ℕ} 0 1 = cc in omega arith)
+
+      pub call-can : (K : Kind) (time bytes : List ℕ) → static (changeOf K names time bytes) ≡ 0 → Can s image (tableOf image s) (a .at) first (a .page) (nameAt path′ k) time bytes K
+      call-can kind.Create time bytes fine =
+          λ d l. let n = last-so d in rw n (can-create image s root m checked names (a .at) first (a .page) (site-here d) (rw n at l) time bytes fine)
+      call-can kind.Make time bytes fine =
+          λ d l. let n = last-so d in rw n (can-make image s root m checked names (a .at) first (a .page) (site-here d) (rw n at l) time fine)
+      call-can kind.Replace time bytes fine = λ next h. go next h (bool (isDirectory (entryOf (a .page))))
+        where
+          go : (next : ℕ) → (entered (see s image) (tableOf image s) first (a .page) (nameAt path′ k)) .arrival ≡ arrival.At next
+              → (isDirectory (entryOf (a .page)) ≡ true) ⊎ (isDirectory (entryOf (a .page)) ≡ false)
+              → CanReplace s image (tableOf image s) (a .at) (a .page) time bytes ((entered (see s image) (tableOf image s) first (a .page) (nameAt path′ k)) .at) ((entered (see s image) (tableOf image s) first (a .page) (nameAt path′ k)) .page)
+          go next h (inl d) = let n = last-so d in rw n (can-replace image s root m checked names (a .at) first (a .page) (site-here d) d time bytes fine next (rw n at h))
+          go next h (inr f) = not-entered next f h
+      call-can kind.Delete time bytes fine = λ next h. go next h (bool (isDirectory (entryOf (a .page))))
+        where
+          go : (next : ℕ) → (entered (see s image) (tableOf image s) first (a .page) (nameAt path′ k)) .arrival ≡ arrival.At next
+              → (isDirectory (entryOf (a .page)) ≡ true) ⊎ (isDirectory (entryOf (a .page)) ≡ false)
+              → CanDelete s image (tableOf image s) (a .at) (a .page) ((entered (see s image) (tableOf image s) first (a .page) (nameAt path′ k)) .at) ((entered (see s image) (tableOf image s) first (a .page) (nameAt path′ k)) .page)
+          go next h (inl d) = let n = last-so d in rw n (can-delete image s root m checked names (a .at) first (a .page) (site-here d) d fine next (rw n at h))
+          go next h (inr f) = not-entered next f h
+      call-can kind.Remove time bytes fine = λ next h. go next h (bool (isDirectory (entryOf (a .page))))
+        where
+          go : (next : ℕ) → (entered (see s image) (tableOf image s) first (a .page) (nameAt path′ k)) .arrival ≡ arrival.At next
+              → (isDirectory (entryOf (a .page)) ≡ true) ⊎ (isDirectory (entryOf (a .page)) ≡ false)
+              → CanRemove s image (tableOf image s) (a .at) (a .page) ((entered (see s image) (tableOf image s) first (a .page) (nameAt path′ k)) .at) ((entered (see s image) (tableOf image s) first (a .page) (nameAt path′ k)) .page)
+          go next h (inl d) = let n = last-so d in rw n (can-remove image s root m checked names (a .at) first (a .page) (site-here d) d fine next (rw n at h))
+          go next h (inr f) = not-entered next f h

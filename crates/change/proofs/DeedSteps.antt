@@ -1,0 +1,116 @@
+-- A change put down, step by step: the table's words linked anew, the pages written, and then the table's pages.
+use Prim.Native.Nat.{ℕ, _*_, _+_, _<_, _≤_}
+use mathlib.Core.Bool.{Bool, false, true}
+use mathlib.Core.List.{List, [], _++_, _∷_}
+use mathlib.Core.Option.{some}
+use mathlib.Core.Path.{_∙_, _≡_, ap, ap₂, refl, sym}
+use native.Mathlib.Omega.{arith}
+use lib.ListN.{getD, length}
+use Rattle.page.specs.Page.{isSome, pageAt, put}
+use Rattle.layout.specs.declared.Superblock.{Superblock}
+use Rattle.layout.specs.Table.{namesOf, openCard, tableClusters}
+use Rattle.layout.proofs.Geometry.{names-kept, open-facts}
+use Rattle.model.specs.Check.{ok}
+use Rattle.model.specs.Pages.{dataPages, zeroPage}
+use Rattle.model.specs.Tree.{hit, times}
+use Rattle.model.specs.View.{mostClusters, pagesOf, topBit}
+use Rattle.model.specs.Writes.{PageWrite, clusterWrites}
+use Rattle.model.proofs.Frame.{hit-0}
+use Rattle.change.specs.Deeds.{grown, imageBy, relinked, writesOf}
+use Rattle.change.specs.Image.{Lands, storeTable, writePages}
+use Rattle.change.specs.Words.{chained, clearedFrom}
+use Rattle.change.proofs.PageWrites.{low-page-kept}
+use Rattle.change.proofs.WriteLaws.{written-append}
+
+-- ---- the words: a directory's chain led on to its growth, where there is one
+module _ (last : ℕ) where
+  pub pair-low : (growth : List ℕ) → last < topBit → 0 < length growth → (x : ℕ) → topBit ≤ x → times growth x ≡ 0 → hit last x + (hit (getD growth 0 0) x + 0) ≡ 0
+  pair-low [] low more x high none = absurd (omega arith)
+  pair-low (g ∷ gs) low more x high none = omega (arith, hit-0 last x (λ z. omega arith))
+
+  led-on : (growth table : List ℕ) → 0 < length growth → chained (last ∷ getD growth 0 0 ∷ []) table ≡ grown last growth table
+  led-on [] table more = absurd (omega arith)
+  led-on (g ∷ gs) table more = refl
+
+  not-led : (growth table : List ℕ) → length growth ≤ 0 → table ≡ grown last growth table
+  not-led [] table none = refl
+  not-led (g ∷ gs) table none = absurd (omega arith)
+
+module _ (back count : ℕ) (taken : List ℕ) (last : ℕ) (growth table : List ℕ) {freed linked : List ℕ}
+    (free : freed ≡ clearedFrom back count table) (link : linked ≡ chained taken freed) where
+  so-far : linked ≡ chained taken (clearedFrom back count table)
+  so-far = link ∙ ap (chained taken) free
+
+  pub relinked-grown : {led : List ℕ} → 0 < length growth → led ≡ chained (last ∷ getD growth 0 0 ∷ []) linked → led ≡ relinked back count taken last growth table
+  relinked-grown more lead = lead ∙ led-on last growth linked more ∙ ap (grown last growth) so-far
+
+  pub relinked-only : length growth ≤ 0 → linked ≡ relinked back count taken last growth table
+  relinked-only none = so-far ∙ not-led last growth (chained taken (clearedFrom back count table)) none
+
+-- ---- the pages
+module _ (offset : ℕ) (image : List ℕ) where
+  pub no-zeros : (growth : List ℕ) → length growth ≡ 0 → image ≡ writePages offset (clusterWrites (pagesOf growth) (some zeroPage ∷ some zeroPage ∷ [])) image
+  no-zeros [] h = refl
+  no-zeros (g ∷ gs) h = absurd (omega arith)
+
+  pub zeros-written : (growth : List ℕ) {zeros one both : List ℕ} → (length growth ≡ 0 → ⊥) → length growth ≤ 1 → zeros ≡ zeroPage
+      → one ≡ put true (2 * offset + 2 * getD growth 0 0) zeros image → both ≡ put true (2 * offset + 2 * getD growth 0 0 + 1) zeros one
+      → both ≡ writePages offset (clusterWrites (pagesOf growth) (some zeroPage ∷ some zeroPage ∷ [])) image
+  zeros-written [] h k z e f = absurd (h refl)
+  zeros-written (g ∷ []) {one = one} h k z e f =
+      let place : 2 * offset + 2 * g + 1 ≡ 2 * offset + (2 * g + 1) = omega arith in
+      f ∙ ap₂ (λ (p : ℕ) (d : List ℕ). put true p d one) place z ∙ ap (put true (2 * offset + (2 * g + 1)) zeroPage) (e ∙ ap (λ (d : List ℕ). put true (2 * offset + 2 * g) d image) z)
+  zeros-written (g ∷ h ∷ gs) n k z e f = absurd (omega arith)
+
+  -- growth, data, the directory's entry and the change's own, one after the other
+  pub all-written : (growth taken bytes : List ℕ) (at : ℕ) (directory : List ℕ) (new : Bool) (slot : ℕ) (entry : List ℕ) {zeroed filled entered whole : List ℕ}
+      → zeroed ≡ writePages offset (clusterWrites (pagesOf growth) (some zeroPage ∷ some zeroPage ∷ [])) image
+      → filled ≡ writePages offset (clusterWrites (pagesOf taken) (dataPages bytes)) zeroed
+      → entered ≡ put false (2 * offset + at) directory filled → whole ≡ put new (2 * offset + slot) entry entered
+      → whole ≡ writePages offset (writesOf growth taken bytes at directory new slot entry) image
+  all-written growth taken bytes at directory new slot entry e f g h =
+      let zeros = clusterWrites (pagesOf growth) (some zeroPage ∷ some zeroPage ∷ []) in
+      let filling = clusterWrites (pagesOf taken) (dataPages bytes) in
+      let entries : List PageWrite = record { always = false; page = at; bytes = directory } ∷ record { always = new; page = slot; bytes = entry } ∷ [] in
+      h ∙ ap (put new (2 * offset + slot) entry) (g ∙ ap (put false (2 * offset + at) directory) (f ∙ ap (writePages offset filling) e))
+      ∙ sym (written-append offset zeros (filling ++ entries) image ∙ written-append offset filling entries (writePages offset zeros image))
+
+-- ---- the pages of the last two writes lie among the allocatable clusters
+lands-behind : (end : ℕ) (xs zs : List PageWrite) → Lands end (xs ++ zs) → Lands end zs
+lands-behind end [] zs h = h
+lands-behind end (w ∷ xs) zs h = lands-behind end xs zs (h .2)
+
+pub entries-land : (end : ℕ) (growth taken bytes : List ℕ) (at : ℕ) (directory : List ℕ) (new : Bool) (slot : ℕ) (entry : List ℕ)
+    → Lands end (writesOf growth taken bytes at directory new slot entry) → (at < 2 * end) × (slot < 2 * end)
+entries-land end growth taken bytes at directory new slot entry h =
+    let both =
+    lands-behind end (clusterWrites (pagesOf taken) (dataPages bytes)) _
+    (lands-behind end (clusterWrites (pagesOf growth) (some zeroPage ∷ some zeroPage ∷ [])) _ h) in
+    (both .0, both .2 .0)
+
+-- ---- the table after the pages: they lie behind the indirect cluster, so its names stay
+module _ (image : List ℕ) (s : Superblock) (opened : openCard image ≡ ok s) where
+  pub opened-most : s .end ≤ mostClusters
+  opened-most = let facts = open-facts image s opened in omega (arith, facts .room, facts .most)
+
+  module _ (ws : List PageWrite) (lands : Lands (s .end) ws) {after : List ℕ} (pages : after ≡ writePages (s .offset) ws image) where
+    kept : (q : ℕ) → q < 2 * s .offset → pageAt after q ≡ pageAt image q
+    kept q h = ap (λ (i : List ℕ). pageAt i q) pages ∙ low-page-kept (s .offset) (s .end) ws image lands q h
+
+    first-kept : pageAt after (2 * s .indirect) ≡ pageAt image (2 * s .indirect)
+    first-kept = kept (2 * s .indirect) (omega (arith, (open-facts image s opened) .indirect-below))
+
+    second-kept : pageAt after (2 * s .indirect + 1) ≡ pageAt image (2 * s .indirect + 1)
+    second-kept = kept (2 * s .indirect + 1) (omega (arith, (open-facts image s opened) .indirect-below))
+
+    pub first-readable : isSome (pageAt after (2 * s .indirect)) ≡ true
+    first-readable = ap isSome (first-kept ∙ (open-facts image s opened) .first-read)
+
+    pub second-readable : isSome (pageAt after (2 * s .indirect + 1)) ≡ true
+    second-readable = ap isSome (second-kept ∙ (open-facts image s opened) .second-read)
+
+    pub stored : (table : List ℕ) {whole : List ℕ}
+        → whole ≡ storeTable (namesOf after s) (s .end) (λ c. getD table c 0) (2 * tableClusters (s .end)) after → whole ≡ imageBy s image ws table
+    stored table e =
+        e ∙ ap₂ (λ (names i : List ℕ). storeTable names (s .end) (λ c. getD table c 0) (2 * tableClusters (s .end)) i)
+        (names-kept image after s first-kept second-kept) pages

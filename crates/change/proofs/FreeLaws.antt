@@ -1,0 +1,45 @@
+-- How many clusters a change can take: a directory grows by at most one, and a card's free clusters are few and low.
+use Prim.Native.Nat.{ℕ, zero, suc, _+_, _≤_}
+use mathlib.Core.List.{List}
+use mathlib.Core.Path.{_≡_}
+use native.Mathlib.Omega.{arith}
+use lib.ListN.{drop, getD, length, length-append, take}
+use Rattle.layout.specs.declared.Superblock.{Superblock}
+use Rattle.layout.specs.Table.{openCard}
+use Rattle.layout.proofs.Geometry.{open-facts}
+use Rattle.lookup.specs.declared.along.Place.{Place}
+use Rattle.lookup.specs.declared.along.Place.the-variants as place
+use Rattle.model.specs.Check.{ok}
+use Rattle.model.specs.Plan.{freeBelow, ifFree}
+use Rattle.model.specs.Tree.{times}
+use Rattle.model.specs.View.{Link, linkOf, mostClusters, topBit}
+use Rattle.model.proofs.Allocation.{free-low}
+use Rattle.model.proofs.Frame.{times-drop, times-take}
+use Rattle.change.specs.Deeds.{growthBy}
+use Rattle.change.specs.Words.{freeList}
+
+pub growth-small : (dead : Place) (n : ℕ) → growthBy dead n ≤ 1
+growth-small place.Nowhere n = omega arith
+growth-small (place.At k p) n = omega arith
+
+few-below : (link : ℕ → Link) (k : ℕ) → length (freeBelow link k) ≤ k
+unfolding freeBelow
+few-below link zero = omega arith
+few-below link (suc k) = rw (length-append (freeBelow link k) (ifFree (link k) k)) (omega (arith, few-below link k, one (link k)))
+  where
+    one : (l : Link) → length (ifFree l k) ≤ 1
+    one Link.free = omega arith
+    one Link.last = omega arith
+    one (Link.next a) = omega arith
+
+module _ (image table : List ℕ) (s : Superblock) (opened : openCard image ≡ ok s) (long : length table ≡ s .end) where
+  pub table-small : length table ≤ mostClusters
+  table-small = omega (arith, open-facts image s opened .room, open-facts image s opened .most)
+
+  pub free-few : length (freeList table) ≤ mostClusters
+  free-few = omega (arith, few-below (λ c. linkOf (getD table c 0)) (length table), table-small)
+
+  -- clusters taken from the free ones, and those before them, are below 2^31
+  pub taken-low : (growing own : ℕ) (list : List ℕ) → list ≡ freeList table → (x : ℕ) → topBit ≤ x → times (take own (drop growing list)) x + times (take growing list) x ≡ 0
+  taken-low growing own list e x h =
+      rw e (omega (arith, free-low (λ c. linkOf (getD table c 0)) (length table) x (omega (arith, table-small)), times-take own (drop growing (freeList table)) x, times-drop growing (freeList table) x, times-take growing (freeList table) x))

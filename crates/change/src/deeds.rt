@@ -1,0 +1,124 @@
+// A change put down: the table's words in memory, the pages, and the table's pages.
+use crate::pages::write_data;
+use crate::pages::zero_page;
+use crate::store::store_table;
+use crate::words::clear_chain;
+use crate::words::link_chain;
+use layout::Superblock;
+use page::rewrite_page;
+use page::write_page;
+ghost use mathlib.Core.Path.{_≡_};
+ghost use mathlib.Core.List.{_∷_, []};
+ghost use mathlib.Core.Option.{some};
+ghost use Prim.Native.Nat.{ℕ, _+_, _<_, _≤_};
+ghost use lib.ListN.{length};
+ghost use Rattle.layout.specs.Table.{openCard};
+ghost use Rattle.model.specs.Check.{ok};
+ghost use Rattle.model.specs.Entry.{clustersFor};
+ghost use Rattle.model.specs.Pages.{zeroPage};
+ghost use Rattle.model.specs.Tree.{times};
+ghost use Rattle.model.specs.View.{pagesOf, topBit};
+ghost use Rattle.model.specs.Writes.{clusterWrites};
+ghost use Rattle.change.specs.Deeds.{imageBy, relinked, writesOf};
+ghost use Rattle.change.specs.Image.{Lands, writePages};
+
+// Frees the clusters given back, links those taken, and leads the directory's chain on from its last cluster to its growth.
+pub(crate) fn relink(
+    table: &mut [u32],
+    back: u32,
+    count: u32,
+    taken: &[u32],
+    last: u32,
+    growth: &[u32],
+)
+    requires { ⌜ (last < topBit) × ((x : ℕ) → topBit ≤ x → times (now taken) x + times (now growth) x ≡ 0) ⌝ }
+    ensures { λ _. ⌜ now (table .exit) ≡ relinked back count (now (taken .entry)) last (now (growth .entry)) (now (table .entry)) ⌝ }
+{
+    clear_chain(table, back, count);
+    link_chain(table, taken);
+    if 0 < growth.len() {
+        let pair = [last, growth[0]];
+        link_chain(table, &pair);
+    }
+}
+
+// Writes zeros to both pages of a directory's growth.
+fn write_zeros(image: &mut [u8], offset: u32, growth: &[u32])
+    requires { ⌜ length (now growth) ≤ 1 ⌝ }
+    ensures { λ _. ⌜ now (image .exit) ≡ writePages offset (clusterWrites (pagesOf (now (growth .entry))) (some zeroPage ∷ some zeroPage ∷ [])) (now (image .entry)) ⌝ }
+{
+    if growth.len() == 0 {
+        return;
+    }
+    let zeros = zero_page();
+    let at = 2 * (offset as usize) + 2 * (growth[0] as usize);
+    write_page(image, at, &zeros);
+    write_page(image, at + 1, &zeros);
+}
+
+// Writes the page of an entry: a new one always, another where its data changes.
+fn write_entry(image: &mut [u8], offset: u32, new: bool, slot: usize, entry: &[u8; 512])
+    requires { ⌜ slot < 8589934592 ⌝ }
+    ensures { λ _. ⌜ now (image .exit) ≡ writePages offset (record { always = new; page = slot; bytes = now (entry .entry) } ∷ []) (now (image .entry)) ⌝ }
+{
+    let at = 2 * (offset as usize) + slot;
+    if new {
+        write_page(image, at, entry);
+    } else {
+        rewrite_page(image, at, entry);
+    }
+}
+
+// Writes the pages of a change, in this order: growth, data, the directory's entry, the change's own entry.
+fn write_pages(
+    image: &mut [u8],
+    offset: u32,
+    growth: &[u32],
+    taken: &[u32],
+    bytes: &[u8],
+    at: usize,
+    directory: &[u8; 512],
+    new: bool,
+    slot: usize,
+    entry: &[u8; 512],
+)
+    requires { ⌜ (length (now growth) ≤ 1) × (length (now taken) ≡ clustersFor (length (now bytes))) × (at < 8589934592) × (slot < 8589934592) ⌝ }
+    ensures { λ _. ⌜ now (image .exit) ≡ writePages offset (writesOf (now (growth .entry)) (now (taken .entry)) (now (bytes .entry)) at (now (directory .entry)) new slot (now (entry .entry))) (now (image .entry)) ⌝ }
+{
+    write_zeros(image, offset, growth);
+    write_data(image, offset, taken, bytes);
+    write_entry(image, offset, false, at, directory);
+    write_entry(image, offset, new, slot, entry);
+}
+
+// Writes the pages of a change and then the table.
+pub(crate) fn put_down(
+    image: &mut [u8],
+    s: Superblock,
+    table: &[u32],
+    growth: &[u32],
+    taken: &[u32],
+    bytes: &[u8],
+    at: usize,
+    directory: &[u8; 512],
+    new: bool,
+    slot: usize,
+    entry: &[u8; 512],
+)
+    requires { ⌜ (openCard (now image) ≡ ok s) × (length (now table) ≡ s .end) × (length (now growth) ≤ 1) × (length (now taken) ≡ clustersFor (length (now bytes))) × Lands (s .end) (writesOf (now growth) (now taken) (now bytes) at (now directory) new slot (now entry)) ⌝ }
+    ensures { λ _. ⌜ now (image .exit) ≡ imageBy s (now (image .entry)) (writesOf (now (growth .entry)) (now (taken .entry)) (now (bytes .entry)) at (now (directory .entry)) new slot (now (entry .entry))) (now (table .entry)) ⌝ }
+{
+    write_pages(
+        image,
+        s.offset,
+        growth,
+        taken,
+        bytes,
+        at,
+        directory,
+        new,
+        slot,
+        entry,
+    );
+    store_table(image, s, table);
+}

@@ -1,0 +1,180 @@
+-- The claims on images, from those of the model: an image and its view are changed together.
+use Prim.Native.Nat.{ℕ, zero, suc, _*_}
+use mathlib.Core.Bool.{cond, false}
+use mathlib.Core.List.{List}
+use mathlib.Core.Path.{_∙_, _≡_, ap, refl, sym}
+use lib.ListN.{length}
+use Rattle.change.proofs.ChangedLaws.{Done, accepted, answered, checked-parts, performs}
+use Rattle.change.proofs.ChangedView.{end-is}
+use Rattle.change.specs.Changed as change
+use Rattle.change.specs.Changed.{changed, changedBy, decided, imageWith, rulesOf}
+use Rattle.ecc.proofs.Numbers.{code-numbers}
+use Rattle.layout.specs.declared.Superblock.{Superblock}
+use Rattle.layout.specs.See.{checkImage, see}
+use Rattle.layout.proofs.Geometry.{open-facts}
+use Rattle.layout.proofs.Stages.{not-ok}
+use Rattle.model.proofs.BenchHolds.{rule-numbers}
+use Rattle.model.proofs.ClaimsHold.{change-keeps, demand-3-holds}
+use Rattle.model.specs.Change.{Change, path, standingAfter}
+use Rattle.model.specs.Check.{Marks, Result, andThen, fault, ok}
+use Rattle.model.specs.Claims as model
+use Rattle.model.specs.Counts.{isFree, totalBelow}
+use Rattle.model.specs.Names.{Path, beginning, samePath}
+use Rattle.model.specs.Perform.{done, perform}
+use Rattle.model.specs.Plan.{freeOf, planOf}
+use Rattle.model.specs.Refusal.{refusal}
+use Rattle.model.specs.Standing.{standingsOf, treeOf}
+use Rattle.model.specs.Tree.{Root}
+use Rattle.model.specs.View.{View}
+use Rattle.tree.specs.Counted.{checkOf, countsIn}
+use Rattle.tree.specs.declared.Counts.{Counts}
+use Rattle.claims.specs.Claims.{Accepts, ChangeKeeps, Commute, Demand3, Kept, Order, RefusalLeaves, after, final}
+use Rattle.claims.specs.Numbers.{MarkedNumbers}
+use Rattle.claims.specs.Seen.{freeIn, freeBy, standingIn, treeIn}
+
+pub marked-numbers : MarkedNumbers
+marked-numbers =
+    record {
+      zero-chunk = code-numbers .zero-chunk;
+      only-byte-0 = code-numbers .only-byte-0;
+      only-byte-127 = code-numbers .only-byte-127;
+      only-byte-5 = code-numbers .only-byte-5;
+      bytes-0-and-1 = code-numbers .bytes-0-and-1;
+      all-ones = code-numbers .all-ones;
+      leap-day-2000 = rule-numbers .leapDay2000;
+      leap-day-2100 = rule-numbers .leapDay2100;
+      word-free = rule-numbers .wordFree;
+      word-next = rule-numbers .wordNext;
+      word-end = rule-numbers .wordEnd;
+    }
+
+-- ---- an accepted image
+pub record Card (image : List ℕ) : Type 0 where
+  pub superblock : Superblock
+  pub root : Root
+  pub marks : Marks
+  pub checked : checkImage image ≡ ok (superblock, root, marks)
+
+card-of : (image : List ℕ) (counts : Counts) → checkOf image ≡ ok counts → Card image
+unfolding checkOf andThen
+card-of image counts e = go (checkImage image) refl e
+  where
+    go : (r : Result (Superblock × Root × Marks)) → checkImage image ≡ r
+        → andThen {A = Superblock × Root × Marks} {B = Counts} r (λ x. ok (countsIn (x .0 .clusters) (x .0 .end) (see (x .0) image) (x .1))) ≡ ok counts → Card image
+    go (fault n p) f k = not-ok n p counts k
+    go (ok x) f k = record { superblock = x .0; root = x .1; marks = x .2; checked = f }
+
+-- what is told of it, by its view
+module _ (image : List ℕ) (s : Superblock) (root : Root) (m : Marks) (checked : checkImage image ≡ ok (s, root, m)) where
+  pub counted : checkOf image ≡ ok (countsIn (s .clusters) (s .end) (see s image) root)
+  unfolding checkOf andThen
+  counted = rw checked
+
+  pub tree-is : (q : Path) → treeIn image q ≡ treeOf (see s image) q
+  unfolding treeIn treeOf
+  tree-is q = ap (λ r. standingIn r q) checked ∙ sym (ap (λ r. standingsOf r q) ((checked-parts image s root m checked) .1))
+
+  pub free-is : freeIn image ≡ freeOf (rulesOf s) (see s image)
+  unfolding freeIn
+  free-is =
+      ap freeBy counted
+      ∙ ap (λ n. totalBelow (λ c. isFree ((see s image) .link c)) n) (sym (end-is image s ((checked-parts image s root m checked) .0)))
+
+  pub long-is : length image ≡ 1056 * s .clusters
+  long-is = (open-facts image s ((checked-parts image s root m checked) .0)) .long
+
+-- ---- one change
+module _ (image : List ℕ) (s : Superblock) (root : Root) (m : Marks) (checked : checkImage image ≡ ok (s, root, m)) (c : Change) (d : Done image s root m checked c) where
+  pub left : after c image ≡ d .after
+  left = ap (λ (o : change.Outcome). o .image) (d .outcome)
+
+  pub told : Accepts image c
+  told = ap (λ (o : change.Outcome). o .answer) (d .outcome)
+
+  pub kept : Kept image c
+  kept =
+      let k = change-keeps (rulesOf s) (see s image) (accepted image s root m checked) c (see s (d .after)) (d .performed) in
+      record {
+        counts = countsIn (s .clusters) (s .end) (see s (d .after)) (d .newRoot);
+        again = ap checkOf left ∙ counted (d .after) s (d .newRoot) (d .newMarks) (d .again);
+        long = ap length left ∙ long-is (d .after) s (d .newRoot) (d .newMarks) (d .again) ∙ sym (long-is image s root m checked);
+        paths = λ q.
+            ap (λ i. treeIn i q) left ∙ tree-is (d .after) s (d .newRoot) (d .newMarks) (d .again) q ∙ k .paths q
+            ∙ ap (λ o. cond (samePath q (path c)) (standingAfter c o) o) (sym (tree-is image s root m checked q));
+      }
+
+pub keeps : ChangeKeeps
+keeps image counts e c a =
+    let k = card-of image counts e in
+    kept image (k .superblock) (k .root) (k .marks) (k .checked) c (answered image (k .superblock) (k .root) (k .marks) (k .checked) c a)
+
+pub refusal-leaves : RefusalLeaves
+unfolding changed
+refusal-leaves image c n p e = go (checkImage image) e
+  where
+    by-number : (k : ℕ) (next : List ℕ) → (decided k image next) .answer ≡ fault n p → (decided k image next) .image ≡ image
+    by-number zero next e = not-ok n p tt (sym e)
+    by-number (suc k) next e = refl
+
+    go : (r : Result (Superblock × Root × Marks)) → (changedBy c image r) .answer ≡ fault n p → (changedBy c image r) .image ≡ image
+    go (fault k q) e = refl
+    go (ok x) e =
+        by-number (refusal (rulesOf (x .0)) c (see (x .0) image) (x .1)) (imageWith (x .0) image (planOf (rulesOf (x .0)) c (see (x .0) image) (x .1))) e
+
+-- ---- demand 3
+module _ (image : List ℕ) (s : Superblock) (root : Root) (m : Marks) (checked : checkImage image ≡ ok (s, root, m)) where
+  -- both calls of an order that is accepted to its end
+  pub record Both (a b : Change) : Type 0 where
+    pub one : Done image s root m checked a
+    pub other : Done (one .after) s (one .newRoot) (one .newMarks) (one .again) b
+
+  both : (a b : Change) → Order image a b → Both a b
+  both a b o =
+      let d = answered image s root m checked a (o .first) in
+      let second : Accepts (d .after) b = rw (left image s root m checked a d) at (o .second) in
+      record { one = d; other = answered (d .after) s (d .newRoot) (d .newMarks) (d .again) b second }
+
+  module _ (a b : Change) (w : Both a b) where
+    abbrev view-order : model.Order (rulesOf s) (see s image) a b
+    view-order =
+        record {
+          between = see s (w .one .after);
+          final = see s (w .other .after);
+          firstDone = w .one .performed;
+          thenDone = w .other .performed;
+        }
+
+    ends : final image a b ≡ w .other .after
+    ends = ap (after b) (left image s root m checked a (w .one)) ∙ left (w .one .after) s (w .one .newRoot) (w .one .newMarks) (w .one .again) b (w .other)
+
+    end-tree : (q : Path) → treeIn (final image a b) q ≡ treeOf (see s (w .other .after)) q
+    end-tree q = ap (λ i. treeIn i q) ends ∙ tree-is (w .other .after) s (w .other .newRoot) (w .other .newMarks) (w .other .again) q
+
+    end-free : freeIn (final image a b) ≡ freeOf (rulesOf s) (see s (w .other .after))
+    end-free = ap freeIn ends ∙ free-is (w .other .after) s (w .other .newRoot) (w .other .newMarks) (w .other .again)
+
+  same-done : (u w : View) → done u ≡ done w → u ≡ w
+  same-done u w e = cc
+
+  image-order : (a b : Change) → model.Order (rulesOf s) (see s image) a b → Order image a b
+  image-order a b o =
+      let d = performs image s root m checked a (o .between) (o .firstDone) in
+      let same : o .between ≡ see s (d .after) = same-done _ _ (sym (o .firstDone) ∙ d .performed) in
+      let then : perform (rulesOf s) b (see s (d .after)) ≡ done (o .final) = rw same at (o .thenDone) in
+      let e = performs (d .after) s (d .newRoot) (d .newMarks) (d .again) b (o .final) then in
+      record { first = told image s root m checked a d; second = rw (left image s root m checked a d) (told (d .after) s (d .newRoot) (d .newMarks) (d .again) b e) }
+
+  pub commute : (a b : Change) → beginning (path a) (path b) ≡ false → beginning (path b) (path a) ≡ false → Commute image a b
+  commute a b h k =
+      let view = demand-3-holds (rulesOf s) (see s image) (accepted image s root m checked) a b h k in
+      record {
+        tree = λ o p q. let x = both a b o in let z = both b a p in
+            end-tree a b x q ∙ view .tree (view-order a b x) (view-order b a z) q ∙ sym (end-tree b a z q);
+        free = λ o p n. let x = both a b o in let z = both b a p in
+            end-free a b x ∙ view .free (view-order a b x) (view-order b a z) n ∙ sym (end-free b a z);
+        creations = λ c d. let t = view .creations c d in
+            ((λ o. image-order b a (t .0 (view-order a b (both a b o)))), (λ o. image-order a b (t .1 (view-order b a (both b a o)))));
+      }
+
+pub demand-3 : Demand3
+demand-3 image counts e a b h k = let c = card-of image counts e in commute image (c .superblock) (c .root) (c .marks) (c .checked) a b h k

@@ -1,0 +1,2 @@
+-- Every claim holds.
+pub mod ImageClaims

@@ -1,0 +1,62 @@
+-- The claims on images. An accepted image is one for which the check tells counts.
+use Prim.Native.Nat.{ℕ}
+use mathlib.Core.Bool.{cond, false, true}
+use mathlib.Core.List.{List}
+use mathlib.Core.Logic.{_↔_}
+use mathlib.Core.Path.{_≡_}
+use lib.ListN.{length}
+use Rattle.change.specs.Changed.{changed}
+use Rattle.model.specs.Change.{Change, Crossed, creates, path, standingAfter}
+use Rattle.model.specs.Check.{fault, ok}
+use Rattle.model.specs.Names.{Path, beginning, samePath}
+use Rattle.tree.specs.Counted.{checkOf}
+use Rattle.tree.specs.declared.Counts.{Counts}
+use Rattle.claims.specs.Seen.{freeIn, treeIn}
+
+-- ---- one change
+
+-- the image that a change leaves, accepted or refused
+abbrev pub after : Change → List ℕ → List ℕ
+after c image = (changed c image) .image
+
+abbrev pub Accepts : List ℕ → Change → Type 0
+Accepts image c = (changed c image) .answer ≡ ok tt
+
+-- The image is accepted again and has its length; the change's own path is what the rules say, and every other path stays.
+pub record Kept (image : List ℕ) (c : Change) : Type 0 where
+  pub counts : Counts
+  pub again : checkOf (after c image) ≡ ok counts
+  pub long : length (after c image) ≡ length image
+  pub paths : (q : Path) → treeIn (after c image) q ≡ cond (samePath q (path c)) (standingAfter c (treeIn image q)) (treeIn image q)
+
+abbrev pub ChangeKeeps : Type 0
+ChangeKeeps = (image : List ℕ) (counts : Counts) → checkOf image ≡ ok counts → (c : Change) → Accepts image c → Kept image c
+
+-- A refusal leaves the image as it was.
+abbrev pub RefusalLeaves : Type 0
+RefusalLeaves = (image : List ℕ) (c : Change) (n p : ℕ) → (changed c image) .answer ≡ fault n p → after c image ≡ image
+
+-- ---- demand 3
+
+-- Two changes in this order, accepted to its end: the second gets the image as the first left it.
+pub record Order (image : List ℕ) (a b : Change) : Type 0 where
+  pub first : Accepts image a
+  pub second : Accepts (after a image) b
+
+-- each order on its own copy of the image
+abbrev pub final : List ℕ → Change → Change → List ℕ
+final image a b = after b (after a image)
+
+pub record Commute (image : List ℕ) (a b : Change) : Type 0 where
+  -- where all four calls are accepted both orders end with the same tree
+  pub tree : Order image a b → Order image b a → (q : Path) → treeIn (final image a b) q ≡ treeIn (final image b a) q
+  -- and the same free count, unless one creates and the other removes in the same directory
+  pub free : Order image a b → Order image b a → ¬ Crossed a b → freeIn (final image a b) ≡ freeIn (final image b a)
+  -- of two creations one order is accepted to its end exactly when the other is
+  pub creations : creates a ≡ true → creates b ≡ true → Order image a b ↔ Order image b a
+
+-- Any two changes at different paths, neither a beginning of the other, commute on any accepted card.
+abbrev pub Demand3 : Type 0
+Demand3 =
+    (image : List ℕ) (counts : Counts) → checkOf image ≡ ok counts → (a b : Change)
+    → beginning (path a) (path b) ≡ false → beginning (path b) (path a) ≡ false → Commute image a b

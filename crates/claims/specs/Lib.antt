@@ -1,0 +1,4 @@
+-- What is claimed of images, with the definitions that the calls' contracts cite.
+pub mod Seen
+pub mod Numbers
+pub mod Claims

@@ -1,0 +1,35 @@
+// What is claimed of images. Each function does nothing; its contract is the claim.
+ghost use Rattle.ecc.specs.Claims.{TwoFlipsUnreadable};
+ghost use Rattle.tree.specs.Counted.{CountsAddUp};
+ghost use Rattle.claims.specs.Numbers.{MarkedNumbers};
+ghost use Rattle.claims.specs.Claims.{ChangeKeeps, Demand3, RefusalLeaves};
+
+// The numbers marked P in document 01.
+pub fn marked_numbers()
+    ensures { λ _. ⌜ MarkedNumbers ⌝ }
+{}
+
+// Two flipped counted bits of a rightly coded chunk make it unreadable.
+pub fn two_flips_unreadable()
+    ensures { λ _. ⌜ TwoFlipsUnreadable ⌝ }
+{}
+
+// Free, reached and orphaned clusters of an accepted image add up to the allocatable ones.
+pub fn counts_add_up()
+    ensures { λ _. ⌜ CountsAddUp ⌝ }
+{}
+
+// A refused change leaves the image as it was.
+pub fn refusal_leaves()
+    ensures { λ _. ⌜ RefusalLeaves ⌝ }
+{}
+
+// After an accepted change the image is accepted again, its own path is what the rules say, and every other path stays.
+pub fn change_keeps()
+    ensures { λ _. ⌜ ChangeKeeps ⌝ }
+{}
+
+// Demand 3: any two changes at paths of which neither is a beginning of the other commute on every accepted image.
+pub fn demand_3()
+    ensures { λ _. ⌜ Demand3 ⌝ }
+{}

@@ -1,0 +1,185 @@
+// Runs the figures of document 01 ("Numbers to meet") on the bench card, each on a fresh copy of it.
+use change::Answer;
+use layout::Refusal;
+use lookup::reading::ReadOutcome;
+use tree::Checked;
+
+const BYTES: usize = 59136;
+
+// 12:34:56 on 29 February 2000.
+const TIME: [u8; 8] = [0, 56, 34, 12, 29, 2, 0xD0, 0x07];
+
+fn say(text: &[u8]) {
+    io::write_all(1, text);
+}
+
+fn say_number(text: &[u8], n: usize) {
+    io::write_all(1, text);
+    io::print_decimal(1, n as u64);
+    io::write_all(1, b"\n");
+}
+
+// The numbers that a change or a read can meet here.
+fn number_of(refusal: Refusal) -> usize {
+    match refusal {
+        Refusal::BadLength => 1,
+        Refusal::UnreadablePage(_) => 2,
+        Refusal::BadText => 3,
+        Refusal::BadSuperblock => 4,
+        Refusal::BadTableName => 5,
+        Refusal::BadChain => 6,
+        Refusal::BadEntry => 7,
+        Refusal::BadPath => 8,
+        Refusal::BadTime => 14,
+        Refusal::Absent => 9,
+        Refusal::WrongKind => 10,
+        Refusal::Exists => 11,
+        Refusal::NotEmpty => 13,
+        Refusal::BadOffset => 15,
+        Refusal::NoRoom => 12,
+    }
+}
+
+fn tell(what: &[u8], answer: Answer) {
+    say(what);
+    match answer {
+        Answer::Done => say(b": done\n"),
+        Answer::Refused(refusal) => say_number(b": refused ", number_of(refusal)),
+    }
+}
+
+fn tell_free(image: &[u8; BYTES]) {
+    match tree::check(image) {
+        Checked::Refused(refusal) => say_number(b"refused ", number_of(refusal)),
+        Checked::Card(counts) => say_number(b"free ", counts.free),
+    }
+}
+
+fn tell_listing(image: &[u8; BYTES]) {
+    let mut text = [0u8; 1024];
+    let length = listing::list(image, &mut text);
+    say(listing::written(&text, length));
+}
+
+fn tell_read(image: &[u8; BYTES], path: &[u8], from: usize) {
+    let mut out = [0u8; 16];
+    match lookup::reading::read(image, path, from, &mut out) {
+        ReadOutcome::Bytes(count) => say_number(b"read ", count),
+        ReadOutcome::Refused(refusal) => say_number(b"read refused ", number_of(refusal)),
+    }
+}
+
+// One change, told.
+fn create(image: &mut [u8; BYTES], what: &[u8], path: &[u8], bytes: &[u8]) {
+    let time = TIME;
+    tell(what, change::create(image, path, &time, bytes));
+}
+
+fn replace(image: &mut [u8; BYTES], what: &[u8], path: &[u8], bytes: &[u8]) {
+    let time = TIME;
+    tell(what, change::replace(image, path, &time, bytes));
+}
+
+fn delete(image: &mut [u8; BYTES], what: &[u8], path: &[u8]) {
+    tell(what, change::delete(image, path));
+}
+
+fn make_dir(image: &mut [u8; BYTES], what: &[u8], path: &[u8]) {
+    let time = TIME;
+    tell(what, change::make_dir(image, path, &time));
+}
+
+fn remove_dir(image: &mut [u8; BYTES], what: &[u8], path: &[u8]) {
+    tell(what, change::remove_dir(image, path));
+}
+
+// The greatest file: 28,672 bytes, before and after it was removed.
+fn greatest(fresh: &[u8; BYTES]) {
+    let mut image = *fresh;
+    let fits = [7u8; 28672];
+    let more = [7u8; 28673];
+    create(&mut image, b"create /A of 28673", b"/A", &more);
+    create(&mut image, b"create /A of 28672", b"/A", &fits);
+    delete(&mut image, b"delete /A", b"/A");
+    create(&mut image, b"create /A of 28673", b"/A", &more);
+    create(&mut image, b"create /A of 28672", b"/A", &fits);
+}
+
+// A removed and then B created, and the other order.
+fn removed_first(fresh: &[u8; BYTES]) {
+    let mut image = *fresh;
+    create(&mut image, b"create /A", b"/A", b"");
+    create(&mut image, b"create /C", b"/C", b"");
+    delete(&mut image, b"delete /A", b"/A");
+    create(&mut image, b"create /B", b"/B", b"");
+    tell_free(&image);
+}
+
+fn created_first(fresh: &[u8; BYTES]) {
+    let mut image = *fresh;
+    create(&mut image, b"create /A", b"/A", b"");
+    create(&mut image, b"create /C", b"/C", b"");
+    create(&mut image, b"create /B", b"/B", b"");
+    delete(&mut image, b"delete /A", b"/A");
+    tell_free(&image);
+}
+
+// Four names: a file, but no directory. A read at the file's end, and one byte further.
+fn four_names(fresh: &[u8; BYTES]) {
+    let mut image = *fresh;
+    make_dir(&mut image, b"make /a", b"/a");
+    make_dir(&mut image, b"make /a/b", b"/a/b");
+    make_dir(&mut image, b"make /a/b/c", b"/a/b/c");
+    make_dir(&mut image, b"make /a/b/c/d", b"/a/b/c/d");
+    create(&mut image, b"create /a/b/c/d", b"/a/b/c/d", b"twelve bytes");
+    tell_read(&image, b"/a/b/c/d", 0);
+    tell_read(&image, b"/a/b/c/d", 12);
+    tell_read(&image, b"/a/b/c/d", 13);
+}
+
+// A save in its directory, and the whole listing; then all of it taken away again.
+fn save(fresh: &[u8; BYTES]) {
+    let mut image = *fresh;
+    let bytes = [7u8; 1500];
+    make_dir(&mut image, b"make /SAVE", b"/SAVE");
+    create(&mut image, b"create /SAVE/A", b"/SAVE/A", &bytes);
+    tell_listing(&image);
+    remove_dir(&mut image, b"remove /SAVE", b"/SAVE");
+    replace(&mut image, b"replace /SAVE/A by nothing", b"/SAVE/A", b"");
+    tell_free(&image);
+    delete(&mut image, b"delete /SAVE/A", b"/SAVE/A");
+    remove_dir(&mut image, b"remove /SAVE", b"/SAVE");
+    tell_listing(&image);
+}
+
+fn run(fresh: &[u8; BYTES]) {
+    say(b"== fresh\n");
+    tell_listing(fresh);
+    say(b"== the greatest file\n");
+    greatest(fresh);
+    say(b"== removed first\n");
+    removed_first(fresh);
+    say(b"== created first\n");
+    created_first(fresh);
+    say(b"== four names\n");
+    four_names(fresh);
+    say(b"== a save\n");
+    save(fresh);
+}
+
+fn main() {
+    let path = b"bench.ps2";
+    let file = os::open_read(path);
+    if file < 0 {
+        os::fail(path);
+        return;
+    }
+    let mut image = [0u8; BYTES];
+    let count = io::read_full(file, &mut image);
+    libc::close(file);
+    if count < BYTES {
+        say(b"the bench card is cut\n");
+        return;
+    }
+    run(&image);
+}
