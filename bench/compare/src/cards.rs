@@ -142,3 +142,28 @@ pub fn one_directory(names: Names) -> Crowd {
 pub fn many_directories(names: Names) -> Crowd {
     crowd(40, 50, names)
 }
+
+/// A standard card with so many files of one cluster each, 50 to a directory.
+pub fn many_files(files: usize) -> Vec<u8> {
+    let directories = files.div_ceil(50);
+    let mut card = Assembly::new(Layout::standard());
+    let root: Vec<usize> = (0..(2 + directories).div_ceil(2)).collect();
+    card.directory(&root, 2 + directories as u32);
+    let mut next = root.len();
+    for place in 0..directories {
+        let count = (files - 50 * place).min(50);
+        let chain: Vec<usize> = (next..next + (2 + count).div_ceil(2)).collect();
+        next += chain.len();
+        let slot = 2 + place;
+        let name = format!("D{place}");
+        card.put(root[slot / 2], slot % 2, &directory(name.as_bytes(), 2 + count as u32, chain[0] as u32));
+        card.directory(&chain, 0);
+        for number in 0..count {
+            let slot = 2 + number;
+            card.put(chain[slot / 2], slot % 2, &file(format!("F{number}").as_bytes(), 1000, next as u32));
+            card.chain(&[next]);
+            next += 1;
+        }
+    }
+    card.finish()
+}

@@ -5,13 +5,16 @@
 
 pub mod answer;
 pub mod cards;
+pub mod change;
 pub mod clock;
+pub mod in_place;
 pub mod listing;
 pub mod lookup;
 
 use answer::{verdict, Broken, NO_PAGE};
 use reader::{Counts, Refusal};
 
+pub use change::{create, delete, make_dir, remove_dir, replace};
 pub use lookup::{find, read, step};
 
 extern "C" {

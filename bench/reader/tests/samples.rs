@@ -1,27 +1,32 @@
-//! The files of the listing programs are the builders' images and the reader's answers.
+//! The files of the listing programs and the sample card are the builders' images and the reader's answers.
 
 use reader::build::samples;
 
 fn repository(file: &str) -> Vec<u8> {
-    let file = format!("{}/../../crates/{file}", env!("CARGO_MANIFEST_DIR"));
+    let file = format!("{}/../../{file}", env!("CARGO_MANIFEST_DIR"));
     std::fs::read(&file).unwrap_or_else(|error| panic!("{file}: {error}"))
 }
 
 #[test]
 fn listed_card() {
-    assert_eq!(repository("list/stdin"), samples::save());
+    assert_eq!(repository("crates/list/stdin"), samples::save());
     let whole = "card 56\nfree 24\nreached 6\norphaned 0\nd 3 /SAVE\nf 1500 /SAVE/A\n";
-    assert_eq!(String::from_utf8(repository("list/stdout")).unwrap(), whole);
+    assert_eq!(String::from_utf8(repository("crates/list/stdout")).unwrap(), whole);
 }
 
 #[test]
 fn many_cards() {
     for (name, image) in samples::all() {
-        assert!(repository(&format!("cards/data/{name}.ps2")) == image, "{name}");
+        assert!(repository(&format!("crates/cards/data/{name}.ps2")) == image, "{name}");
     }
-    let printed = String::from_utf8(repository("cards/stdout")).unwrap();
+    let printed = String::from_utf8(repository("crates/cards/stdout")).unwrap();
     assert_eq!(printed, samples::printed());
     for number in 1..=7 {
         assert!(printed.contains(&format!("\nrefused {number}")), "{number}");
     }
+}
+
+#[test]
+fn sample_card() {
+    assert!(repository("samples/bench.ps2") == samples::shop());
 }

@@ -1,6 +1,7 @@
 //! What the comparing tests share.
 #![allow(dead_code)]
 
+pub mod changes;
 pub mod lookups;
 pub mod requests;
 

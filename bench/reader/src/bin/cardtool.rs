@@ -42,7 +42,8 @@ fn run(arguments: &[&str]) -> Result<String, String> {
     }
 }
 
-/// Writes the images of the programs `list` and `cards`, and what each prints, into the repository at `root`.
+/// Writes the images of the programs `list` and `cards`, what each prints, and the sample card into the repository at
+/// `root`.
 fn samples(root: &str) -> std::io::Result<String> {
     let data = format!("{root}/crates/cards/data");
     std::fs::create_dir_all(&data)?;
@@ -52,6 +53,8 @@ fn samples(root: &str) -> std::io::Result<String> {
     std::fs::write(format!("{root}/crates/cards/stdout"), build::samples::printed())?;
     std::fs::write(format!("{root}/crates/list/stdin"), build::samples::save())?;
     std::fs::write(format!("{root}/crates/list/stdout"), list(&build::samples::save()))?;
+    std::fs::create_dir_all(format!("{root}/samples"))?;
+    std::fs::write(format!("{root}/samples/bench.ps2"), build::samples::shop())?;
     Ok(String::new())
 }
 

@@ -1,6 +1,7 @@
 //! The images that the listing programs are run on, and what they must print.
 
 use super::{bad, bench, good, usual_time};
+use crate::time::stamp;
 use crate::{create, make_dir, program};
 
 /// Images and their names.
@@ -30,6 +31,35 @@ pub fn save() -> Vec<u8> {
     make_dir(&mut image, b"/SAVE", &usual_time()).expect("the bench card has room");
     let bytes: Vec<u8> = (0..1500).map(|place| (place % 251) as u8).collect();
     create(&mut image, b"/SAVE/A", &usual_time(), &bytes).expect("the bench card has room");
+    image
+}
+
+/// The card in the repository's `samples`: the bench card with three saves of a shop's customer.
+pub fn shop() -> Vec<u8> {
+    let mut image = bench();
+    let bytes = |count: usize, seed: usize| (0..count).map(|place| (place * seed % 251) as u8).collect::<Vec<u8>>();
+    let bought = stamp(2001, 11, 24, 10, 5, 0);
+    let played = stamp(2003, 7, 19, 22, 48, 31);
+    let saves = [
+        (
+            "BESLES-00001GARDEN",
+            played,
+            vec![("icon.sys", bytes(964, 3)), ("garden.ico", bytes(2900, 5)), ("GARDEN", bytes(4096, 7))],
+        ),
+        ("BESLES-00002RALLY", bought, vec![("icon.sys", bytes(964, 11)), ("RALLY", bytes(1500, 13))]),
+        (
+            "SAVE",
+            usual_time(),
+            vec![("A", bytes(1500, 1)), ("note.txt", b"One save of 2000, one of 2001, one of 2003.\n".to_vec())],
+        ),
+    ];
+    for (save, time, files) in saves {
+        let save = format!("/{save}");
+        make_dir(&mut image, save.as_bytes(), &time).expect("the bench card has room");
+        for (name, bytes) in files {
+            create(&mut image, format!("{save}/{name}").as_bytes(), &time, &bytes).expect("the bench card has room");
+        }
+    }
     image
 }
 

@@ -1,0 +1,117 @@
+//! Whole calls side by side: check, reading every file, creating until the card is full; and the check by the number
+//! of files. `calls SIDE WORK` does one work once, for a tool that counts instructions.
+
+use std::env;
+use std::hint::black_box;
+use std::process::ExitCode;
+use std::time::Duration;
+
+use compare::cards::{full, many_files};
+use compare::clock::{median, thread_time};
+use reader::build::usual_time;
+use reader::content::lines;
+
+/// Bytes of each file that is created until the card is full.
+const CREATED: usize = 64 * 1024;
+/// Files that are read, and created, when instructions are counted.
+const COUNTED: usize = 20;
+const RUNS: usize = 5;
+
+/// The calls of one side, straight on the image: no copy and no guard bytes.
+struct Side {
+    name: &'static str,
+    check: fn(&[u8]) -> bool,
+    read: fn(&[u8], &[u8], &mut [u8]) -> Option<usize>,
+    create: fn(&mut [u8], &[u8], &[u8]) -> bool,
+}
+
+const SIDES: [Side; 2] = [
+    Side {
+        name: "library",
+        check: |image| compare::check(image).is_ok(),
+        read: |image, path, out| compare::in_place::read(image, path, 0, out),
+        create: |image, path, bytes| compare::in_place::create(image, path, &usual_time(), bytes),
+    },
+    Side {
+        name: "reader",
+        check: |image| reader::check(image).is_ok(),
+        read: |image, path, out| reader::read(image, path, 0, out).ok(),
+        create: |image, path, bytes| reader::create(image, path, &usual_time(), bytes).is_ok(),
+    },
+];
+
+fn main() -> ExitCode {
+    let arguments: Vec<String> = env::args().skip(1).collect();
+    match arguments.iter().map(String::as_str).collect::<Vec<_>>()[..] {
+        [] => table(),
+        [side, work] => {
+            let Some(side) = SIDES.iter().find(|known| known.name == side) else { return ExitCode::from(2) };
+            let (image, files) = card();
+            match work {
+                "nothing" => {}
+                "check" => assert!((side.check)(&image)),
+                "read" => drop(read_all(side, &image, &files[..COUNTED])),
+                "create" => drop(create_some(side, &image, COUNTED)),
+                _ => return ExitCode::from(2),
+            }
+        }
+        _ => return ExitCode::from(2),
+    }
+    ExitCode::SUCCESS
+}
+
+/// The full card, and its files' paths.
+fn card() -> (Vec<u8>, Vec<Vec<u8>>) {
+    let image = full();
+    let files = lines(&image).expect("the full card is accepted").into_iter();
+    let files = files.filter(|line| !line.item.is_directory).map(|line| line.path).collect();
+    (image, files)
+}
+
+fn read_all(side: &Side, image: &[u8], files: &[Vec<u8>]) -> usize {
+    let mut buffer = vec![0; 1 << 20];
+    files.iter().map(|path| (side.read)(image, path, &mut buffer).expect("every file is readable")).sum()
+}
+
+/// Creates files until one is refused, at most so many; how many were created.
+fn create_some(side: &Side, image: &[u8], most: usize) -> usize {
+    let mut image = image.to_vec();
+    let bytes = vec![0xA5; CREATED];
+    (0..most).take_while(|number| (side.create)(&mut image, format!("/NEW{number}").as_bytes(), &bytes)).count()
+}
+
+/// The median processor time of a work on each side, in turn.
+fn timed<T: PartialEq + std::fmt::Debug>(runs: usize, work: impl Fn(&Side) -> T) -> [Duration; 2] {
+    let mut times = [vec![], vec![]];
+    for _ in 0..runs {
+        let mut done = vec![];
+        for (side, times) in SIDES.iter().zip(&mut times) {
+            let start = thread_time();
+            done.push(black_box(work(side)));
+            times.push(thread_time() - start);
+        }
+        assert_eq!(done[0], done[1], "both sides did the same");
+    }
+    times.map(|mut times| {
+        times.sort();
+        median(&times)
+    })
+}
+
+fn row(name: &str, [library, reader]: [Duration; 2]) {
+    let [library, reader] = [library, reader].map(|time| time.as_secs_f64() * 1e3);
+    println!("{name:34} {library:>11.2} ms {reader:>11.2} ms {:>15.2}", library / reader);
+}
+
+fn table() {
+    let (image, files) = card();
+    println!("{:34} {:>14} {:>14} {:>15}", "", "library", "reader", "library/reader");
+    row("check", timed(RUNS * 5, |side| (side.check)(&image)));
+    row(&format!("read of all {} files", files.len()), timed(1, |side| read_all(side, &image, &files)));
+    let created = create_some(&SIDES[1], &image, usize::MAX);
+    row(&format!("create until full ({created} files)"), timed(RUNS, |side| create_some(side, &image, usize::MAX)));
+    for count in [500, 1000, 2000, 4000] {
+        let image = many_files(count);
+        row(&format!("check of {count} files"), timed(RUNS * 5, |side| (side.check)(&image)));
+    }
+}

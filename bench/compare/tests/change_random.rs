@@ -1,0 +1,128 @@
+//! The five changes equal the reader's on seeded random cards: a sequence on each, so that cards fill up, fragment
+//! and empty.
+
+mod common;
+
+use common::changes::{five, Changes};
+use common::{flip_each_chunk, needed_pages};
+use reader::build::random::random;
+use reader::build::requests::random_change;
+use reader::build::scribble;
+use reader::build::usual_time;
+use reader::build::vandal::vandalised;
+use reader::page::PAGE;
+use reader::rng::Rng;
+use reader::tree::Checked;
+use reader::{lookup, tree, Change, Tree};
+
+/// Sequences of random changes on random cards.
+#[derive(Default)]
+struct Run {
+    changes: Changes,
+    /// Changes that left no free cluster, no entry, a new chain with gaps.
+    filled: usize,
+    emptied: usize,
+    scattered: usize,
+}
+
+impl Run {
+    fn sequences(&mut self, seeds: std::ops::Range<u64>) {
+        for seed in seeds {
+            let card = random(seed);
+            let mut rng = Rng::new(seed ^ 0xC4A9_6E00);
+            let mut image = card.image;
+            let mut grows = rng.chance(1, 2);
+            for number in 0..if card.layout.clusters < 400 { 60 } else { 12 } {
+                let items = tree(&image).expect("an accepted card");
+                grows = grows || items.len() == 1;
+                let change = leaning(&mut rng, &items, grows);
+                wear(&mut image, card.layout.indirect, &mut rng);
+                let what = || format!("random card {seed}, change {number}");
+                let answer = self.changes.apply(&mut image, &change, what);
+                match answer {
+                    Ok(()) => self.look(&image, &change),
+                    Err(refusal) => grows = grows && refusal.number != 12,
+                }
+            }
+        }
+    }
+
+    /// The card is sound after an accepted change; what it has become is counted.
+    fn look(&mut self, image: &[u8], change: &Change) {
+        let checked = Checked::of(image).expect("a change leaves a sound card");
+        let names = lookup::names(change.path()).expect("an accepted path");
+        let has_gaps = |chain: &[usize]| chain.windows(2).any(|pair| pair[1] != pair[0] + 1);
+        self.filled += usize::from(checked.card.free().next().is_none());
+        self.emptied +=
+            usize::from(change.is_removal() && checked.root.inside.iter().all(|root| root.children.is_empty()));
+        self.scattered += usize::from(lookup::locate(&checked.root, &names).is_ok_and(|node| has_gaps(&node.chain)));
+    }
+
+    /// Nothing was too rare.
+    fn met(&self) {
+        self.changes.met([0, 8, 9, 10, 11, 12, 13, 14], 100);
+        self.changes.accepted(300);
+        let others = [self.filled, self.emptied, self.scattered];
+        println!("cards filled, emptied, chains with gaps: {others:?}");
+        assert!(others.iter().all(|&times| times >= 50), "{others:?}");
+    }
+}
+
+/// A random change; on a card that is to grow mostly no removal, on another mostly no creation.
+fn leaning(rng: &mut Rng, items: &Tree, grows: bool) -> Change {
+    let change = random_change(rng, items);
+    let leans_away = if grows { change.is_removal() } else { change.is_creation() };
+    match leans_away && rng.chance(3, 4) {
+        true => random_change(rng, items),
+        false => change,
+    }
+}
+
+/// Flips, junk spare bytes, and now and then an unreadable page where the check does not look.
+fn wear(image: &mut [u8], indirect: usize, rng: &mut Rng) {
+    for _ in 0..rng.below(4) {
+        let page = rng.below(image.len() / PAGE);
+        flip_each_chunk(image, page, rng);
+        scribble::junk_spare(image, page, rng);
+    }
+    if rng.chance(1, 5) {
+        let page = rng.below(image.len() / PAGE);
+        if !needed_pages(image, indirect).contains(&page) {
+            scribble::ruin(image, page, rng.below(4), rng);
+        }
+    }
+}
+
+#[test]
+fn sequences_first_half() {
+    let mut run = Run::default();
+    run.sequences(0..150);
+    run.met();
+}
+
+#[test]
+fn sequences_second_half() {
+    let mut run = Run::default();
+    run.sequences(5_000_000..5_000_150);
+    run.met();
+}
+
+/// What the check refuses, every change refuses alike, with the image as it was.
+#[test]
+fn refused_cards() {
+    let mut changes = Changes::default();
+    for seed in 0..1000 {
+        let image = vandalised(seed);
+        let path = *Rng::new(seed).pick(&[&b"/F"[..], b"/D/x", b"no path", b"/"]);
+        let what = || format!("vandalised card {seed}");
+        if let Err(refusal) = compare::check(&image) {
+            for change in five(path, &usual_time(), b"bytes") {
+                let mut copy = image.clone();
+                assert_eq!(changes.apply(&mut copy, &change, what), Err(refusal), "{}", what());
+            }
+        }
+    }
+    for tally in &changes.tallies {
+        tally.met(1..=7, 10);
+    }
+}

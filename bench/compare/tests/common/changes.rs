@@ -1,0 +1,91 @@
+//! The five changes on both sides.
+
+use reader::page::PAGE;
+use reader::time::Time;
+use reader::{Change, Refusal};
+
+use super::Tally;
+
+/// The kinds of changes, in the order of `five`.
+pub const KINDS: [&str; 5] = ["create", "replace", "delete", "make_dir", "remove_dir"];
+
+/// All five changes at a path; time and data go to those that take them.
+pub fn five(path: &[u8], time: &Time, data: &[u8]) -> [Change; 5] {
+    let (path, data) = (|| path.to_vec(), || data.to_vec());
+    [
+        Change::Create { path: path(), time: *time, data: data() },
+        Change::Replace { path: path(), time: *time, data: data() },
+        Change::Delete { path: path() },
+        Change::MakeDir { path: path(), time: *time },
+        Change::RemoveDir { path: path() },
+    ]
+}
+
+pub fn kind(change: &Change) -> usize {
+    match change {
+        Change::Create { .. } => 0,
+        Change::Replace { .. } => 1,
+        Change::Delete { .. } => 2,
+        Change::MakeDir { .. } => 3,
+        Change::RemoveDir { .. } => 4,
+    }
+}
+
+/// Comparisons of the five changes, and how often each answer was met, by kind.
+#[derive(Clone, Debug, Default)]
+pub struct Changes {
+    pub tallies: [Tally; 5],
+}
+
+impl Changes {
+    /// Makes a change on both sides: the same answer, and the same image, which is left in `image`.
+    pub fn apply(&mut self, image: &mut [u8], change: &Change, what: impl Fn() -> String) -> Result<(), Refusal> {
+        let mut readers = image.to_vec();
+        let answer = self.apply_to_each(image, &mut readers, change, &what);
+        same_image(image, &readers, || about(change, &what));
+        answer
+    }
+
+    /// The same with an image for each side; only the answers are compared.
+    pub fn apply_to_each(
+        &mut self,
+        ours: &mut [u8],
+        readers: &mut [u8],
+        change: &Change,
+        what: impl Fn() -> String,
+    ) -> Result<(), Refusal> {
+        let answer = compare::change::apply(change, ours);
+        assert_eq!(answer, change.apply(readers), "library left, reader right: {}", about(change, &what));
+        self.tallies[kind(change)].count(&answer);
+        answer
+    }
+
+    /// Each of the answers was met this often, all kinds of changes together.
+    pub fn met(&self, answers: impl IntoIterator<Item = usize>, times: usize) {
+        let mut all = Tally::default();
+        for (name, tally) in KINDS.iter().zip(&self.tallies) {
+            println!("{name}: accepted, and refused with 1 to 15: {:?}", tally.seen);
+            all.seen.iter_mut().zip(&tally.seen).for_each(|(all, seen)| *all += seen);
+        }
+        all.met(answers, times);
+    }
+
+    /// Each kind of change was accepted this often.
+    pub fn accepted(&self, times: usize) {
+        for (name, tally) in KINDS.iter().zip(&self.tallies) {
+            assert!(tally.seen[0] >= times, "{name} accepted less than {times} times: {:?}", tally.seen);
+        }
+    }
+}
+
+fn about(change: &Change, what: impl Fn() -> String) -> String {
+    format!("{} {}, {}", KINDS[kind(change)], change.path().escape_ascii(), what())
+}
+
+/// Both images are equal; otherwise the first difference is told.
+pub fn same_image(ours: &[u8], readers: &[u8], what: impl Fn() -> String) {
+    if ours != readers {
+        let at = ours.iter().zip(readers).position(|(one, other)| one != other).expect("they are equally long");
+        panic!("the images differ first in byte {} of page {}: {}", at % PAGE, at / PAGE, what());
+    }
+}

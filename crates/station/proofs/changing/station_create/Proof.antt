@@ -1,0 +1,21 @@
+-- `station::changing::station_create` meets its contract: what `change::create` answers, in numbers; the image is as it left it.
+use borrow.Author.Needs.{needs}
+use Rattle.station.proofs.changing.station_create.Statement.{statement}
+use Rattle.station.proofs.changing.station_create.Tie as tie
+
+create-requires : tie.Need-create-requires
+create-requires c κs = search needs
+
+tell-answer-requires : tie.Need-tell-answer-requires
+tell-answer-requires c κs = search needs
+
+same-length : tie.Need-same-length
+same-length c = search needs
+
+returns : tie.Need-returns
+returns c =
+    let made = c .before .before .before .before .create .ensures in
+    rw (← (made .0)) (c .tell-answer .ensures .0, (c .tell-answer .ensures .1, made .1))
+
+pub station-create-spec : {M : Type 1} → statement M
+station-create-spec = tie.close (tie.spec create-requires tell-answer-requires same-length returns)

@@ -1,0 +1,21 @@
+-- `station::changing::station_delete` meets its contract: what `change::delete` answers, in numbers; the image is as it left it.
+use borrow.Author.Needs.{needs}
+use Rattle.station.proofs.changing.station_delete.Statement.{statement}
+use Rattle.station.proofs.changing.station_delete.Tie as tie
+
+delete-requires : tie.Need-delete-requires
+delete-requires c κs = search needs
+
+tell-answer-requires : tie.Need-tell-answer-requires
+tell-answer-requires c κs = search needs
+
+same-length : tie.Need-same-length
+same-length c = search needs
+
+returns : tie.Need-returns
+returns c =
+    let made = c .before .before .before .before .delete .ensures in
+    rw (← (made .0)) (c .tell-answer .ensures .0, (c .tell-answer .ensures .1, made .1))
+
+pub station-delete-spec : {M : Type 1} → statement M
+station-delete-spec = tie.close (tie.spec delete-requires tell-answer-requires same-length returns)
