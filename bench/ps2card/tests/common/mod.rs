@@ -1,0 +1,133 @@
+//! What the tests of the command share: a folder of their own, and runs of the command.
+#![allow(dead_code)]
+
+use std::ffi::OsStr;
+use std::fs;
+use std::io::Write;
+use std::os::unix::ffi::OsStrExt;
+use std::path::{Path, PathBuf};
+use std::process::{Child, Command, Output, Stdio};
+use std::sync::atomic::{AtomicUsize, Ordering};
+
+use reader::Refusal;
+
+/// The time of the cards that the independent builder makes.
+pub const USUAL: &str = "2000-02-29T12:34:56";
+
+/// How a run ended and what it wrote.
+#[derive(Debug, PartialEq, Eq)]
+pub struct Outcome {
+    pub status: i32,
+    pub out: Vec<u8>,
+    pub err: String,
+}
+
+impl Outcome {
+    /// It did what it was asked, without a word of complaint; its output.
+    #[track_caller]
+    pub fn done(self) -> Vec<u8> {
+        assert_eq!((self.status, self.err.as_str()), (0, ""));
+        self.out
+    }
+
+    #[track_caller]
+    pub fn text(self) -> String {
+        String::from_utf8(self.done()).expect("text")
+    }
+
+    /// It was refused with this line and no output.
+    #[track_caller]
+    pub fn refused(self, refusal: Refusal) {
+        assert!(self.out.is_empty(), "{self:?}");
+        assert!(self.err.starts_with(&format!("{refusal}: ")), "{self:?}, not {refusal}");
+        assert_eq!((self.status, self.err.matches('\n').count()), (1, 1), "{self:?}");
+    }
+
+    /// It ended with this status, these words on standard error and no output.
+    #[track_caller]
+    pub fn failed(self, status: i32, words: &str) {
+        assert!(self.status == status && self.out.is_empty() && self.err.contains(words), "{self:?}");
+    }
+}
+
+/// A folder that goes when the test is over.
+pub struct Folder(PathBuf);
+
+impl Folder {
+    pub fn new() -> Folder {
+        static COUNT: AtomicUsize = AtomicUsize::new(0);
+        let number = COUNT.fetch_add(1, Ordering::Relaxed);
+        let path = Path::new(env!("CARGO_TARGET_TMPDIR")).join(format!("{}-{number}", std::process::id()));
+        fs::create_dir_all(&path).expect("a folder");
+        Folder(path)
+    }
+
+    pub fn path(&self, name: &str) -> PathBuf {
+        self.0.join(name)
+    }
+
+    /// A file with these bytes; its path.
+    pub fn write(&self, name: &str, bytes: &[u8]) -> PathBuf {
+        let path = self.path(name);
+        fs::write(&path, bytes).expect("a file");
+        path
+    }
+
+    pub fn read(&self, name: &str) -> Vec<u8> {
+        fs::read(self.path(name)).expect("a file")
+    }
+
+    /// The names in it, sorted.
+    pub fn names(&self) -> Vec<String> {
+        let name = |entry: Result<fs::DirEntry, _>| entry.expect("an entry").file_name().into_string().expect("a name");
+        let mut names: Vec<String> = fs::read_dir(&self.0).expect("a folder").map(name).collect();
+        names.sort();
+        names
+    }
+
+    /// The command, in this folder, with these words.
+    pub fn command(&self, words: &[&[u8]]) -> Command {
+        let mut command = Command::new(env!("CARGO_BIN_EXE_ps2card"));
+        command.current_dir(&self.0).args(words.iter().map(|word| OsStr::from_bytes(word)));
+        command.stdin(Stdio::piped()).stdout(Stdio::piped()).stderr(Stdio::piped());
+        command
+    }
+
+    /// A program of the host, in this folder.
+    pub fn tool(&self, name: &str, words: &[&str]) -> Output {
+        Command::new(name).current_dir(&self.0).args(words).output().expect("it runs")
+    }
+
+    pub fn start(&self, words: &[&[u8]]) -> Child {
+        self.command(words).spawn().expect("the command starts")
+    }
+
+    /// Runs it on these bytes as standard input.
+    pub fn feed(&self, words: &[&[u8]], input: &[u8]) -> Outcome {
+        let mut child = self.start(words);
+        // It need not read them.
+        let _ = child.stdin.take().expect("standard input").write_all(input);
+        let output = child.wait_with_output().expect("the command ends");
+        Outcome {
+            status: output.status.code().unwrap_or(-1),
+            out: output.stdout,
+            err: String::from_utf8(output.stderr).expect("text"),
+        }
+    }
+
+    pub fn run(&self, words: &[&str]) -> Outcome {
+        let words: Vec<&[u8]> = words.iter().map(|word| word.as_bytes()).collect();
+        self.feed(&words, b"")
+    }
+}
+
+impl Drop for Folder {
+    fn drop(&mut self) {
+        let _ = fs::remove_dir_all(&self.0);
+    }
+}
+
+/// A time as `--stamp` takes its bytes.
+pub fn raw_stamp(time: &[u8; 8]) -> String {
+    time.iter().fold("0x".to_string(), |text, byte| text + &format!("{byte:02x}"))
+}
