@@ -1,46 +1,10 @@
 //! The five changes. Each works on a copy of the image between guard bytes; the image becomes what the call made of it.
 
+use ps2card::calls::{station_create, station_delete, station_make_dir, station_remove_dir, station_replace};
 use reader::time::Time;
 use reader::{Change, Refusal};
 
 use crate::answer::{verdict, Broken, NO_PAGE};
-
-extern "C" {
-    fn station_create(
-        image: *mut u8,
-        image_len: usize,
-        path: *const u8,
-        path_len: usize,
-        time: *const Time,
-        bytes: *const u8,
-        bytes_len: usize,
-        page: *mut usize,
-    ) -> u32;
-
-    fn station_replace(
-        image: *mut u8,
-        image_len: usize,
-        path: *const u8,
-        path_len: usize,
-        time: *const Time,
-        bytes: *const u8,
-        bytes_len: usize,
-        page: *mut usize,
-    ) -> u32;
-
-    fn station_delete(image: *mut u8, image_len: usize, path: *const u8, path_len: usize, page: *mut usize) -> u32;
-
-    fn station_make_dir(
-        image: *mut u8,
-        image_len: usize,
-        path: *const u8,
-        path_len: usize,
-        time: *const Time,
-        page: *mut usize,
-    ) -> u32;
-
-    fn station_remove_dir(image: *mut u8, image_len: usize, path: *const u8, path_len: usize, page: *mut usize) -> u32;
-}
 
 /// The refusals of each change, in the order of document 01; making a directory has those of creating.
 const CREATING: [u32; 13] = [1, 2, 3, 4, 5, 6, 7, 8, 14, 9, 10, 11, 12];
@@ -100,7 +64,7 @@ pub fn create(image: &mut [u8], path: &[u8], time: &Time, data: &[u8]) -> Result
     // SAFETY: the image is a slice of its own, which the library may write; path, time and data are only read;
     // the page's number is a separate place. All live until the call is over.
     lend(image, &CREATING, |at, length, page| unsafe {
-        station_create(at, length, path.as_ptr(), path.len(), time, data.as_ptr(), data.len(), page)
+        station_create(at, length, path.as_ptr(), path.len(), time.as_ptr(), data.as_ptr(), data.len(), page)
     })
 }
 
@@ -108,7 +72,7 @@ pub fn create(image: &mut [u8], path: &[u8], time: &Time, data: &[u8]) -> Result
 pub fn replace(image: &mut [u8], path: &[u8], time: &Time, data: &[u8]) -> Result<(), Refusal> {
     // SAFETY: as in `create`.
     lend(image, &REPLACING, |at, length, page| unsafe {
-        station_replace(at, length, path.as_ptr(), path.len(), time, data.as_ptr(), data.len(), page)
+        station_replace(at, length, path.as_ptr(), path.len(), time.as_ptr(), data.as_ptr(), data.len(), page)
     })
 }
 
@@ -122,7 +86,7 @@ pub fn delete(image: &mut [u8], path: &[u8]) -> Result<(), Refusal> {
 pub fn make_dir(image: &mut [u8], path: &[u8], time: &Time) -> Result<(), Refusal> {
     // SAFETY: as in `create`.
     lend(image, &CREATING, |at, length, page| unsafe {
-        station_make_dir(at, length, path.as_ptr(), path.len(), time, page)
+        station_make_dir(at, length, path.as_ptr(), path.len(), time.as_ptr(), page)
     })
 }
 

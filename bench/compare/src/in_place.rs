@@ -1,31 +1,7 @@
 //! Calls straight on the caller's image, with no copy and no guard bytes, for taking times.
 
+use ps2card::calls::{station_create, station_read};
 use reader::time::Time;
-
-extern "C" {
-    fn station_read(
-        image: *const u8,
-        image_len: usize,
-        path: *const u8,
-        path_len: usize,
-        offset: usize,
-        out: *mut u8,
-        out_len: usize,
-        page: *mut usize,
-        count: *mut usize,
-    ) -> u32;
-
-    fn station_create(
-        image: *mut u8,
-        image_len: usize,
-        path: *const u8,
-        path_len: usize,
-        time: *const Time,
-        bytes: *const u8,
-        bytes_len: usize,
-        page: *mut usize,
-    ) -> u32;
-}
 
 /// How many bytes were copied; nothing where the call is refused.
 pub fn read(image: &[u8], path: &[u8], offset: usize, out: &mut [u8]) -> Option<usize> {
@@ -57,7 +33,7 @@ pub fn create(image: &mut [u8], path: &[u8], time: &Time, bytes: &[u8]) -> bool 
             image.len(),
             path.as_ptr(),
             path.len(),
-            time,
+            time.as_ptr(),
             bytes.as_ptr(),
             bytes.len(),
             &mut page,

@@ -12,22 +12,11 @@ pub mod listing;
 pub mod lookup;
 
 use answer::{verdict, Broken, NO_PAGE};
+use ps2card::calls::station_check;
 use reader::{Counts, Refusal};
 
 pub use change::{create, delete, make_dir, remove_dir, replace};
 pub use lookup::{find, read, step};
-
-extern "C" {
-    fn station_check(
-        image: *const u8,
-        image_len: usize,
-        page: *mut usize,
-        clusters: *mut u32,
-        free: *mut usize,
-        reached: *mut usize,
-        orphaned: *mut usize,
-    ) -> u32;
-}
 
 /// The refusals of the check.
 const REFUSALS: [u32; 7] = [1, 2, 3, 4, 5, 6, 7];

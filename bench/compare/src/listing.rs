@@ -1,8 +1,6 @@
 //! The listing.
 
-extern "C" {
-    fn station_list(image: *const u8, image_len: usize, out: *mut u8, out_len: usize) -> usize;
-}
+use ps2card::calls::station_list;
 
 /// What the buffer holds before the call; no byte of a listing.
 const BLANK: u8 = 0xEE;

@@ -1,57 +1,9 @@
 //! Find, directory step and file read.
 
+use ps2card::calls::{station_find, station_read, station_step};
 use reader::{Entry, Refusal};
 
 use crate::answer::{verdict, Broken, NO_PAGE};
-
-extern "C" {
-    fn station_find(
-        image: *const u8,
-        image_len: usize,
-        path: *const u8,
-        path_len: usize,
-        page: *mut usize,
-        mode: *mut u16,
-        length: *mut u32,
-        created: *mut [u8; 8],
-        first: *mut u32,
-        dir_entry: *mut u32,
-        modified: *mut [u8; 8],
-        attribute: *mut u32,
-        name: *mut [u8; 32],
-    ) -> u32;
-
-    fn station_step(
-        image: *const u8,
-        image_len: usize,
-        path: *const u8,
-        path_len: usize,
-        slot: u32,
-        page: *mut usize,
-        found: *mut u32,
-        at: *mut u32,
-        mode: *mut u16,
-        length: *mut u32,
-        created: *mut [u8; 8],
-        first: *mut u32,
-        dir_entry: *mut u32,
-        modified: *mut [u8; 8],
-        attribute: *mut u32,
-        name: *mut [u8; 32],
-    ) -> u32;
-
-    fn station_read(
-        image: *const u8,
-        image_len: usize,
-        path: *const u8,
-        path_len: usize,
-        offset: usize,
-        out: *mut u8,
-        out_len: usize,
-        page: *mut usize,
-        count: *mut usize,
-    ) -> u32;
-}
 
 /// The refusals of find and step.
 const REFUSALS: [u32; 10] = [1, 2, 3, 4, 5, 6, 7, 8, 9, 10];
@@ -100,12 +52,12 @@ pub fn find(image: &[u8], path: &[u8]) -> Result<Entry, Refusal> {
             &mut out.page,
             &mut entry.mode,
             &mut entry.length,
-            &mut entry.created,
+            entry.created.as_mut_ptr(),
             &mut entry.first_cluster,
             &mut entry.dir_entry,
-            &mut entry.modified,
+            entry.modified.as_mut_ptr(),
             &mut entry.attribute,
-            &mut entry.name_field,
+            entry.name_field.as_mut_ptr(),
         )
     };
     out.clone().answer(number).unwrap_or_else(|broken| panic!("find, {broken}: {out:?}"))
@@ -156,12 +108,12 @@ pub fn step(image: &[u8], path: &[u8], slot: u32) -> Result<Next, Refusal> {
             &mut out.at,
             &mut entry.mode,
             &mut entry.length,
-            &mut entry.created,
+            entry.created.as_mut_ptr(),
             &mut entry.first_cluster,
             &mut entry.dir_entry,
-            &mut entry.modified,
+            entry.modified.as_mut_ptr(),
             &mut entry.attribute,
-            &mut entry.name_field,
+            entry.name_field.as_mut_ptr(),
         )
     };
     out.clone().answer(number).unwrap_or_else(|broken| panic!("step, {broken}: {out:?}"))

@@ -1,4 +1,4 @@
-//! The functions of `libstation.a`, as `include/ps2card.h` declares them.
+//! The functions of `libstation.a`, as `include/ps2card.h` declares them. `Card` is the safe way to them.
 
 extern "C" {
     pub fn station_check(
@@ -107,3 +107,6 @@ extern "C" {
         page: *mut usize,
     ) -> u32;
 }
+
+/// `station_create` and `station_replace`.
+pub type Write = unsafe extern "C" fn(*mut u8, usize, *const u8, usize, *const u8, *const u8, usize, *mut usize) -> u32;

@@ -163,37 +163,18 @@ impl Card {
 
     /// Creates a file that holds these bytes.
     pub fn create(&mut self, path: &[u8], time: &Stamp, bytes: &[u8]) -> Result<(), Refusal> {
-        let mut page = 0;
-        let number = unsafe {
-            calls::station_create(
-                self.image.as_mut_ptr(),
-                self.image.len(),
-                path.as_ptr(),
-                path.len(),
-                time.0.as_ptr(),
-                bytes.as_ptr(),
-                bytes.len(),
-                &mut page,
-            )
-        };
-        verdict(number, page)
+        self.write(calls::station_create, path, time, bytes)
     }
 
     /// Replaces a file's bytes; the time becomes that of its last change.
     pub fn replace(&mut self, path: &[u8], time: &Stamp, bytes: &[u8]) -> Result<(), Refusal> {
-        let mut page = 0;
-        let number = unsafe {
-            calls::station_replace(
-                self.image.as_mut_ptr(),
-                self.image.len(),
-                path.as_ptr(),
-                path.len(),
-                time.0.as_ptr(),
-                bytes.as_ptr(),
-                bytes.len(),
-                &mut page,
-            )
-        };
+        self.write(calls::station_replace, path, time, bytes)
+    }
+
+    fn write(&mut self, call: calls::Write, path: &[u8], time: &Stamp, bytes: &[u8]) -> Result<(), Refusal> {
+        let (image, length, mut page) = (self.image.as_mut_ptr(), self.image.len(), 0);
+        let (time, bytes, count) = (time.0.as_ptr(), bytes.as_ptr(), bytes.len());
+        let number = unsafe { call(image, length, path.as_ptr(), path.len(), time, bytes, count, &mut page) };
         verdict(number, page)
     }
 

@@ -2,7 +2,7 @@
 //!
 //! A `Card` owns an image of any bytes: each call checks it first, so none has to be checked before.
 
-mod calls;
+pub mod calls;
 mod card;
 mod entry;
 mod fresh;

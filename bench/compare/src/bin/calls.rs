@@ -17,11 +17,14 @@ const CREATED: usize = 64 * 1024;
 const COUNTED: usize = 20;
 const RUNS: usize = 5;
 
+/// Reads a file from its start on; how many bytes.
+type Read = fn(&[u8], &[u8], &mut [u8]) -> Option<usize>;
+
 /// The calls of one side, straight on the image: no copy and no guard bytes.
 struct Side {
     name: &'static str,
     check: fn(&[u8]) -> bool,
-    read: fn(&[u8], &[u8], &mut [u8]) -> Option<usize>,
+    read: Read,
     create: fn(&mut [u8], &[u8], &[u8]) -> bool,
 }
 

@@ -5,7 +5,8 @@ use std::process::ExitCode;
 use reader::build::{self, random};
 use reader::{list, tree_text, Refusal};
 
-const USAGE: &str = "usage: cardtool check FILE | list FILE | tree FILE | bench OUT | standard OUT | random SEED OUT | samples ROOT";
+const USAGE: &str =
+    "usage: cardtool check FILE | list FILE | tree FILE | bench OUT | standard OUT | random SEED OUT | samples ROOT";
 
 fn main() -> ExitCode {
     let arguments: Vec<String> = std::env::args().skip(1).collect();
