@@ -30,7 +30,7 @@ use Rattle.model.specs.Tree.{Root, Slot, deadSlots, entryPages, slotCount}
 use Rattle.model.specs.View.{View}
 use Rattle.model.proofs.Equality.{and-r, to-T}
 use Rattle.tree.proofs.ChainPages.{directory-pages}
-use Rattle.change.specs.Calls.{CanDelete, CanRemove, CanReplace, deleted, deletedIn, doneWith, gone, onEntry, pickOutcome, placeOf, refusedBy, removed, removedIn, replaced, replacedIn, slotsOf, unlessLive}
+use Rattle.change.specs.Calls.{CanDelete, CanRemove, CanReplace, deleted, deletedIn, doneWith, gone, onEntry, pickOutcome, placeOf, refusedBy, removed, removedIn, replacedEntry, replacedIn, slotsOf, unlessLive}
 use Rattle.change.specs.Changed.{changed}
 use Rattle.change.specs.Deeds.{imageBy, replacedTable, replacedWrites}
 use Rattle.change.specs.Words.{freeList}
@@ -126,12 +126,12 @@ module _ (image : List ℕ) (s : Superblock) (root : Root) (m : Marks) (checked 
   replaced-here time bytes fine = go (placeOf (see s image) (tableOf image s) first page (lastName p)) refl
     where
       go : (z : Place) → placeOf (see s image) (tableOf image s) first page (lastName p) ≡ z
-          → onEntry s image (tableOf image s) (entered (see s image) (tableOf image s) first page (lastName p)) (replaced s image (tableOf image s) at page time bytes) ≡ changed (replace p time bytes) image
+          → onEntry s image (tableOf image s) (entered (see s image) (tableOf image s) first page (lastName p)) (replacedEntry s image (tableOf image s) at page time bytes) ≡ changed (replace p time bytes) image
       go place.Nowhere e =
           rw (arrived-nowhere e) (sym (edit-refused image s root m checked (replace p time bytes) fine refl at first page site 8 (rw (absent-so e))))
       go (place.At k q) e =
           let x = stands k q e in
-          ap (λ a. onEntry s image (tableOf image s) a (replaced s image (tableOf image s) at page time bytes)) (x .arrives)
+          ap (λ a. onEntry s image (tableOf image s) a (replacedEntry s image (tableOf image s) at page time bytes)) (x .arrives)
           ∙ replaced-at time bytes fine k q x (isDirectory (entryOf (x .entry))) refl
 
   deleted-at : static (delete p) ≡ 0 → (k q : ℕ) (x : Stands k q) → (b : Bool) → isDirectory (entryOf (x .entry)) ≡ b

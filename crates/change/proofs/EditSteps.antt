@@ -16,7 +16,7 @@ use Rattle.model.specs.Pages.{alteredPage}
 use Rattle.model.specs.Plan.{firstOf, killed, withLength}
 use Rattle.model.specs.Tree.{times}
 use Rattle.model.specs.View.{topBit}
-use Rattle.change.specs.Calls.{CanReplace, replaced}
+use Rattle.change.specs.Calls.{CanReplace, replacedEntry}
 use Rattle.change.specs.Deeds.{imageBy, keptDirectory, relinked, removedTable, removedWrites, replacedTable, replacedWrites, writesOf}
 use Rattle.change.specs.Image.{Lands}
 use Rattle.change.specs.Pages.{alteredEntry}
@@ -74,11 +74,11 @@ module _ (table list bytes : List ℕ) (free : ℕ) (inside : free ≤ length li
 
 -- ---- judged against what is free
 module _ (s : Superblock) (image table : List ℕ) (at : ℕ) (page time bytes : List ℕ) (slot : ℕ) (entry : List ℕ) where
-  pub replaced-kind : isDirectory (entryOf entry) ≡ true → Says (fault 10 0) image (replaced s image table at page time bytes slot entry)
+  pub replaced-kind : isDirectory (entryOf entry) ≡ true → Says (fault 10 0) image (replacedEntry s image table at page time bytes slot entry)
   replaced-kind d = rw d (refl, refl)
 
   module _ (file : isDirectory (entryOf entry) ≡ false) where
-    pub replaced-full : length (freeList table) < clustersFor (length bytes) → Says (fault 12 0) image (replaced s image table at page time bytes slot entry)
+    pub replaced-full : length (freeList table) < clustersFor (length bytes) → Says (fault 12 0) image (replacedEntry s image table at page time bytes slot entry)
     replaced-full h = rw (file, lt-leb (clustersFor (length bytes)) (length (freeList table)) h) (refl, refl)
 
     module _ (room : clustersFor (length bytes) ≤ length (freeList table)) where
@@ -86,5 +86,5 @@ module _ (s : Superblock) (image table : List ℕ) (at : ℕ) (page time bytes :
       can-land can = can file (le-leb (clustersFor (length bytes)) (length (freeList table)) room)
 
       pub replaced-done : {after : List ℕ} → after ≡ imageBy s image (replacedWrites table page at slot entry time bytes) (replacedTable table entry bytes)
-          → Says (ok tt) after (replaced s image table at page time bytes slot entry)
+          → Says (ok tt) after (replacedEntry s image table at page time bytes slot entry)
       replaced-done e = rw (file, le-leb (clustersFor (length bytes)) (length (freeList table)) room) (refl, e)

@@ -6,7 +6,7 @@ use mathlib.Core.Path.{_≡_}
 use lib.ListN.{length}
 use Rattle.model.specs.Entry.{directoryClusters, entryOf}
 use Rattle.model.specs.Holds.{Chain, HoldsSlots}
-use Rattle.model.specs.Lookup.{found, lookIn, lookUp, pageOf}
+use Rattle.model.specs.Lookup.{found, lookIn, lookUp, pageAtPath}
 use Rattle.model.specs.Names.{Path, lastName, parent}
 use Rattle.model.specs.Refusal.{way}
 use Rattle.model.specs.Tree.{Root, Slot, Tree, entryPages}
@@ -20,7 +20,7 @@ pub record Site (v : View) (table : List ℕ) (root : Root) (p : Path) (at first
   pub below : ℕ
   pub open-way : way (lookUp root) p ≡ 0
   pub found-so : lookUp root (parent p) ≡ found (Slot.directory (entryOf page) chain) slots
-  pub page-so : pageOf root (parent p) ≡ at
+  pub page-so : pageAtPath root (parent p) ≡ at
   pub read : v .page at ≡ some page
   pub two : 2 ≤ (entryOf page) .length
   pub long : length chain ≡ directoryClusters (entryOf page)

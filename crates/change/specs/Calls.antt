@@ -106,8 +106,8 @@ module _ (s : Superblock) (image table : List ℕ) where
   onEntry a rest = onArrival (a .arrival) (rest (a .at) (a .page))
 
   -- 10 where a directory stands there
-  abbrev pub replaced : ℕ → List ℕ → List ℕ → List ℕ → ℕ → List ℕ → Outcome
-  replaced at page time bytes slot entry =
+  abbrev pub replacedEntry : ℕ → List ℕ → List ℕ → List ℕ → ℕ → List ℕ → Outcome
+  replacedEntry at page time bytes slot entry =
       pickOutcome (isDirectory (entryOf entry)) (refusedBy 10 image)
       (pickOutcome (leb (clustersFor (length bytes)) (length (freeList table)))
       (doneWith (imageBy s image (replacedWrites table page at slot entry time bytes) (replacedTable table entry bytes)))
@@ -127,7 +127,7 @@ module _ (s : Superblock) (image table : List ℕ) where
       → Lands (s .end) (removedWrites page at slot entry)
 
   unfoldable pub replacedIn : ℕ → ℕ → List ℕ → Name → List ℕ → List ℕ → Outcome
-  replacedIn at first page name time bytes = onEntry (entered (viewBy (s .offset) table image) table first page name) (replaced at page time bytes)
+  replacedIn at first page name time bytes = onEntry (entered (viewBy (s .offset) table image) table first page name) (replacedEntry at page time bytes)
 
   abbrev pub gone : ℕ → List ℕ → ℕ → List ℕ → ℕ → Outcome
   gone at page slot entry count = doneWith (imageBy s image (removedWrites page at slot entry) (removedTable table entry count))

@@ -31,7 +31,7 @@ ghost use Rattle.lookup.specs.declared.way.Arrival.the-variants.{At};
 ghost use Rattle.model.specs.Check.{ok};
 ghost use Rattle.model.specs.Entry.{clustersFor};
 ghost use Rattle.change.specs.Answers.{toldAnswer};
-ghost use Rattle.change.specs.Calls.{CanDelete, CanRemove, CanReplace, deletedIn, removedIn, replaced, replacedIn};
+ghost use Rattle.change.specs.Calls.{CanDelete, CanRemove, CanReplace, deletedIn, removedIn, replacedEntry, replacedIn};
 ghost use Rattle.change.specs.Deeds.{imageBy, removedTable, removedWrites, replacedTable, replacedWrites};
 ghost use Rattle.change.specs.Image.{Lands};
 ghost use Rattle.change.specs.Words.{freeList};
@@ -96,8 +96,8 @@ fn replace_with(
     bytes: &[u8],
 ) -> Answer
     requires { ⌜ (openCard (now image) ≡ ok s) × (length (now table) ≡ s .end) × CanReplace s (now image) (now table) at (now page) (now time) (now bytes) slot (now entry) ⌝ }
-    ensures answer { λ r. ⌜ toldAnswer r ≡ (replaced s (now (image .entry)) (now (table .entry)) at (now (page .entry)) (now (time .entry)) (now (bytes .entry)) slot (now (entry .entry))) .answer ⌝ }
-    ensures image { λ _. ⌜ now (image .exit) ≡ (replaced s (now (image .entry)) (now (table .entry)) at (now (page .entry)) (now (time .entry)) (now (bytes .entry)) slot (now (entry .entry))) .image ⌝ }
+    ensures answer { λ r. ⌜ toldAnswer r ≡ (replacedEntry s (now (image .entry)) (now (table .entry)) at (now (page .entry)) (now (time .entry)) (now (bytes .entry)) slot (now (entry .entry))) .answer ⌝ }
+    ensures image { λ _. ⌜ now (image .exit) ≡ (replacedEntry s (now (image .entry)) (now (table .entry)) at (now (page .entry)) (now (time .entry)) (now (bytes .entry)) slot (now (entry .entry))) .image ⌝ }
 {
     if is_directory(entry) {
         return Answer::Refused(Refusal::WrongKind);
@@ -134,8 +134,8 @@ fn replace_entry(
     bytes: &[u8],
 ) -> Answer
     requires { ⌜ (openCard (now image) ≡ ok s) × (length (now table) ≡ s .end) × CanReplace s (now image) (now table) at (now page) (now time) (now bytes) slot (now entry) ⌝ }
-    ensures answer { λ r. ⌜ toldAnswer r ≡ (replaced s (now (image .entry)) (now (table .entry)) at (now (page .entry)) (now (time .entry)) (now (bytes .entry)) slot (now (entry .entry))) .answer ⌝ }
-    ensures image { λ _. ⌜ now (image .exit) ≡ (replaced s (now (image .entry)) (now (table .entry)) at (now (page .entry)) (now (time .entry)) (now (bytes .entry)) slot (now (entry .entry))) .image ⌝ }
+    ensures answer { λ r. ⌜ toldAnswer r ≡ (replacedEntry s (now (image .entry)) (now (table .entry)) at (now (page .entry)) (now (time .entry)) (now (bytes .entry)) slot (now (entry .entry))) .answer ⌝ }
+    ensures image { λ _. ⌜ now (image .exit) ≡ (replacedEntry s (now (image .entry)) (now (table .entry)) at (now (page .entry)) (now (time .entry)) (now (bytes .entry)) slot (now (entry .entry))) .image ⌝ }
 {
     let mut list = [0u32; MOST_CLUSTERS];
     replace_with(

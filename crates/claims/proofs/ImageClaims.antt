@@ -28,7 +28,7 @@ use Rattle.model.specs.Tree.{Root}
 use Rattle.model.specs.View.{View}
 use Rattle.tree.specs.Counted.{checkOf, countsIn}
 use Rattle.tree.specs.declared.Counts.{Counts}
-use Rattle.claims.specs.Claims.{Accepts, ChangeKeeps, Commute, Demand3, Kept, Order, RefusalLeaves, after, final}
+use Rattle.claims.specs.Claims.{Accepts, ChangeKeeps, Commute, Demand3, Kept, Order, RefusalLeaves, imageLeft, final}
 use Rattle.claims.specs.Numbers.{MarkedNumbers}
 use Rattle.claims.specs.Seen.{freeIn, freeBy, standingIn, treeIn}
 
@@ -85,7 +85,7 @@ module _ (image : List ℕ) (s : Superblock) (root : Root) (m : Marks) (checked 
 
 -- ---- one change
 module _ (image : List ℕ) (s : Superblock) (root : Root) (m : Marks) (checked : checkImage image ≡ ok (s, root, m)) (c : Change) (d : Done image s root m checked c) where
-  pub left : after c image ≡ d .after
+  pub left : imageLeft c image ≡ d .after
   left = ap (λ (o : change.Outcome). o .image) (d .outcome)
 
   pub told : Accepts image c
@@ -135,7 +135,7 @@ module _ (image : List ℕ) (s : Superblock) (root : Root) (m : Marks) (checked 
       record { one = d; other = answered (d .after) s (d .newRoot) (d .newMarks) (d .again) b second }
 
   module _ (a b : Change) (w : Both a b) where
-    abbrev view-order : model.Order (rulesOf s) (see s image) a b
+    abbrev view-order : model.ViewOrder (rulesOf s) (see s image) a b
     view-order =
         record {
           between = see s (w .one .after);
@@ -145,7 +145,7 @@ module _ (image : List ℕ) (s : Superblock) (root : Root) (m : Marks) (checked 
         }
 
     ends : final image a b ≡ w .other .after
-    ends = ap (after b) (left image s root m checked a (w .one)) ∙ left (w .one .after) s (w .one .newRoot) (w .one .newMarks) (w .one .again) b (w .other)
+    ends = ap (imageLeft b) (left image s root m checked a (w .one)) ∙ left (w .one .after) s (w .one .newRoot) (w .one .newMarks) (w .one .again) b (w .other)
 
     end-tree : (q : Path) → treeIn (final image a b) q ≡ treeOf (see s (w .other .after)) q
     end-tree q = ap (λ i. treeIn i q) ends ∙ tree-is (w .other .after) s (w .other .newRoot) (w .other .newMarks) (w .other .again) q
@@ -156,7 +156,7 @@ module _ (image : List ℕ) (s : Superblock) (root : Root) (m : Marks) (checked 
   same-done : (u w : View) → done u ≡ done w → u ≡ w
   same-done u w e = cc
 
-  image-order : (a b : Change) → model.Order (rulesOf s) (see s image) a b → Order image a b
+  image-order : (a b : Change) → model.ViewOrder (rulesOf s) (see s image) a b → Order image a b
   image-order a b o =
       let d = performs image s root m checked a (o .between) (o .firstDone) in
       let same : o .between ≡ see s (d .after) = same-done _ _ (sym (o .firstDone) ∙ d .performed) in

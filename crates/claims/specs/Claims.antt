@@ -16,8 +16,8 @@ use Rattle.claims.specs.Seen.{freeIn, treeIn}
 -- ---- one change
 
 -- the image that a change leaves, accepted or refused
-abbrev pub after : Change → List ℕ → List ℕ
-after c image = (changed c image) .image
+abbrev pub imageLeft : Change → List ℕ → List ℕ
+imageLeft c image = (changed c image) .image
 
 abbrev pub Accepts : List ℕ → Change → Type 0
 Accepts image c = (changed c image) .answer ≡ ok tt
@@ -25,27 +25,27 @@ Accepts image c = (changed c image) .answer ≡ ok tt
 -- The image is accepted again and has its length; the change's own path is what the rules say, and every other path stays.
 pub record Kept (image : List ℕ) (c : Change) : Type 0 where
   pub counts : Counts
-  pub again : checkOf (after c image) ≡ ok counts
-  pub long : length (after c image) ≡ length image
-  pub paths : (q : Path) → treeIn (after c image) q ≡ cond (samePath q (path c)) (standingAfter c (treeIn image q)) (treeIn image q)
+  pub again : checkOf (imageLeft c image) ≡ ok counts
+  pub long : length (imageLeft c image) ≡ length image
+  pub paths : (q : Path) → treeIn (imageLeft c image) q ≡ cond (samePath q (path c)) (standingAfter c (treeIn image q)) (treeIn image q)
 
 abbrev pub ChangeKeeps : Type 0
 ChangeKeeps = (image : List ℕ) (counts : Counts) → checkOf image ≡ ok counts → (c : Change) → Accepts image c → Kept image c
 
 -- A refusal leaves the image as it was.
 abbrev pub RefusalLeaves : Type 0
-RefusalLeaves = (image : List ℕ) (c : Change) (n p : ℕ) → (changed c image) .answer ≡ fault n p → after c image ≡ image
+RefusalLeaves = (image : List ℕ) (c : Change) (n p : ℕ) → (changed c image) .answer ≡ fault n p → imageLeft c image ≡ image
 
 -- ---- demand 3
 
 -- Two changes in this order, accepted to its end: the second gets the image as the first left it.
 pub record Order (image : List ℕ) (a b : Change) : Type 0 where
   pub first : Accepts image a
-  pub second : Accepts (after a image) b
+  pub second : Accepts (imageLeft a image) b
 
 -- each order on its own copy of the image
 abbrev pub final : List ℕ → Change → Change → List ℕ
-final image a b = after b (after a image)
+final image a b = imageLeft b (imageLeft a image)
 
 pub record Commute (image : List ℕ) (a b : Change) : Type 0 where
   -- where all four calls are accepted both orders end with the same tree

@@ -11,7 +11,7 @@ use Rattle.ecc.specs.declared.Code.{Code}
 use Rattle.ecc.specs.declared.Verdict.the-variants.{DataBit, CodeBit}
 use Rattle.ecc.specs.Code.{_⊕_}
 use Rattle.ecc.specs.Judge.{flipBit, same, codeBit, codeBits}
-use Rattle.ecc.specs.Flip.{Flip, inData, inCode, Counts, flippedData, flippedCode, verdictOf}
+use Rattle.ecc.specs.Flip.{Flip, inData, inCode, Counts, flippedData, flippedCode, flipVerdict}
 use Rattle.ecc.proofs.Codes.{eq→same}
 use Rattle.ecc.proofs.Linear.{pattern}
 use Rattle.ecc.proofs.Syndrome.{syndrome, locate, OnlyCounted, pattern-counted, code-bit-counted, syndrome-data, syndrome-code}
@@ -32,7 +32,7 @@ pub syndrome-flip : (f : Flip) (d : List ℕ) (c : Code) → Counts f → length
 syndrome-flip (inData k) d c h hl = syndrome-data d c k hl h
 syndrome-flip (inCode k) d c h hl = syndrome-code d c k h
 
-pub locate-effect : (f : Flip) → Counts f → locate (effect f) ≡ verdictOf f
+pub locate-effect : (f : Flip) → Counts f → locate (effect f) ≡ flipVerdict f
 locate-effect (inData k) h = locate-pattern k h
 locate-effect (inCode k) h = locate-code k h
 

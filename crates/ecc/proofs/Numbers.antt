@@ -4,7 +4,7 @@ use lib.Count.{onesIn, ones}
 use lib.ListN.{set, replicate}
 use Rattle.ecc.specs.Code.{parity, columnParities, codeOf}
 use Rattle.ecc.specs.Judge.{counted, same}
-use Rattle.ecc.specs.Claims.{zeros, codeBytes, CodeNumbers}
+use Rattle.ecc.specs.Claims.{zeros, codeOfBytes, CodeNumbers}
 use Rattle.ecc.proofs.Syndrome.{syndrome, locate, columnPairs, linePairs, oneBit}
 use Rattle.ecc.proofs.Laws.{judge-is}
 
@@ -15,6 +15,6 @@ code-numbers = record {
   only-byte-0 = refl;
   only-byte-127 = refl;
   only-byte-5 = refl;
-  bytes-0-and-1 = judge-is (set (set zeros 0 0x01) 1 0x01) (codeBytes 0x77 0x7F 0x7F) refl;
-  all-ones = judge-is (replicate 128 0xFF) (codeBytes 0xFF 0xFF 0xFF) refl;
+  bytes-0-and-1 = judge-is (set (set zeros 0 0x01) 1 0x01) (codeOfBytes 0x77 0x7F 0x7F) refl;
+  all-ones = judge-is (replicate 128 0xFF) (codeOfBytes 0xFF 0xFF 0xFF) refl;
 }

@@ -10,7 +10,7 @@ use Rattle.ecc.specs.declared.Code.{Code}
 use Rattle.ecc.specs.declared.Verdict.{Verdict}
 use Rattle.ecc.specs.Code.{_⊕_}
 use Rattle.ecc.specs.Judge.{flipAt, flipBit, judge, corrected}
-use Rattle.ecc.specs.Flip.{Flip, inData, inCode, Counts, flippedData, flippedCode, verdictOf}
+use Rattle.ecc.specs.Flip.{Flip, inData, inCode, Counts, flippedData, flippedCode, flipVerdict}
 use Rattle.ecc.specs.Claims.{RightlyCoded, OneFlipFound, OneFlipUnique}
 use Rattle.ecc.proofs.Xor.{xor-assoc}
 use Rattle.ecc.proofs.Codes.{⊕-comm, ⊕-none, ⊕-zero→}
@@ -27,7 +27,7 @@ syndrome-one d c f right hf =
     ⊕-none-left : (p : Code) → record { byte0 = 0; byte1 = 0; byte2 = 0 } ⊕ p ≡ p
     ⊕-none-left p = ⊕-comm _ p ∙ ⊕-none p
 
-told : (d : List ℕ) (c : Code) (f : Flip) → RightlyCoded d c → Counts f → judge (flippedData f d) (flippedCode f c) ≡ verdictOf f
+told : (d : List ℕ) (c : Code) (f : Flip) → RightlyCoded d c → Counts f → judge (flippedData f d) (flippedCode f c) ≡ flipVerdict f
 told d c f right hf =
     judge-is (flippedData f d) (flippedCode f c) (length-flip f d ∙ right .size) ∙ ap locate (syndrome-one d c f right hf) ∙ locate-effect f hf
 
@@ -40,7 +40,7 @@ flip-twice d i j h =
     (ap (λ (z : ℕ). bitXor z (2 ^ j)) (getD-set-same d i y 0 h) ∙ xor-assoc x (2 ^ j) (2 ^ j) ∙ ap (bitXor x) (xor-self (2 ^ j)) ∙ xor-zero-r x)
     ∙ set-getD d i 0
 
-back : (d : List ℕ) (f : Flip) → length d ≡ 128 → Counts f → corrected (verdictOf f) (flippedData f d) ≡ d
+back : (d : List ℕ) (f : Flip) → length d ≡ 128 → Counts f → corrected (flipVerdict f) (flippedData f d) ≡ d
 unfolding flipBit
 back d (inData k) hl hf = flip-twice d (k / 8) (k % 8) (omega arith)
 back d (inCode k) hl hf = refl

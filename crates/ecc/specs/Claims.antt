@@ -8,7 +8,7 @@ use Rattle.ecc.specs.declared.Code.{Code}
 use Rattle.ecc.specs.declared.Verdict.the-variants.{Good, Unreadable}
 use Rattle.ecc.specs.Code.{codeOf}
 use Rattle.ecc.specs.Judge.{counted, matches, judge, corrected}
-use Rattle.ecc.specs.Flip.{Flip, Counts, flippedData, flippedCode, verdictOf}
+use Rattle.ecc.specs.Flip.{Flip, Counts, flippedData, flippedCode, flipVerdict}
 
 -- A chunk of 128 bytes beside a stored code whose 20 bits match; the ignored bits may be anything.
 pub record RightlyCoded (chunk : List ℕ) (stored : Code) : Type 0 where
@@ -22,13 +22,13 @@ IgnoredBitsZero = (chunk : List ℕ) → length chunk ≤ 128 → counted (codeO
 -- ---- one flipped bit
 
 -- The verdict tells the flip, and the corrected data are those before it.
-pub record Found (chunk : List ℕ) (stored : Code) (flip : Flip) : Type 0 where
-  pub told : judge (flippedData flip chunk) (flippedCode flip stored) ≡ verdictOf flip
+pub record FlipFound (chunk : List ℕ) (stored : Code) (flip : Flip) : Type 0 where
+  pub told : judge (flippedData flip chunk) (flippedCode flip stored) ≡ flipVerdict flip
   pub restored : corrected (judge (flippedData flip chunk) (flippedCode flip stored)) (flippedData flip chunk) ≡ chunk
 
 -- One flipped bit of a rightly coded chunk, in the data or in the code, is found and put right.
 abbrev pub OneFlipFound : Type 0
-OneFlipFound = (chunk : List ℕ) (stored : Code) (flip : Flip) → RightlyCoded chunk stored → Counts flip → Found chunk stored flip
+OneFlipFound = (chunk : List ℕ) (stored : Code) (flip : Flip) → RightlyCoded chunk stored → Counts flip → FlipFound chunk stored flip
 
 -- Of all 1,044 single flips of any chunk and stored code at most one makes the code match.
 abbrev pub OneFlipUnique : Type 0
@@ -46,16 +46,16 @@ TwoFlipsUnreadable =
 
 -- ---- the numbers to meet (01, "Numbers to meet", marked P)
 
-abbrev pub codeBytes : ℕ → ℕ → ℕ → Code
-codeBytes x y z = record { byte0 = x; byte1 = y; byte2 = z }
+abbrev pub codeOfBytes : ℕ → ℕ → ℕ → Code
+codeOfBytes x y z = record { byte0 = x; byte1 = y; byte2 = z }
 
 abbrev pub zeros : List ℕ
 zeros = replicate 128 0x00
 
 pub record CodeNumbers : Type 0 where
-  pub zero-chunk : codeOf zeros ≡ codeBytes 0x77 0x7F 0x7F
-  pub only-byte-0 : codeOf (set zeros 0 0x01) ≡ codeBytes 0x70 0x00 0x7F
-  pub only-byte-127 : codeOf (set zeros 127 0x80) ≡ codeBytes 0x07 0x7F 0x00
-  pub only-byte-5 : codeOf (set zeros 5 0x10) ≡ codeBytes 0x34 0x05 0x7A
-  pub bytes-0-and-1 : judge (set (set zeros 0 0x01) 1 0x01) (codeBytes 0x77 0x7F 0x7F) ≡ Unreadable
-  pub all-ones : judge (replicate 128 0xFF) (codeBytes 0xFF 0xFF 0xFF) ≡ Good
+  pub zero-chunk : codeOf zeros ≡ codeOfBytes 0x77 0x7F 0x7F
+  pub only-byte-0 : codeOf (set zeros 0 0x01) ≡ codeOfBytes 0x70 0x00 0x7F
+  pub only-byte-127 : codeOf (set zeros 127 0x80) ≡ codeOfBytes 0x07 0x7F 0x00
+  pub only-byte-5 : codeOf (set zeros 5 0x10) ≡ codeOfBytes 0x34 0x05 0x7A
+  pub bytes-0-and-1 : judge (set (set zeros 0 0x01) 1 0x01) (codeOfBytes 0x77 0x7F 0x7F) ≡ Unreadable
+  pub all-ones : judge (replicate 128 0xFF) (codeOfBytes 0xFF 0xFF 0xFF) ≡ Good

@@ -28,6 +28,6 @@ flippedCode (inData k) stored = stored
 flippedCode (inCode k) stored = stored ⊕ codeBit k
 
 -- The verdict that tells the flip.
-abbrev pub verdictOf : Flip → Verdict
-verdictOf (inData k) = DataBit (k / 8) (k % 8)
-verdictOf (inCode k) = CodeBit
+abbrev pub flipVerdict : Flip → Verdict
+flipVerdict (inData k) = DataBit (k / 8) (k % 8)
+flipVerdict (inCode k) = CodeBit

@@ -17,7 +17,7 @@ use Rattle.model.proofs.Frame.{hit-self}
 use Rattle.model.proofs.PlanFits.{length-pages}
 use Rattle.layout.specs.declared.Superblock.{Superblock}
 use Rattle.layout.specs.Superblock.{leastClusters, clustersIn, goodLength, goodText, goodVersion, fixedNumbers, goodNumbers, goodSuperblock, superblockOf}
-use Rattle.layout.specs.Table.{unless, withPage, inRange, goodNames, tableClusters, openTable, openCard, dataOf, namesOf, tablePage}
+use Rattle.layout.specs.Table.{unless, withPage, inRange, goodTableNames, tableClusters, openTable, openCard, dataOf, namesOf, tablePage}
 use Rattle.layout.proofs.Names.{Named, name-good, name-once}
 use Rattle.layout.proofs.Stages.{Readable, unless-ok, page-ok, pages-ok, pages-pass, same-ok}
 use Rattle.layout.proofs.TablePages.{getD-pages}
@@ -28,7 +28,7 @@ pub record GoodTable (image : List ℕ) (s : Superblock) : Type 0 where
   pub indirect-good : inRange (s .offset) (s .indirect) ≡ true
   pub first-read : Readable image (2 * s .indirect)
   pub second-read : Readable image (2 * s .indirect + 1)
-  pub names-good : goodNames (s .offset) (s .indirect ∷ []) (namesOf image s) ≡ true
+  pub names-good : goodTableNames (s .offset) (s .indirect ∷ []) (namesOf image s) ≡ true
   pub table-read : (t : ℕ) → t < 2 * tableClusters (s .end) → Readable image (tablePage (namesOf image s) t)
 
 pub record GoodCard (image : List ℕ) (s : Superblock) : Type 0 where
@@ -48,7 +48,7 @@ table-good image s a e =
     let name = unless-ok (inRange (s .offset) (s .indirect)) 5 _ a e in
     let first = page-ok (2 * s .indirect) (pageAt image (2 * s .indirect)) _ a (name .1) in
     let second = page-ok (2 * s .indirect + 1) (pageAt image (2 * s .indirect + 1)) _ a (first .1) in
-    let names = unless-ok (goodNames (s .offset) (s .indirect ∷ []) (namesOf image s)) 5 _ a (second .1) in
+    let names = unless-ok (goodTableNames (s .offset) (s .indirect ∷ []) (namesOf image s)) 5 _ a (second .1) in
     let pages = pages-ok image (pagesOf (namesOf image s)) (ok s) a (names .1) in (
       same-ok s a (pages .0),
       record {

@@ -12,7 +12,7 @@ use Rattle.model.specs.Tree.{hit, times}
 use Rattle.model.proofs.Equality.{and-l, and-r}
 use Rattle.model.proofs.Allocation.{times-append}
 use Rattle.model.proofs.Frame.{hit-self, hit-0}
-use Rattle.layout.specs.Table.{upTo, inRange, goodNames}
+use Rattle.layout.specs.Table.{upTo, inRange, goodTableNames}
 use Rattle.layout.proofs.UpTo.{length-upTo, drop-upTo}
 
 times-next : (f : ℕ → ℕ) (n x : ℕ) → times (upTo f (suc n)) x ≡ times (upTo f n) x + hit (f n) x
@@ -58,7 +58,7 @@ module _ (f : ℕ → ℕ) (indirect : ℕ) where
 
   module _ (offset k : ℕ) where
     abbrev pub goodFrom : ℕ → Bool
-    goodFrom i = goodNames offset (seen i) (drop i (upTo f k))
+    goodFrom i = goodTableNames offset (seen i) (drop i (upTo f k))
 
     abbrev pub goodAt : ℕ → Bool
     goodAt i = inRange offset (f i) && isNew f indirect (f i) i
@@ -87,23 +87,23 @@ named offset n before e =
       eqb-true (times before n) 0 (and-r (inRange offset n) (eqb (times before n) 0) e),
     )
 
-rest : (offset n : ℕ) (before ns : List ℕ) → goodNames offset before (n ∷ ns) ≡ true → goodNames offset (n ∷ before) ns ≡ true
-rest offset n before ns e = and-r (inRange offset n && eqb (times before n) 0) (goodNames offset (n ∷ before) ns) e
+rest : (offset n : ℕ) (before ns : List ℕ) → goodTableNames offset before (n ∷ ns) ≡ true → goodTableNames offset (n ∷ before) ns ≡ true
+rest offset n before ns e = and-r (inRange offset n && eqb (times before n) 0) (goodTableNames offset (n ∷ before) ns) e
 
-pub name-good : (offset : ℕ) (before ns : List ℕ) → goodNames offset before ns ≡ true → (i : ℕ) → i < length ns → Named offset before (getD ns i 0)
+pub name-good : (offset : ℕ) (before ns : List ℕ) → goodTableNames offset before ns ≡ true → (i : ℕ) → i < length ns → Named offset before (getD ns i 0)
 name-good offset before [] e i h = absurd (omega arith)
-name-good offset before (n ∷ ns) e zero h = named offset n before (and-l _ (goodNames offset (n ∷ before) ns) e)
+name-good offset before (n ∷ ns) e zero h = named offset n before (and-l _ (goodTableNames offset (n ∷ before) ns) e)
 name-good offset before (n ∷ ns) e (suc i) h =
     let z = name-good offset (n ∷ before) ns (rest offset n before ns e) i (omega arith) in
     (z .0, z .1, omega (arith, z .2))
 
-later : (offset n : ℕ) (before ns : List ℕ) → goodNames offset before (n ∷ ns) ≡ true → (j : ℕ) → j < length ns → n ≡ getD ns j 0 → ⊥
+later : (offset n : ℕ) (before ns : List ℕ) → goodTableNames offset before (n ∷ ns) ≡ true → (j : ℕ) → j < length ns → n ≡ getD ns j 0 → ⊥
 later offset n before ns e j h q =
     let z = name-good offset (n ∷ before) ns (rest offset n before ns e) j h in
     let y : times (n ∷ before) n ≡ 0 = rw (← q) at (z .2) in
     omega (arith, hit-self n)
 
-pub name-once : (offset : ℕ) (before ns : List ℕ) → goodNames offset before ns ≡ true → (i j : ℕ) → i < length ns → j < length ns
+pub name-once : (offset : ℕ) (before ns : List ℕ) → goodTableNames offset before ns ≡ true → (i j : ℕ) → i < length ns → j < length ns
     → getD ns i 0 ≡ getD ns j 0 → i ≡ j
 name-once offset before [] e i j h k q = absurd (omega arith)
 name-once offset before (n ∷ ns) e zero zero h k q = refl

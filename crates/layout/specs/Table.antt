@@ -34,9 +34,9 @@ tableNames indirect k = upTo (λ i. word indirect (4 * i)) k
 abbrev pub inRange : ℕ → ℕ → Bool
 inRange offset name = leb 1 name && ltb name offset
 
-abbrev pub goodNames : ℕ → List ℕ → List ℕ → Bool
-goodNames offset seen [] = true
-goodNames offset seen (n ∷ ns) = (inRange offset n && eqb (times seen n) 0) && goodNames offset (n ∷ seen) ns
+abbrev pub goodTableNames : ℕ → List ℕ → List ℕ → Bool
+goodTableNames offset seen [] = true
+goodTableNames offset seen (n ∷ ns) = (inRange offset n && eqb (times seen n) 0) && goodTableNames offset (n ∷ seen) ns
 
 -- ---- the check up to the table
 
@@ -64,7 +64,7 @@ openTable image s =
     unless (inRange (s .offset) (s .indirect)) 5
     (needPage image (2 * s .indirect) (λ first.
     needPage image (2 * s .indirect + 1) (λ second.
-    unless (goodNames (s .offset) (s .indirect ∷ []) (tableNames (first ++ second) (tableClusters (s .end)))) 5
+    unless (goodTableNames (s .offset) (s .indirect ∷ []) (tableNames (first ++ second) (tableClusters (s .end)))) 5
     (needPages image (pagesOf (tableNames (first ++ second) (tableClusters (s .end)))) (ok s)))))
 
 -- Length, page 0, format text, the other superblock rules, the table.
@@ -77,9 +77,9 @@ openCard image =
     (openTable image (superblockOf page)))))
 
 -- what the answer of a call says
-abbrev pub told : Opened → Result Superblock
-told (opened.Card s) = ok s
-told (opened.Refused r) = fault (numberOf r) (pageOf r)
+abbrev pub toldOpened : Opened → Result Superblock
+toldOpened (opened.Card s) = ok s
+toldOpened (opened.Refused r) = fault (numberOf r) (pageOf r)
 
 -- ---- the table's words
 

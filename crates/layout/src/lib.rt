@@ -11,7 +11,7 @@ use page0::superblock_of;
 use table::judge_table;
 use table::load_table;
 ghost use mathlib.Core.Path.{_≡_};
-ghost use Rattle.layout.specs.Table.{openCard, told, tableAfter};
+ghost use Rattle.layout.specs.Table.{openCard, toldOpened, tableAfter};
 
 // Why a call is refused: a case for each row of the paper's table.
 pub enum Refusal {
@@ -50,7 +50,7 @@ pub enum Opened {
 
 // The check up to the table: length, page 0, format text, the other superblock rules, the table.
 fn judge_card(image: &[u8]) -> Opened
-    ensures { λ r. ⌜ told r ≡ openCard (now (image .entry)) ⌝ }
+    ensures { λ r. ⌜ toldOpened r ≡ openCard (now (image .entry)) ⌝ }
 {
     if !good_length(image.len()) {
         return Opened::Refused(Refusal::BadLength);
@@ -70,7 +70,7 @@ fn judge_card(image: &[u8]) -> Opened
 
 // Checks the card up to its table, and loads the table's words. A refusal leaves the lent table as it was.
 pub fn open_card(image: &[u8], table: &mut [u32; MOST_CLUSTERS]) -> Opened
-    ensures opened { λ r. ⌜ told r ≡ openCard (now (image .entry)) ⌝ }
+    ensures opened { λ r. ⌜ toldOpened r ≡ openCard (now (image .entry)) ⌝ }
     ensures loaded { λ _. ⌜ now (table .exit) ≡ tableAfter (now (image .entry)) (openCard (now (image .entry))) (now (table .entry)) ⌝ }
 {
     let opened = judge_card(image);

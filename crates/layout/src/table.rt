@@ -16,7 +16,7 @@ ghost use Rattle.model.specs.Bytes.{word};
 ghost use Rattle.model.specs.Check.{ok};
 ghost use Rattle.model.specs.Tree.{times};
 ghost use Rattle.model.specs.View.{mostClusters, pagesOf};
-ghost use Rattle.layout.specs.Table.{upTo, tableClusters, tableNames, inRange, goodNames, needPages, openTable, openCard, told, tablePage, tableWord, tableOf};
+ghost use Rattle.layout.specs.Table.{upTo, tableClusters, tableNames, inRange, goodTableNames, needPages, openTable, openCard, toldOpened, tablePage, tableWord, tableOf};
 
 fn in_range(offset: u32, name: u32) -> bool
     ensures { λ r. ⌜ r ≡ inRange offset name ⌝ }
@@ -69,7 +69,7 @@ fn good_names(
     count: usize,
 ) -> bool
     requires { ⌜ count ≤ 256 ⌝ }
-    ensures { λ r. ⌜ r ≡ goodNames offset (indirect ∷ []) (tableNames (now (first .entry) ++ now (second .entry)) count) ⌝ }
+    ensures { λ r. ⌜ r ≡ goodTableNames offset (indirect ∷ []) (tableNames (now (first .entry) ++ now (second .entry)) count) ⌝ }
 {
     let mut i = 0;
     while i < count {
@@ -102,7 +102,7 @@ fn judge_pages(
     s: Superblock,
 ) -> Opened
     requires { ⌜ count ≤ 256 ⌝ }
-    ensures { λ r. ⌜ told r ≡ needPages (now (image .entry)) (pagesOf (tableNames (now (first .entry) ++ now (second .entry)) count)) (ok s) ⌝ }
+    ensures { λ r. ⌜ toldOpened r ≡ needPages (now (image .entry)) (pagesOf (tableNames (now (first .entry) ++ now (second .entry)) count)) (ok s) ⌝ }
 {
     let mut page = [0u8; 512];
     let mut t = 0;
@@ -119,7 +119,7 @@ fn judge_pages(
 // The check of the table. Its clusters' names are in the indirect cluster, whose own name is judged first.
 pub(crate) fn judge_table(image: &[u8], s: Superblock) -> Opened
     requires { ⌜ s .end ≤ mostClusters ⌝ }
-    ensures { λ r. ⌜ told r ≡ openTable (now (image .entry)) s ⌝ }
+    ensures { λ r. ⌜ toldOpened r ≡ openTable (now (image .entry)) s ⌝ }
 {
     let offset = s.offset;
     let indirect = s.indirect;

@@ -12,7 +12,7 @@ use Rattle.model.specs.Bytes.{slice}
 use Rattle.model.specs.Entry.{Entry, entryOf, isDirectory, isLive}
 use Rattle.tree.specs.Slots.{nextOf, slotPages}
 use Rattle.listing.specs.declared.path.Path.{Path}
-use Rattle.listing.specs.Paths.{nameRoom, pathOf}
+use Rattle.listing.specs.Paths.{nameRoom, pathBytes}
 use Rattle.listing.specs.Render.{Leads, Texts, insideAt, lineAt}
 use Rattle.listing.specs.Text.{directoryLetter, entryLine, fileLetter, within}
 
@@ -41,11 +41,11 @@ unfolding slotPages
 no-slots table start = refl
 
 pub leads-nowhere : (table : List ℕ) (o : Option Entry) (at start : ℕ) (path : Path) → false ≡ lives o
-    → Leads table (pathOf path) o (path .len) (record { at = at; path = path; start = start; count = 0 })
+    → Leads table (pathBytes path) o (path .len) (record { at = at; path = path; start = start; count = 0 })
 leads-nowhere table o at start path quiet =
     record {
       short = omega arith;
-      inside = λ deeper empty. rw (no-slots table start) (empty (pathOf path) ∙ no-inside (pathOf path) o quiet table deeper);
+      inside = λ deeper empty. rw (no-slots table start) (empty (pathBytes path) ∙ no-inside (pathBytes path) o quiet table deeper);
     }
 
 -- ---- a live entry
@@ -55,11 +55,11 @@ pub record Seen (path : List ℕ) (len : ℕ) (o : Option Entry) (e : Entry) (si
   pub shown : o ≡ some e
   pub live : true ≡ isLive e
   pub length-is : size ≡ e .length
-  pub path-is : pathOf own ≡ within path (e .name)
+  pub path-is : pathBytes own ≡ within path (e .name)
   pub longer : own .len ≤ len + nameRoom
 
 pub seen-by : (path : List ℕ) (len : ℕ) (o : Option Entry) (page name : List ℕ) (size : ℕ) (own : Path) → o ≡ some (entryOf page) → true ≡ isLive (entryOf page)
-    → size ≡ (entryOf page) .length → name ≡ (entryOf page) .name → (pathOf own ≡ within path name) × (own .len ≡ len + length name + 1)
+    → size ≡ (entryOf page) .length → name ≡ (entryOf page) .name → (pathBytes own ≡ within path name) × (own .len ≡ len + length name + 1)
     → Seen path len o (entryOf page) size own
 seen-by path len o page name size own shown live long named grown =
     record {
@@ -71,17 +71,17 @@ seen-by path len o page name size own shown live long named grown =
     }
 
 module _ {path : List ℕ} {len : ℕ} {o : Option Entry} {e : Entry} {size : ℕ} {own : Path} (seen : Seen path len o e size own) where
-  pub file-line : false ≡ isDirectory e → entryLine fileLetter size (pathOf own) ≡ lineAt path o
+  pub file-line : false ≡ isDirectory e → entryLine fileLetter size (pathBytes own) ≡ lineAt path o
   file-line kind = rw (seen .shown, ← kind, ← seen .live, seen .length-is, seen .path-is)
 
-  pub directory-line : true ≡ isDirectory e → entryLine directoryLetter size (pathOf own) ≡ lineAt path o
+  pub directory-line : true ≡ isDirectory e → entryLine directoryLetter size (pathBytes own) ≡ lineAt path o
   directory-line kind = rw (seen .shown, ← kind, ← seen .live, seen .length-is, seen .path-is)
 
   pub file-leads : (table : List ℕ) (at start : ℕ) → false ≡ isDirectory e → Leads table path o len (record { at = at; path = own; start = start; count = 0 })
   file-leads table at start kind =
       record {
         short = seen .longer;
-        inside = λ deeper empty. rw (no-slots table start, seen .shown, ← kind) (empty (pathOf own));
+        inside = λ deeper empty. rw (no-slots table start, seen .shown, ← kind) (empty (pathBytes own));
       }
 
   pub directory-leads : (table : List ℕ) (at first start count : ℕ) → true ≡ isDirectory e → first ≡ e .firstCluster → start ≡ nextOf table first → count ≡ size - 2

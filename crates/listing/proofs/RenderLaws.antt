@@ -6,10 +6,10 @@ use native.Mathlib.Numerals.{add-one, sub-one}
 use native.Mathlib.Omega.{arith}
 use lib.ListN.{length}
 use Rattle.model.specs.View.{View}
-use Rattle.tree.specs.Slots.{slotPage, slotPages, stepOf}
+use Rattle.tree.specs.Slots.{slotPage, slotPages, clusterAfter}
 use Rattle.listing.specs.declared.entries.Listed.{Listed}
 use Rattle.listing.specs.Emit.{Wrote, most}
-use Rattle.listing.specs.Paths.{pathOf}
+use Rattle.listing.specs.Paths.{pathBytes}
 use Rattle.listing.specs.Render.{Leads, insideAt, joined, lineAt, slotsText}
 use Rattle.listing.proofs.EmitLaws.{wrote-append, wrote-as}
 
@@ -51,7 +51,7 @@ module _ (v : View) (t : List ℕ) where
     unfolding slotPages
     left-none c k n h = let z : n - k ≡ 0 = omega arith in rw z (slots-none below path)
 
-    module _ (c k n page x : ℕ) (more : k < n) (here : page ≡ slotPage c k) (step : x ≡ stepOf t c k) where
+    module _ (c k n page x : ℕ) (more : k < n) (here : page ≡ slotPage c k) (step : x ≡ clusterAfter t c k) where
       first-slot : slotPages t c k (n - k) ≡ page ∷ slotPages t x (k + 1) (n - (k + 1))
       unfolding slotPages
       first-slot = let z : n - k ≡ suc (n - (k + 1)) = omega arith in rw (z, here, step, add-one k)
@@ -64,7 +64,7 @@ module _ (v : View) (t : List ℕ) where
             remains last stop (wrote-as (sym (ap (slotsText v t below path) first-slot ∙ slots-flat below path page _ flat)) (wrote-append fits line w))
 
         pub turn-deep : {len : ℕ} {own : Listed} {later : List ℕ} {beyond : ℕ} → 0 < below → Leads t path (v .entry page) len own
-            → Wrote after end (slotsText v t (below - 1) (pathOf (own .path)) (slotPages t (own .start) 0 (own .count))) later beyond
+            → Wrote after end (slotsText v t (below - 1) (pathBytes (own .path)) (slotPages t (own .start) 0 (own .count))) later beyond
             → Remains before at whole later beyond (left x (k + 1) n)
         turn-deep deep leads inside last stop w =
             remains last stop

@@ -13,5 +13,5 @@ nameRoom = 33
 abbrev pub pathRoom : ℕ
 pathRoom = nameRoom * suc deepest
 
-abbrev pub pathOf : Path → List ℕ
-pathOf path = take (path .len) (path .bytes)
+abbrev pub pathBytes : Path → List ℕ
+pathBytes path = take (path .len) (path .bytes)

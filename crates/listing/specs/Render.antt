@@ -8,7 +8,7 @@ use Rattle.model.specs.Entry.{Entry, isDirectory, isLive}
 use Rattle.model.specs.View.{View}
 use Rattle.tree.specs.Slots.{nextOf, slotPages}
 use Rattle.listing.specs.declared.entries.Listed.{Listed}
-use Rattle.listing.specs.Paths.{nameRoom, pathOf}
+use Rattle.listing.specs.Paths.{nameRoom, pathBytes}
 use Rattle.listing.specs.Text.{directoryLetter, entryLine, fileLetter, within}
 
 -- the line of the entry in a page; an unreadable page and a dead entry have none
@@ -42,4 +42,4 @@ slotsText v table (suc below) path pages =
 pub record Leads (table path : List ℕ) (o : Option Entry) (len : ℕ) (listed : Listed) : Type 0 where
   pub short : listed .path .len ≤ len + nameRoom
   pub inside : (deeper : Texts) → ((q : List ℕ) → deeper q [] ≡ [])
-      → deeper (pathOf (listed .path)) (slotPages table (listed .start) 0 (listed .count)) ≡ insideAt table deeper path o
+      → deeper (pathBytes (listed .path)) (slotPages table (listed .start) 0 (listed .count)) ≡ insideAt table deeper path o

@@ -19,7 +19,7 @@ ghost use Rattle.model.specs.Holds.{HoldsCard};
 ghost use Rattle.model.specs.Tree.{Root};
 ghost use Rattle.tree.specs.Slots.{slotPages};
 ghost use Rattle.listing.specs.Emit.{Wrote};
-ghost use Rattle.listing.specs.Paths.{nameRoom, pathOf, pathRoom};
+ghost use Rattle.listing.specs.Paths.{nameRoom, pathBytes, pathRoom};
 ghost use Rattle.listing.specs.Render.{Leads, lineAt, slotsText};
 ghost use Rattle.listing.specs.Text.{treeText};
 
@@ -42,8 +42,8 @@ fn list_entry(
     page: usize,
 ) -> Listed
     requires { ⌜ (page < 8589934592) × (path .len + nameRoom ≤ pathRoom) ⌝ }
-    ensures line { λ r. ⌜ Wrote (now (out .entry)) at (lineAt (pathOf path) ((viewBy offset (now (table .entry)) (now (image .entry))) .entry page)) (now (out .exit)) (r .at) ⌝ }
-    ensures leads { λ r. ⌜ Leads (now (table .entry)) (pathOf path) ((viewBy offset (now (table .entry)) (now (image .entry))) .entry page) (path .len) r ⌝ }
+    ensures line { λ r. ⌜ Wrote (now (out .entry)) at (lineAt (pathBytes path) ((viewBy offset (now (table .entry)) (now (image .entry))) .entry page)) (now (out .exit)) (r .at) ⌝ }
+    ensures leads { λ r. ⌜ Leads (now (table .entry)) (pathBytes path) ((viewBy offset (now (table .entry)) (now (image .entry))) .entry page) (path .len) r ⌝ }
 {
     let mut d = [0u8; 512];
     if !read_slot(image, offset, table.len(), page, &mut d) {
@@ -93,7 +93,7 @@ fn list_slots(
     below: u32,
 ) -> usize
     requires { ⌜ path .len + nameRoom * (below + 1) ≤ pathRoom ⌝ }
-    ensures { λ r. ⌜ Wrote (now (out .entry)) at (slotsText (viewBy offset (now (table .entry)) (now (image .entry))) (now (table .entry)) below (pathOf path) (slotPages (now (table .entry)) start 0 count)) (now (out .exit)) r ⌝ }
+    ensures { λ r. ⌜ Wrote (now (out .entry)) at (slotsText (viewBy offset (now (table .entry)) (now (image .entry))) (now (table .entry)) below (pathBytes path) (slotPages (now (table .entry)) start 0 count)) (now (out .exit)) r ⌝ }
 {
     let mut next = at;
     let mut c = start;

@@ -10,7 +10,7 @@ ghost use mathlib.Core.Path.{_≡_};
 ghost use Prim.Native.Nat.{_≤_};
 ghost use Rattle.layout.specs.Refusal.{numberOf, pageOf};
 ghost use Rattle.listing.specs.Emit.{Wrote};
-ghost use Rattle.listing.specs.Paths.{pathOf, pathRoom};
+ghost use Rattle.listing.specs.Paths.{pathBytes, pathRoom};
 ghost use Rattle.listing.specs.Text.{countLine, countsText, entryLine, pageText, refusalText};
 
 // A word and a number.
@@ -35,7 +35,7 @@ pub(crate) fn put_counts(out: &mut [u8], at: usize, counts: Counts) -> usize
 // A letter, the length and the path of an entry.
 pub(crate) fn put_entry(out: &mut [u8], at: usize, letter: u8, length: u32, path: Path) -> usize
     requires { ⌜ path .len ≤ pathRoom ⌝ }
-    ensures { λ r. ⌜ Wrote (now (out .entry)) at (entryLine letter length (pathOf path)) (now (out .exit)) r ⌝ }
+    ensures { λ r. ⌜ Wrote (now (out .entry)) at (entryLine letter length (pathBytes path)) (now (out .exit)) r ⌝ }
 {
     let a = put_byte(out, at, letter);
     let b = put_byte(out, a, b' ');

@@ -7,7 +7,7 @@ ghost use mathlib.Core.List.{[]};
 ghost use Prim.Native.Nat.{_+_, _≤_};
 ghost use lib.ListN.{length};
 ghost use Rattle.listing.specs.Emit.{Wrote};
-ghost use Rattle.listing.specs.Paths.{pathOf, pathRoom};
+ghost use Rattle.listing.specs.Paths.{pathBytes, pathRoom};
 ghost use Rattle.listing.specs.Text.{within};
 
 // The most bytes of a name with the `/` before it, and of a whole path.
@@ -22,7 +22,7 @@ pub(crate) struct Path {
 
 // The root's path as the beginning of every other: no bytes.
 pub(crate) fn root_path() -> Path
-    ensures { λ r. ⌜ (pathOf r ≡ []) × (r .len ≡ 0) ⌝ }
+    ensures { λ r. ⌜ (pathBytes r ≡ []) × (r .len ≡ 0) ⌝ }
 {
     Path {
         bytes: [0u8; PATH_ROOM],
@@ -33,7 +33,7 @@ pub(crate) fn root_path() -> Path
 // One name further.
 pub(crate) fn with_name(path: Path, name: &[u8]) -> Path
     requires { ⌜ path .len + length (now name) + 1 ≤ pathRoom ⌝ }
-    ensures { λ r. ⌜ (pathOf r ≡ within (pathOf path) (now (name .entry))) × (r .len ≡ path .len + length (now (name .entry)) + 1) ⌝ }
+    ensures { λ r. ⌜ (pathBytes r ≡ within (pathBytes path) (now (name .entry))) × (r .len ≡ path .len + length (now (name .entry)) + 1) ⌝ }
 {
     let mut bytes = path.bytes;
     let at = put_byte(&mut bytes, path.len, b'/');
@@ -47,7 +47,7 @@ pub(crate) fn with_name(path: Path, name: &[u8]) -> Path
 // The path's bytes into a buffer.
 pub(crate) fn put_path(out: &mut [u8], at: usize, path: Path) -> usize
     requires { ⌜ path .len ≤ pathRoom ⌝ }
-    ensures { λ r. ⌜ Wrote (now (out .entry)) at (pathOf path) (now (out .exit)) r ⌝ }
+    ensures { λ r. ⌜ Wrote (now (out .entry)) at (pathBytes path) (now (out .exit)) r ⌝ }
 {
     let bytes = path.bytes;
     let len = path.len;

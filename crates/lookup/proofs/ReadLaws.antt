@@ -21,8 +21,8 @@ use Rattle.model.specs.Tree.{Slot, Tree}
 use Rattle.model.specs.View.{Link, View, pagesOf}
 use Rattle.reached.specs.Table.{firstLinkOf, tableLinks}
 use Rattle.lookup.specs.Answers.{TellsRead}
-use Rattle.lookup.specs.Descend.{Stands, joined, pagesFor, scan, unread}
-use Rattle.lookup.specs.Read.{bytesFrom, bytesToCopy, dataOf, pagesWith, readFrom}
+use Rattle.lookup.specs.Descend.{Stands, dataAlong, pagesFor, scan, unread}
+use Rattle.lookup.specs.Read.{bytesFrom, bytesToCopy, dataOfPages, pagesWith, readFrom}
 use Rattle.tree.specs.Slots.{clusterAt, slotPages}
 use Rattle.lookup.specs.declared.along.Place.the-variants as place
 use Rattle.lookup.specs.declared.reading.ReadOutcome.the-variants as reading
@@ -114,23 +114,23 @@ module _ (v : View) (t : List ℕ) (links : (c : ℕ) → v .link c ≡ tableLin
         go (Slot.directory d cs) x = tf (x .1) f
 
     pub read-none : toCopy ≡ 0 → readFrom from room h s ≡ ok []
-    unfolding pagesWith dataOf andThen
+    unfolding pagesWith dataOfPages andThen
     read-none z = let y = within in y .1 ∙ rw z
 
-    through : 0 < toCopy → readFrom from room h s ≡ andThen (dataOf dataPages (map (v .page) dataPages)) (λ bytes. ok (slice bytes (from % 512) toCopy))
+    through : 0 < toCopy → readFrom from room h s ≡ andThen (dataOfPages dataPages (map (v .page) dataPages)) (λ bytes. ok (slice bytes (from % 512) toCopy))
     through b =
         let y = within in
         let p = chain-part (y .0) (y .2) (y .3) a b in
-        y .1 ∙ ap₂ (λ (ps : List ℕ) (ds : List (Option (List ℕ))). andThen (dataOf ps ds) (λ bytes. ok (slice bytes (from % 512) toCopy))) p
+        y .1 ∙ ap₂ (λ (ps : List ℕ) (ds : List (Option (List ℕ))). andThen (dataOfPages ps ds) (λ bytes. ok (slice bytes (from % 512) toCopy))) p
         (with-map (v .page) from toCopy (pagesOf (y .0)) ∙ ap (map (v .page)) p)
 
     pub read-unreadable : 0 < toCopy → (k p : ℕ) → scan (unread v) dataPages (from / 512) ≡ place.At k p → readFrom from room h s ≡ fault 2 p
     unfolding andThen
-    read-unreadable b k p q = let g : dataOf dataPages (map (v .page) dataPages) ≡ fault 2 p = rw q at (scan-gives v dataPages (from / 512)) in through b ∙ rw g
+    read-unreadable b k p q = let g : dataOfPages dataPages (map (v .page) dataPages) ≡ fault 2 p = rw q at (scan-gives v dataPages (from / 512)) in through b ∙ rw g
 
-    pub read-bytes : 0 < toCopy → scan (unread v) dataPages (from / 512) ≡ place.Nowhere → readFrom from room h s ≡ ok (slice (joined v dataPages) (from % 512) toCopy)
+    pub read-bytes : 0 < toCopy → scan (unread v) dataPages (from / 512) ≡ place.Nowhere → readFrom from room h s ≡ ok (slice (dataAlong v dataPages) (from % 512) toCopy)
     unfolding andThen
-    read-bytes b q = let g : dataOf dataPages (map (v .page) dataPages) ≡ ok (joined v dataPages) = rw q at (scan-gives v dataPages (from / 512)) in through b ∙ rw g
+    read-bytes b q = let g : dataOfPages dataPages (map (v .page) dataPages) ≡ ok (dataAlong v dataPages) = rw q at (scan-gives v dataPages (from / 512)) in through b ∙ rw g
 
 -- ---- the answers
 

@@ -18,7 +18,7 @@ use Rattle.model.specs.Tree.{Slot, Tree}
 use Rattle.model.specs.View.{View}
 use Rattle.reached.specs.Table.{tableLinks}
 use Rattle.lookup.specs.Answers.{TellsRead}
-use Rattle.lookup.specs.Descend.{Stands, joined, pagesFor, scan, unread}
+use Rattle.lookup.specs.Descend.{Stands, dataAlong, pagesFor, scan, unread}
 use Rattle.lookup.specs.Read.{bytesToCopy, readFrom}
 use Rattle.tree.specs.Slots.{clusterAt, slotPages}
 use Rattle.lookup.specs.declared.along.Place.{Place}
@@ -64,16 +64,16 @@ module _ (v : View) (t : List ℕ) (links : (c : ℕ) → v .link c ≡ tableLin
           (read-unreadable v t links first from room e h s x f (omega arith) (omega (arith, count-is, b)) k p (same-scan ∙ i)) (ap {B = Result (List ℕ)} (fault 2) (sym j)) refl
 
       pub tells-bytes : r ≡ place.Nowhere → (before after : List ℕ) → length before ≡ room
-          → after ≡ sets before 0 (slice (joined v (slotPages t start (from / 512) (pagesFor (from % 512) n))) (from % 512) n)
+          → after ≡ sets before 0 (slice (dataAlong v (slotPages t start (from / 512) (pagesFor (from % 512) n))) (from % 512) n)
           → TellsRead (onImage offset (readFrom from room h s)) (reading.Bytes n) before after
       tells-bytes i before after l c =
-          let g : readFrom from room h s ≡ ok (slice (joined v (dataPages v t links first from room e)) (from % 512) (bytesToCopy (e .length) from room)) =
+          let g : readFrom from room h s ≡ ok (slice (dataAlong v (dataPages v t links first from room e)) (from % 512) (bytesToCopy (e .length) from room)) =
           read-bytes v t links first from room e h s x f (omega arith) (omega (arith, count-is, b)) (same-scan ∙ i) in
-          let j : length (joined v (slotPages t start (from / 512) (pagesFor (from % 512) n))) ≡ 512 * pagesFor (from % 512) n =
+          let j : length (dataAlong v (slotPages t start (from / 512) (pagesFor (from % 512) n))) ≡ 512 * pagesFor (from % 512) n =
           joined-length v sized (slotPages t start (from / 512) (pagesFor (from % 512) n)) (from / 512) (copy-ready i)
           ∙ ap (λ (m : ℕ). 512 * m) (pages-count v sized t start (from / 512) (pagesFor (from % 512) n)) in
-          read-told offset (readFrom from room h s) (slice (joined v (slotPages t start (from / 512) (pagesFor (from % 512) n))) (from % 512) n) before after n
-          (rw (at, count-is) g) (slice-length (joined v (slotPages t start (from / 512) (pagesFor (from % 512) n))) (from % 512) n (omega arith))
+          read-told offset (readFrom from room h s) (slice (dataAlong v (slotPages t start (from / 512) (pagesFor (from % 512) n))) (from % 512) n) before after n
+          (rw (at, count-is) g) (slice-length (dataAlong v (slotPages t start (from / 512) (pagesFor (from % 512) n))) (from % 512) n (omega arith))
           (omega (arith, (least-within n room (size - from) isLeast) .0)) c
 
 -- the read at a path is the one from the slot there

@@ -6,7 +6,7 @@ use mathlib.Core.Path.{_∙_, _≡_, ap, refl, sym}
 use native.Mathlib.Numerals.{add-one}
 use native.Mathlib.Omega.{arith}
 use Rattle.lookup.specs.Descend.{Within, pickPlace, scan}
-use Rattle.tree.specs.Slots.{clusterAt, nextOf, slotPage, slotPages, stepOf}
+use Rattle.tree.specs.Slots.{clusterAt, nextOf, slotPage, slotPages, clusterAfter}
 use Rattle.lookup.specs.declared.along.Place.{Place}
 use Rattle.lookup.specs.declared.along.Place.the-variants as place
 
@@ -15,7 +15,7 @@ pub cluster-start : (t : List ℕ) (start : ℕ) → start ≡ clusterAt t start
 unfolding clusterAt
 cluster-start t start = refl
 
-pub cluster-step : (t : List ℕ) (start c j x : ℕ) → c ≡ clusterAt t start j → x ≡ stepOf t c j → x ≡ clusterAt t start (j + 1)
+pub cluster-step : (t : List ℕ) (start c j x : ℕ) → c ≡ clusterAt t start j → x ≡ clusterAfter t c j → x ≡ clusterAt t start (j + 1)
 unfolding clusterAt
 cluster-step t start c j x e f = rw (add-one j, ← e) f
 
@@ -31,14 +31,14 @@ unfolding scan slotPages
 scan-end test t c k n h = let z : n - k ≡ 0 = omega arith in rw z
 
 module _ (test : ℕ → ℕ → Bool) (t : List ℕ) (c k n : ℕ) (h : k < n) where
-  one : rest test t c k n ≡ pickPlace (test k (slotPage c k)) (place.At k (slotPage c k)) (scan test (slotPages t (stepOf t c k) (suc k) (n - suc k)) (suc k))
+  one : rest test t c k n ≡ pickPlace (test k (slotPage c k)) (place.At k (slotPage c k)) (scan test (slotPages t (clusterAfter t c k) (suc k) (n - suc k)) (suc k))
   unfolding scan slotPages
   one = let z : n - k ≡ suc (n - suc k) = omega arith in rw z
 
   pub scan-here : (page : ℕ) → page ≡ slotPage c k → test k page ≡ true → place.At k page ≡ rest test t c k n
   scan-here page at e = let f : test k (slotPage c k) ≡ true = ap (test k) (sym at) ∙ e in rw (at) (sym (one ∙ rw f))
 
-  pub scan-later : (page x : ℕ) → page ≡ slotPage c k → x ≡ stepOf t c k → test k page ≡ false → rest test t x (k + 1) n ≡ rest test t c k n
+  pub scan-later : (page x : ℕ) → page ≡ slotPage c k → x ≡ clusterAfter t c k → test k page ≡ false → rest test t x (k + 1) n ≡ rest test t c k n
   scan-later page x at s e = let f : test k (slotPage c k) ≡ false = ap (test k) (sym at) ∙ e in rw (add-one k, s) (sym (one ∙ rw f))
 
 pub within : (count : ℕ) (r : Place) (k p : ℕ) → Within count r → r ≡ place.At k p → (p < 8589934592) × (k < count)

@@ -14,7 +14,7 @@ use Rattle.model.proofs.Sites.{site}
 use Rattle.model.specs.Check.{Result, fault, ok}
 use Rattle.model.specs.Entry.{Entry, directoryClusters, entryOf, isDirectory}
 use Rattle.model.specs.Holds.{Chain, HoldsCard, HoldsSlots}
-use Rattle.model.specs.Lookup.{found, lookIn, lookUp, pageOf}
+use Rattle.model.specs.Lookup.{found, lookIn, lookUp, pageAtPath}
 use Rattle.model.specs.Names.{Path, lastName, parent}
 use Rattle.model.specs.Pages.{decoded}
 use Rattle.model.specs.Refusal.{way}
@@ -51,7 +51,7 @@ pub record Site (v : View) (t : List ℕ) (root : Root) (path : List ℕ) (names
   pub below : ℕ
   pub open-way : way (lookUp root) names ≡ 0
   pub found-so : lookUp root (parent names) ≡ found (Slot.directory (entryOf page) chain) slots
-  pub number : pageOf root (parent names) ≡ at
+  pub number : pageAtPath root (parent names) ≡ at
   pub shown : v .page at ≡ some page
   pub two : 2 ≤ (entryOf page) .length
   pub long : length chain ≡ directoryClusters (entryOf page)
@@ -111,7 +111,7 @@ module _ (v : View) (t : List ℕ) (links : (c : ℕ) → v .link c ≡ tableLin
     pub site-at : isDirectory (entryOf (a .page)) ≡ true → Site v t root path names k first (a .at) (a .page)
     site-at f = let y = stands in go (y .0) (y .1) (arrives-as v (y .0) a (arrival.At first) e (y .2)) (y .3)
       where
-        number-so : pageOf root (parent names) ≡ a .at
+        number-so : pageAtPath root (parent names) ≡ a .at
         number-so = descended-page v t links reads root card (parent names) first (sym (ap (λ (a : Arrived). a .arrival) led-to) ∙ e) ∙ ap (λ (a : Arrived). a .at) (sym led-to)
 
         shown-so : v .page (a .at) ≡ some (a .page)

@@ -11,7 +11,7 @@ use Rattle.model.proofs.Equality.{bool}
 use Rattle.model.specs.Check.{Result, fault, ok}
 use Rattle.model.specs.Entry.{entryOf, isDirectory}
 use Rattle.model.specs.Holds.{HoldsCard}
-use Rattle.model.specs.Lookup.{Found, absent, firstPage, found, indexOf, isNamed, laterPages, lookIn, pageIn, pageOf, tell}
+use Rattle.model.specs.Lookup.{Found, absent, firstPage, found, indexOf, isNamed, laterPages, lookIn, pageAmong, pageAtPath, tell}
 use Rattle.model.specs.Names.{Name, Path}
 use Rattle.model.specs.Pages.{decoded}
 use Rattle.model.specs.Tree.{Root, Slot, Tree, end, entryPages, node, rootSlot}
@@ -96,9 +96,9 @@ module _ (v : View) (t : List ℕ) where
 -- from a slot on, whose entry is in page p: its own page, or that of an entry inside it
 abbrev pageFrom : Slot → Tree → ℕ → Path → ℕ
 pageFrom h s p [] = p
-pageFrom h s p (n ∷ q) = pageIn (entryPages h) s (n ∷ q)
+pageFrom h s p (n ∷ q) = pageAmong (entryPages h) s (n ∷ q)
 
-page-node : (ps : List ℕ) (h : Slot) (s t : Tree) (n : Name) (q : Path) → pageIn ps (node h s t) (n ∷ q) ≡ cond (isNamed h n) (pageFrom h s (firstPage ps) q) (pageIn (laterPages ps) t (n ∷ q))
+page-node : (ps : List ℕ) (h : Slot) (s t : Tree) (n : Name) (q : Path) → pageAmong ps (node h s t) (n ∷ q) ≡ cond (isNamed h n) (pageFrom h s (firstPage ps) q) (pageAmong (laterPages ps) t (n ∷ q))
 page-node ps h s t n [] = refl
 page-node ps h s t n (m ∷ q) = refl
 
@@ -110,17 +110,17 @@ page-later : (ps : List ℕ) (i : ℕ) → getD (laterPages ps) i 0 ≡ getD ps 
 page-later [] i = refl
 page-later (p ∷ ps) i = refl
 
-page-inside : (n : Name) (t : Tree) (ps : List ℕ) (q : Path) (h : Slot) (s : Tree) → lookIn t (n ∷ []) ≡ found h s → pageIn ps t (n ∷ q) ≡ pageFrom h s (getD ps (indexOf n t) 0) q
+page-inside : (n : Name) (t : Tree) (ps : List ℕ) (q : Path) (h : Slot) (s : Tree) → lookIn t (n ∷ []) ≡ found h s → pageAmong ps t (n ∷ q) ≡ pageFrom h s (getD ps (indexOf n t) 0) q
 page-inside n end ps q h s e = absurd (let z : _≡_ {A = ℕ} 0 1 = cc in omega arith)
 page-inside n (node x a b) ps q h s e =
     page-node ps x a b n q ∙ ⊎-elim (λ i. here i (rw i at e)) (λ i. later i (page-inside n b (laterPages ps) q h s (rw i at e))) (bool (isNamed x n))
   where
     here : isNamed x n ≡ true → found x a ≡ found h s
-        → cond (isNamed x n) (pageFrom x a (firstPage ps) q) (pageIn (laterPages ps) b (n ∷ q)) ≡ pageFrom h s (getD ps (indexOf n (node x a b)) 0) q
+        → cond (isNamed x n) (pageFrom x a (firstPage ps) q) (pageAmong (laterPages ps) b (n ∷ q)) ≡ pageFrom h s (getD ps (indexOf n (node x a b)) 0) q
     here i f = let y : x ≡ h = cc in let z : a ≡ s = cc in rw (i, y, z, page-first ps)
 
-    later : isNamed x n ≡ false → pageIn (laterPages ps) b (n ∷ q) ≡ pageFrom h s (getD (laterPages ps) (indexOf n b) 0) q
-        → cond (isNamed x n) (pageFrom x a (firstPage ps) q) (pageIn (laterPages ps) b (n ∷ q)) ≡ pageFrom h s (getD ps (indexOf n (node x a b)) 0) q
+    later : isNamed x n ≡ false → pageAmong (laterPages ps) b (n ∷ q) ≡ pageFrom h s (getD (laterPages ps) (indexOf n b) 0) q
+        → cond (isNamed x n) (pageFrom x a (firstPage ps) q) (pageAmong (laterPages ps) b (n ∷ q)) ≡ pageFrom h s (getD ps (indexOf n (node x a b)) 0) q
     later i f = rw i (f ∙ rw (page-later ps (indexOf n b)))
 
 found-by : (f : Found) (h : Slot) (s : Tree) → tell (λ h t. arrive h t []) (fault 9 0) f ≡ ok (h, s) → f ≡ found h s
@@ -168,11 +168,11 @@ module _ (v : View) (t : List ℕ) (links : (c : ℕ) → v .link c ≡ tableLin
   onward-page [] first p page h s next x e = refl
   onward-page (n ∷ names) first p page h s next x e = next-page names (λ first p page h s. onward-page names first p page h s) first p page n h s next x e
 
-  pub descended-page : (root : Root) → HoldsCard v root → (names : Path) (next : ℕ) → (descended v t names) .arrival ≡ arrival.At next → pageOf root names ≡ (descended v t names) .at
+  pub descended-page : (root : Root) → HoldsCard v root → (names : Path) (next : ℕ) → (descended v t names) .arrival ≡ arrival.At next → pageAtPath root names ≡ (descended v t names) .at
   unfolding descended
   descended-page root card names next e = from names ∙ go (v .page 0) refl e
     where
-      from : (names : Path) → pageOf root names ≡ pageFrom (rootSlot root) (root .slots) 0 names
+      from : (names : Path) → pageAtPath root names ≡ pageFrom (rootSlot root) (root .slots) 0 names
       from [] = refl
       from (n ∷ q) = refl
 

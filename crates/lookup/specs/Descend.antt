@@ -8,6 +8,7 @@ use mathlib.Core.Path.{_≡_}
 use lib.Dec.{leb}
 use lib.ListN.{length, replicate}
 use Rattle.fields.specs.PathBytes.{nameAt}
+use Rattle.layout.specs.Table.{dataOf}
 use Rattle.model.specs.Bytes.{word}
 use Rattle.model.specs.Entry.{Entry, directoryClusters, entryOf, fileClusters, isDirectory, isLive}
 use Rattle.model.specs.Holds.{Chain, HoldsSlots}
@@ -68,13 +69,9 @@ abbrev pub unread : View → ℕ → ℕ → Bool
 unread v k p = not (isSome (v .page p))
 
 -- the data of pages, one after the other
-abbrev pub dataOr : Option (List ℕ) → List ℕ
-dataOr none = []
-dataOr (some bytes) = bytes
-
-unfoldable pub joined : View → List ℕ → List ℕ
-joined v [] = []
-joined v (p ∷ ps) = dataOr (v .page p) ++ joined v ps
+unfoldable pub dataAlong : View → List ℕ → List ℕ
+dataAlong v [] = []
+dataAlong v (p ∷ ps) = dataOf (v .page p) ++ dataAlong v ps
 
 -- how many pages hold `count` bytes that begin at byte `skip` of the first
 abbrev pub pagesFor : ℕ → ℕ → ℕ

@@ -24,15 +24,15 @@ module _ {A : Type 0} where
   pagesWith offset count pages = cond (eqb count 0) [] (drop (offset / 512) (take ((offset + count + 511) / 512) pages))
 
 -- the data of pages, one after the other: 2 for the first unreadable one
-unfoldable pub dataOf : List ℕ → List (Option (List ℕ)) → Result (List ℕ)
-dataOf [] pages = ok []
-dataOf (p ∷ ps) [] = ok []
-dataOf (p ∷ ps) (none ∷ pages) = fault 2 p
-dataOf (p ∷ ps) (some bytes ∷ pages) = andThen (dataOf ps pages) (λ rest. ok (bytes ++ rest))
+unfoldable pub dataOfPages : List ℕ → List (Option (List ℕ)) → Result (List ℕ)
+dataOfPages [] pages = ok []
+dataOfPages (p ∷ ps) [] = ok []
+dataOfPages (p ∷ ps) (none ∷ pages) = fault 2 p
+dataOfPages (p ∷ ps) (some bytes ∷ pages) = andThen (dataOfPages ps pages) (λ rest. ok (bytes ++ rest))
 
 abbrev pub bytesFrom : ℕ → ℕ → List ℕ → List (Option (List ℕ)) → Result (List ℕ)
 bytesFrom offset count chain pages =
-    andThen (dataOf (pagesWith offset count (pagesOf chain)) (pagesWith offset count pages)) (λ bytes. ok (slice bytes (offset % 512) count))
+    andThen (dataOfPages (pagesWith offset count (pagesOf chain)) (pagesWith offset count pages)) (λ bytes. ok (slice bytes (offset % 512) count))
 
 -- reading a directory is 10; an offset beyond the file's length is 15
 abbrev pub readFrom : ℕ → ℕ → Slot → Tree → Result (List ℕ)

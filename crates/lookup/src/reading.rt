@@ -32,7 +32,7 @@ ghost use Rattle.lookup.specs.Answers.{TellsRead};
 ghost use Rattle.lookup.specs.Paths.{withPath};
 ghost use Rattle.lookup.specs.Read.{readFrom, readIn, readOf};
 ghost use Rattle.tree.specs.Slots.{slotPages};
-ghost use Rattle.lookup.specs.Descend.{Piece, Stands, joined, pagesFor, scan, unread};
+ghost use Rattle.lookup.specs.Descend.{Piece, Stands, dataAlong, pagesFor, scan, unread};
 
 // How many bytes a read copied.
 pub enum ReadOutcome {
@@ -83,7 +83,7 @@ fn copy_pages(
     out: &mut [u8],
 )
     requires { ⌜ (skip < 512) × (count ≤ length (now out)) × (low + pagesFor skip count < 4294967296) × (scan (unread (viewBy offset (now table) (now image))) (slotPages (now table) start low (pagesFor skip count)) low ≡ Nowhere) ⌝ }
-    ensures { λ _. ⌜ now (out .exit) ≡ sets (now (out .entry)) 0 (slice (joined (viewBy offset (now (table .entry)) (now (image .entry))) (slotPages (now (table .entry)) start low (pagesFor skip count))) skip count) ⌝ }
+    ensures { λ _. ⌜ now (out .exit) ≡ sets (now (out .entry)) 0 (slice (dataAlong (viewBy offset (now (table .entry)) (now (image .entry))) (slotPages (now (table .entry)) start low (pagesFor skip count))) skip count) ⌝ }
 {
     let mut c = start;
     let mut k = low;

@@ -6,7 +6,7 @@ use mathlib.Core.Option.{some}
 use mathlib.Core.Path.{_∙_, _≡_, ap, fun-ext, refl, sym}
 use native.Mathlib.Omega.{arith}
 use Rattle.model.specs.Change.{Change, Rules, create, delete, makeDirectory, path, removeDirectory, replace, standingAfter}
-use Rattle.model.specs.Claims.{Accepted, AcceptedExactly, ChangeKeeps, CheckIsHolding, Commute, CountsAddUp, Demand3, Kept, Order, clustersBack, givenBack}
+use Rattle.model.specs.Claims.{Accepted, AcceptedExactly, ViewChangeKeeps, CheckIsHolding, ViewCommute, ViewCountsAddUp, ViewDemand3, ViewKept, ViewOrder, clustersBack, givenBack}
 use Rattle.model.specs.Counts.{totalBelow}
 use Rattle.model.specs.Lookup.{Found, absent, found, lookUp, tell}
 use Rattle.model.specs.Names.{Path, beginning, samePath}
@@ -33,7 +33,7 @@ check-is-holding =
       complete = λ v r h. holds-check v r h;
     }
 
-pub counts-add-up : CountsAddUp
+pub counts-add-up : ViewCountsAddUp
 counts-add-up allocEnd v r m e = counts v r ((check-holds v r m e) .0) allocEnd
 
 module _ (y : Rules) (v : View) (a : Accepted y v) where
@@ -110,7 +110,7 @@ module _ (y : Rules) (v : View) (a : Accepted y v) (c : Change) (w : View) (e : 
       go (delete p) = at (lookUp (a .root) p)
       go (removeDirectory p) = at (lookUp (a .root) p)
 
-  pub kept : Kept y c v w (a .root)
+  pub kept : ViewKept y c v w (a .root)
   unfolding effect
   kept =
       record {
@@ -122,7 +122,7 @@ module _ (y : Rules) (v : View) (a : Accepted y v) (c : Change) (w : View) (e : 
             ∙ rw (need-is, free-is y v a, back-is);
       }
 
-pub change-keeps : ChangeKeeps
+pub change-keeps : ViewChangeKeeps
 change-keeps y v a c w e = kept y v a c w e
 
 pub accepted-exactly : AcceptedExactly
@@ -138,19 +138,19 @@ accepted-exactly y v a c = (
 -- ---- demand 3
 
 module _ (y : Rules) (v : View) where
-  abbrev to-both : (a b : Change) → Order y v a b → Both y (machine y) v a b
+  abbrev to-both : (a b : Change) → ViewOrder y v a b → Both y (machine y) v a b
   to-both a b o = (o .between, o .final, view-done (perform y a v) (o .between) (o .firstDone), view-done (perform y b (o .between)) (o .final) (o .thenDone))
 
-  abbrev of-both : (a b : Change) → Both y (machine y) v a b → Order y v a b
+  abbrev of-both : (a b : Change) → Both y (machine y) v a b → ViewOrder y v a b
   of-both a b o = record { between = o .0; final = o .1; firstDone = done-view (perform y a v) (o .0) (o .2); thenDone = done-view (perform y b (o .0)) (o .1) (o .3) }
 
   module _ (s : Sound y v) (a b : Change) (h : beginning (path a) (path b) ≡ false) (k : beginning (path b) (path a) ≡ false) where
-    end-sound : (x z : Change) (o : Order y v x z) → Accepted y (o .final)
+    end-sound : (x z : Change) (o : ViewOrder y v x z) → Accepted y (o .final)
     end-sound x z o =
         let w = to-both x z o in
         accepted-of y (o .final) ((ran y z (o .between) (o .final) ((ran y x v (o .between) s (w .2)) .0) (w .3)) .0)
 
-    pub commute : Commute y v a b
+    pub commute : ViewCommute y v a b
     commute =
         let d = demand-3 y (machine y) v s a b h k in
         record {
@@ -159,5 +159,5 @@ module _ (y : Rules) (v : View) where
           creations = λ p q. let t = d .1 p q in ((λ o. of-both b a (t .0 (to-both a b o))), (λ o. of-both a b (t .1 (to-both b a o))));
         }
 
-pub demand-3-holds : Demand3
+pub demand-3-holds : ViewDemand3
 demand-3-holds y v a x z h k = commute y v (sound-of y v a) x z h k

@@ -10,7 +10,7 @@ use Rattle.model.specs.Change.{Change, Rules, create, directoryMode, mak
 use Rattle.model.specs.Check.{ok}
 use Rattle.model.specs.Entry.{clustersFor, isFile, isSubdirectory}
 use Rattle.model.specs.Holds.{HoldsCard, deepest}
-use Rattle.model.specs.Lookup.{Found, firstDead, pageOf}
+use Rattle.model.specs.Lookup.{Found, firstDead, pageAtPath}
 use Rattle.model.specs.Names.{Path, dotDotName, dotName, goodName, goodPath, lastName, parent}
 use Rattle.model.specs.Plan.{Plan, after, firstOf, freeBelow, growthWithOne, lengthWithOne, made, newDirectory, newEntry, newFile, ownClusters, planAt, returned, takeable}
 use Rattle.model.specs.Refusal.{first, static}
@@ -88,7 +88,7 @@ module _ (y : Rules) where
         wh = where-is y v r h a (ok .0) (m₂ .0)
 
         P′ : ℕ
-        P′ = pageOf r (parent p)
+        P′ = pageAtPath r (parent p)
 
         γ : ℕ
         γ = growthWithOne (wh .directoryEntry) (wh .directorySlots)
@@ -121,7 +121,7 @@ module _ (y : Rules) where
             refl (ap (λ (n : ℕ). record { dead = 0; length = 0; back = n }) (back-fs v γ (clustersFor (length b)) room)) (λ R. plus-0 (take₁ (R .dead) (R .length) (R .back))) nd refl
 
         deed : Deed y v r pl
-        deed = record { entered = wh .st .entered; used = p-used y v r (parent p) (pageOf r (parent p)) (wh .directoryEntry) (wh .directoryChain) (wh .directorySlots) (deepest - length (parent p)) (wh .st); fit = out .1; low = λ c u. omega (arith, fs-low y v γ (clustersFor (length b)) c u, gs-low y v γ c u); work = Work.file (lastName p) t b (ok .2) (static-time (goodPath (suc deepest) p) (validTime t) (m .0)) fl refl }
+        deed = record { entered = wh .st .entered; used = p-used y v r (parent p) (pageAtPath r (parent p)) (wh .directoryEntry) (wh .directoryChain) (wh .directorySlots) (deepest - length (parent p)) (wh .st); fit = out .1; low = λ c u. omega (arith, fs-low y v γ (clustersFor (length b)) c u, gs-low y v γ c u); work = Work.file (lastName p) t b (ok .2) (static-time (goodPath (suc deepest) p) (validTime t) (m .0)) fl refl }
 
     pub act-mkdir : (p : Path) (t : List ℕ) → Accepts (op y (makeDirectory p t)) σ → Outcome y v r (makeDirectory p t)
     unfolding need grown worked taken
@@ -144,7 +144,7 @@ module _ (y : Rules) where
         wh = where-is y v r h a (ok .0) (m₂ .0)
 
         P′ : ℕ
-        P′ = pageOf r (parent p)
+        P′ = pageAtPath r (parent p)
 
         γ : ℕ
         γ = growthWithOne (wh .directoryEntry) (wh .directorySlots)
@@ -181,4 +181,4 @@ module _ (y : Rules) where
             refl (ap (λ (n : ℕ). record { dead = 0; length = 2; back = n }) (back-fs v γ 1 room)) (λ R. plus-0 (take₁ (R .dead) (R .length) (R .back))) nd refl
 
         deed : Deed y v r pl
-        deed = record { entered = wh .st .entered; used = p-used y v r (parent p) (pageOf r (parent p)) (wh .directoryEntry) (wh .directoryChain) (wh .directorySlots) (deepest - length (parent p)) (wh .st); fit = out .1; low = λ c u. omega (arith, fs-low y v γ 1 c u, gs-low y v γ c u); work = Work.directory (lastName p) t (ok .2) (static-time (goodPath deepest p) (validTime t) (m .0)) (omega (arith, fd-le (wh .directorySlots), rep-length v _ _ (wh .directorySlots) (wh .st .rep), length-drop 2 (take (wh .directoryEntry .length) (pagesOf (wh .directoryChain))), length-take (wh .directoryEntry .length) (pagesOf (wh .directoryChain)), wh .st .two)) refl }
+        deed = record { entered = wh .st .entered; used = p-used y v r (parent p) (pageAtPath r (parent p)) (wh .directoryEntry) (wh .directoryChain) (wh .directorySlots) (deepest - length (parent p)) (wh .st); fit = out .1; low = λ c u. omega (arith, fs-low y v γ 1 c u, gs-low y v γ c u); work = Work.directory (lastName p) t (ok .2) (static-time (goodPath deepest p) (validTime t) (m .0)) (omega (arith, fd-le (wh .directorySlots), rep-length v _ _ (wh .directorySlots) (wh .st .rep), length-drop 2 (take (wh .directoryEntry .length) (pagesOf (wh .directoryChain))), length-take (wh .directoryEntry .length) (pagesOf (wh .directoryChain)), wh .st .two)) refl }

@@ -11,7 +11,7 @@ use lib.ListN.{length}
 use Rattle.model.specs.Change.{Change, Rules, path}
 use Rattle.model.specs.Entry.{Entry, isLive}
 use Rattle.model.specs.Holds.{HoldsCard, HoldsSlots, deepest}
-use Rattle.model.specs.Lookup.{Found, absent, found, isNamed, lookFrom, lookIn, pageOf, tell}
+use Rattle.model.specs.Lookup.{Found, absent, found, isNamed, lookFrom, lookIn, pageAtPath, tell}
 use Rattle.model.specs.Names.{Name, Path, goodName, goodNames, lastName, parent}
 use Rattle.model.specs.Refusal.{first}
 use Rattle.model.specs.Standing.{Standing, standing}
@@ -115,7 +115,7 @@ module _ (y : Rules) where
     pub directoryChain : List ℕ
     pub directorySlots : Tree
     pub found-so : lookFrom (rootSlot r) (r .slots) (parent (path a)) ≡ found (Slot.directory directoryEntry directoryChain) directorySlots
-    pub st : Site v r (parent (path a)) (pageOf r (parent (path a))) directoryEntry directoryChain directorySlots (deepest - length (parent (path a)))
+    pub st : Site v r (parent (path a)) (pageAtPath r (parent (path a))) directoryEntry directoryChain directorySlots (deepest - length (parent (path a)))
     pub at : lookFrom (rootSlot r) (r .slots) (path a) ≡ lookIn directorySlots (lastName (path a) ∷ [])
 
   pub where-is : (v : View) (r : Root) → HoldsCard v r → (a : Change) → 0 < length (path a) → standingWay ((abstractOf y v r) .look) (path a) ≡ 0 → Where v r a

@@ -11,7 +11,7 @@ use lib.ListN.{length}
 use Rattle.model.specs.Change.{Change, Rules, path}
 use Rattle.model.specs.Entry.{Entry, clustersFor}
 use Rattle.model.specs.Holds.{HoldsCard, HoldsSlot, UniqueNames, deepest}
-use Rattle.model.specs.Lookup.{Found, absent, firstDead, found, indexOf, isNamed, lookIn, pageOf, tell}
+use Rattle.model.specs.Lookup.{Found, absent, firstDead, found, indexOf, isNamed, lookIn, pageAtPath, tell}
 use Rattle.model.specs.Names.{Name, Path, goodName, lastName, parent, sameName}
 use Rattle.model.specs.Plan.{Filling, Plan, after, firstOf, freeBelow, growthClusters, growthWithOne, lengthWithOne, made, newContents, newDirectory, newFile, ownClusters, planOf, removal, returned, takeable}
 use Rattle.model.specs.Standing.{standing}
@@ -68,7 +68,7 @@ module _ (y : Rules) where
     nm = lastName (path a)
 
     abbrev P : ℕ
-    P = pageOf r q
+    P = pageAtPath r q
 
     abbrev D : ℕ
     D = deepest - length q

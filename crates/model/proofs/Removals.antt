@@ -11,7 +11,7 @@ use Rattle.model.specs.Change.{Change, Rules, delete, path, removeDirect
 use Rattle.model.specs.Check.{ok}
 use Rattle.model.specs.Entry.{Entry, isLive}
 use Rattle.model.specs.Holds.{HoldsCard, HoldsSlot, HoldsSlots, deepest}
-use Rattle.model.specs.Lookup.{Found, absent, found, indexOf, lookIn, pageOf, tell}
+use Rattle.model.specs.Lookup.{Found, absent, found, indexOf, lookIn, pageAtPath, tell}
 use Rattle.model.specs.Names.{Name, Path, goodName, goodPath, lastName, parent}
 use Rattle.model.specs.Plan.{Plan, after, killed, made, planAt, planFor, removal, returned, withLength}
 use Rattle.model.specs.Refusal.{first, static}
@@ -47,7 +47,7 @@ module _ (y : Rules) where
         → ((c : ℕ) → clusterUses s₀ c ≡ 0) → ((m : Name) (z : Path) → lookIn s₀ (m ∷ z) ≡ absent)
         → none ≡ (op y a) .puts σ (path a) → noRoom ≡ (op y a) .rooms σ (path a)
         → ((R : Room) → worked (op y a) R ≡ record { dead = R .dead + 1; length = R .length; back = R .back }) → 0 ≡ need (op y a) σ → returned (y .allocEnd) (y .mayTake) (chainOf h₀) ≡ (op y a) .freed σ
-        → let p = made (y .allocEnd) (y .mayTake) v (pageOf r (parent (path a))) (wh .directoryEntry) (wh .directoryChain) (wh .directorySlots) (indexOf (lastName (path a)) (wh .directorySlots)) (wh .directoryEntry .length) 0 0 (chainOf h₀) (removal e₀) in
+        → let p = made (y .allocEnd) (y .mayTake) v (pageAtPath r (parent (path a))) (wh .directoryEntry) (wh .directoryChain) (wh .directorySlots) (indexOf (lastName (path a)) (wh .directorySlots)) (wh .directoryEntry .length) 0 0 (chainOf h₀) (removal e₀) in
         ((r′ : Root) × HoldsCard (after v p) r′ × ((c : ℕ) → y .allocEnd ≤ c → (after v p) .link c ≡ Link.free) × (abstractOf y (after v p) r′ ≡ effect (op y a) σ)) × Fits v (reached r) p
     removed a wh pos h₀ s₀ e₀ g dz lv oz bz fn rn wk nd fd =
         changed y v r h tab a wh pos h₀ s₀ g oz bz dz 0 (removal e₀) absent refl (λ n. omega arith) (inr ((λ n. refl), refl)) refl (omega arith)
@@ -77,7 +77,7 @@ module _ (y : Rules) where
         make (e₀, oc, ds, s₀, g) =
             record {
               plan = pl;
-              planned = ap (λ (g : Found). planAt y a v (pageOf r (parent p)) g) (wh .found-so) ∙ ap (λ (z : Found). planFor y a v (pageOf r (parent p)) (wh .directoryEntry) (wh .directoryChain) (wh .directorySlots) z) g;
+              planned = ap (λ (g : Found). planAt y a v (pageAtPath r (parent p)) g) (wh .found-so) ∙ ap (λ (z : Found). planFor y a v (pageAtPath r (parent p)) (wh .directoryEntry) (wh .directoryChain) (wh .directorySlots) z) g;
               root = out .0 .0;
               card = out .0 .1;
               table = out .0 .2;
@@ -86,7 +86,7 @@ module _ (y : Rules) where
             }
           where
             pl : Plan
-            pl = made (y .allocEnd) (y .mayTake) v (pageOf r (parent p)) (wh .directoryEntry) (wh .directoryChain) (wh .directorySlots) (indexOf (lastName p) (wh .directorySlots)) (wh .directoryEntry .length) 0 0 oc (removal e₀)
+            pl = made (y .allocEnd) (y .mayTake) v (pageAtPath r (parent p)) (wh .directoryEntry) (wh .directoryChain) (wh .directorySlots) (indexOf (lastName p) (wh .directorySlots)) (wh .directoryEntry .length) 0 0 oc (removal e₀)
 
             sl : SlotOf (lastName p) (wh .directorySlots) (Slot.file e₀ oc ds) s₀
             sl = slot-of (lastName p) (wh .directorySlots) (Slot.file e₀ oc ds) s₀ g
@@ -112,7 +112,7 @@ module _ (y : Rules) where
             slot = rw (append-nil (wh .directoryChain)) ((sl .page v (deepest - length (parent p)) _ (wh .st .rep)) .0)
 
             deed : Deed y v r pl
-            deed = record { entered = wh .st .entered; used = p-used y v r (parent p) (pageOf r (parent p)) (wh .directoryEntry) (wh .directoryChain) (wh .directorySlots) (deepest - length (parent p)) (wh .st); fit = out .1; low = λ c u. omega (arith, fs-low y v 0 0 c u, gs-low y v 0 c u); work = Work.kill e₀ slot refl }
+            deed = record { entered = wh .st .entered; used = p-used y v r (parent p) (pageAtPath r (parent p)) (wh .directoryEntry) (wh .directoryChain) (wh .directorySlots) (deepest - length (parent p)) (wh .st); fit = out .1; low = λ c u. omega (arith, fs-low y v 0 0 c u, gs-low y v 0 c u); work = Work.kill e₀ slot refl }
 
     pub act-rmdir : (p : Path) → Accepts (op y (removeDirectory p)) σ → Outcome y v r (removeDirectory p)
     unfolding need grown worked taken
@@ -137,7 +137,7 @@ module _ (y : Rules) where
         make (e₀, oc, s₀, g, el) =
             record {
               plan = pl;
-              planned = ap (λ (g : Found). planAt y a v (pageOf r (parent p)) g) (wh .found-so) ∙ ap (λ (z : Found). planFor y a v (pageOf r (parent p)) (wh .directoryEntry) (wh .directoryChain) (wh .directorySlots) z) g;
+              planned = ap (λ (g : Found). planAt y a v (pageAtPath r (parent p)) g) (wh .found-so) ∙ ap (λ (z : Found). planFor y a v (pageAtPath r (parent p)) (wh .directoryEntry) (wh .directoryChain) (wh .directorySlots) z) g;
               root = out .0 .0;
               card = out .0 .1;
               table = out .0 .2;
@@ -146,7 +146,7 @@ module _ (y : Rules) where
             }
           where
             pl : Plan
-            pl = made (y .allocEnd) (y .mayTake) v (pageOf r (parent p)) (wh .directoryEntry) (wh .directoryChain) (wh .directorySlots) (indexOf (lastName p) (wh .directorySlots)) (wh .directoryEntry .length) 0 0 oc (removal e₀)
+            pl = made (y .allocEnd) (y .mayTake) v (pageAtPath r (parent p)) (wh .directoryEntry) (wh .directoryChain) (wh .directorySlots) (indexOf (lastName p) (wh .directorySlots)) (wh .directoryEntry .length) 0 0 oc (removal e₀)
 
             sl : SlotOf (lastName p) (wh .directorySlots) (Slot.directory e₀ oc) s₀
             sl = slot-of (lastName p) (wh .directorySlots) (Slot.directory e₀ oc) s₀ g
@@ -176,4 +176,4 @@ module _ (y : Rules) where
             slot = rw (append-nil (wh .directoryChain)) ((sl .page v (deepest - length (parent p)) _ (wh .st .rep)) .0)
 
             deed : Deed y v r pl
-            deed = record { entered = wh .st .entered; used = p-used y v r (parent p) (pageOf r (parent p)) (wh .directoryEntry) (wh .directoryChain) (wh .directorySlots) (deepest - length (parent p)) (wh .st); fit = out .1; low = λ c u. omega (arith, fs-low y v 0 0 c u, gs-low y v 0 c u); work = Work.kill e₀ slot refl }
+            deed = record { entered = wh .st .entered; used = p-used y v r (parent p) (pageAtPath r (parent p)) (wh .directoryEntry) (wh .directoryChain) (wh .directorySlots) (deepest - length (parent p)) (wh .st); fit = out .1; low = λ c u. omega (arith, fs-low y v 0 0 c u, gs-low y v 0 c u); work = Work.kill e₀ slot refl }

@@ -11,7 +11,7 @@ use Rattle.model.specs.Change.{Change, Rules, replace, replaced}
 use Rattle.model.specs.Check.{ok}
 use Rattle.model.specs.Entry.{Entry, clustersFor, hasBit, isFile, isLive}
 use Rattle.model.specs.Holds.{HoldsCard, HoldsSlot, HoldsSlots, deepest}
-use Rattle.model.specs.Lookup.{Found, found, indexOf, lookIn, pageOf, tell}
+use Rattle.model.specs.Lookup.{Found, found, indexOf, lookIn, pageAtPath, tell}
 use Rattle.model.specs.Names.{Path, goodName, goodPath, lastName, parent}
 use Rattle.model.specs.Plan.{Plan, after, freeBelow, made, newContents, ownClusters, planAt, planFor, takeable}
 use Rattle.model.specs.Refusal.{first, static}
@@ -58,7 +58,7 @@ module _ (y : Rules) where
         wh = where-is y v r h a (ok .0) (m₂ .0)
 
         P′ : ℕ
-        P′ = pageOf r (parent p)
+        P′ = pageAtPath r (parent p)
 
         fs : List ℕ
         fs = ownClusters (y .allocEnd) (y .mayTake) v 0 (clustersFor (length b))
@@ -120,4 +120,4 @@ module _ (y : Rules) where
             slot = rw (append-nil (wh .directoryChain)) ((sl .page v (deepest - length (parent p)) _ (wh .st .rep)) .0)
 
             deed : Deed y v r pl
-            deed = record { entered = wh .st .entered; used = p-used y v r (parent p) (pageOf r (parent p)) (wh .directoryEntry) (wh .directoryChain) (wh .directorySlots) (deepest - length (parent p)) (wh .st); fit = out .1; low = λ c u. omega (arith, fs-low y v 0 (clustersFor (length b)) c u, gs-low y v 0 c u); work = Work.bytes e₀ t b slot (static-time y (goodPath (suc deepest) p) (validTime t) (m .0)) fl refl }
+            deed = record { entered = wh .st .entered; used = p-used y v r (parent p) (pageAtPath r (parent p)) (wh .directoryEntry) (wh .directoryChain) (wh .directorySlots) (deepest - length (parent p)) (wh .st); fit = out .1; low = λ c u. omega (arith, fs-low y v 0 (clustersFor (length b)) c u, gs-low y v 0 c u); work = Work.bytes e₀ t b slot (static-time y (goodPath (suc deepest) p) (validTime t) (m .0)) fl refl }

@@ -11,7 +11,7 @@ use lib.ListN.{length}
 use Rattle.model.specs.Check.{dots}
 use Rattle.model.specs.Entry.{Entry, directoryClusters, isDirectory}
 use Rattle.model.specs.Holds.{DotEntries, HoldsCard, HoldsSlot, HoldsSlots, UniqueNames, deepest}
-use Rattle.model.specs.Lookup.{found, lookFrom, lookIn, pageIn, pageOf, tell}
+use Rattle.model.specs.Lookup.{found, lookFrom, lookIn, pageAmong, pageAtPath, tell}
 use Rattle.model.specs.Names.{Name, Path, beginning, goodName, sameName}
 use Rattle.model.specs.Refusal.{own}
 use Rattle.model.specs.Tree.{Root, Slot, Tree, clusterUses, entryPages, hit, reached, rootSlot, times}
@@ -24,7 +24,7 @@ use Rattle.model.proofs.SlotLaws.{setSlot}
 use Rattle.model.proofs.StepHolds.{Step, root-page, root-step, sub-step}
 use Rattle.model.proofs.TreePlaces.{Context, On, deepAt, down, next, pageAt, part, part-links, place, plug, top}
 
-page-at : (v : View) (l : Context) (h : Slot) (s : Tree) (d : ℕ) (ps : List ℕ) (q : Path) → HoldsSlots v d ps (plug l h s) → On l h q → pageIn ps (plug l h s) q ≡ pageAt l ps
+page-at : (v : View) (l : Context) (h : Slot) (s : Tree) (d : ℕ) (ps : List ℕ) (q : Path) → HoldsSlots v d ps (plug l h s) → On l h q → pageAmong ps (plug l h s) q ≡ pageAt l ps
 page-at v (top b) h s d [] q r o = absurd r
 page-at v (top b) h s d (p ∷ ps) [] r o = absurd o
 page-at v (top b) h s d (p ∷ ps) (n ∷ []) r o = rw o
@@ -103,7 +103,7 @@ module _ (v : View) (t : Entry) (ch : List ℕ) (l : Context) (e : Entry) (cs : 
   abbrev R : Root
   R = record { rootEntry = t; chain = ch; slots = plug l (Slot.directory e cs) s }
 
-  sub-at : (n : Name) (q : Path) → On l (Slot.directory e cs) (n ∷ q) → HoldsCard v R → Site v R (n ∷ q) (pageOf R (n ∷ q)) e cs s (deepest - suc (length q))
+  sub-at : (n : Name) (q : Path) → On l (Slot.directory e cs) (n ∷ q) → HoldsCard v R → Site v R (n ∷ q) (pageAtPath R (n ∷ q)) e cs s (deepest - suc (length q))
   sub-at n q on h =
       let a = at-held v l (Slot.directory e cs) s deepest (entryPages (Slot.directory t ch)) (h .rep) in
       let dp = deep-at l (Slot.directory e cs) deepest (n ∷ q) on in
@@ -122,7 +122,7 @@ module _ (v : View) (t : Entry) (ch : List ℕ) (l : Context) (e : Entry) (cs : 
         entry = inl (λ b. rw pa (omega (arith, part (Slot.directory e cs) s v l deepest (entryPages (Slot.directory t ch)) (h .rep) b, parts-le (Slot.directory t ch) b)));
         finish = λ w e′ gs i Q x y N k g. (
           record { rootEntry = t; chain = ch; slots = plug l (Slot.directory e′ (cs ++ gs)) (setSlot i x y s) },
-          sub-step v w (reached R) (pageOf R (n ∷ q)) e cs s e′ gs i Q x y N k t ch l h pa (λ c. refl) (rw D g),
+          sub-step v w (reached R) (pageAtPath R (n ∷ q)) e cs s e′ gs i Q x y N k t ch l h pa (λ c. refl) (rw D g),
           record {
             below = λ z. get-at l (Slot.directory e′ (cs ++ gs)) (setSlot i x y s) (n ∷ q) z (on′ e′ gs (k .name) l (n ∷ q) on);
             aside = λ f b st z p. off f b e′ gs (setSlot i x y s) (k .name) st z p;
@@ -148,11 +148,11 @@ module _ (v : View) (t : Entry) (ch : List ℕ) (l : Context) (e : Entry) (cs : 
       off f b e′ gs s′ eq st (m ∷ z) p = get-off f b (Slot.directory e cs) (Slot.directory e′ (cs ++ gs)) s s′ (λ k. rw eq) st l (n ∷ q) (m ∷ z) on p
 
 pub sub-site : (v : View) (r : Root) → HoldsCard v r → (n : Name) (q : Path) (e : Entry) (cs : List ℕ) (s : Tree) → lookIn (r .slots) (n ∷ q) ≡ found (Slot.directory e cs) s
-    → Site v r (n ∷ q) (pageOf r (n ∷ q)) e cs s (deepest - suc (length q))
+    → Site v r (n ∷ q) (pageAtPath r (n ∷ q)) e cs s (deepest - suc (length q))
 sub-site v r h n q e cs s g =
     let z = place (r .slots) (n ∷ q) (Slot.directory e cs) s g in
     subst (λ (b : Tree). HoldsCard v (record { rootEntry = r .rootEntry; chain = r .chain; slots = b })
-    → Site v (record { rootEntry = r .rootEntry; chain = r .chain; slots = b }) (n ∷ q) (pageOf (record { rootEntry = r .rootEntry; chain = r .chain; slots = b }) (n ∷ q)) e cs s (deepest - suc (length q)))
+    → Site v (record { rootEntry = r .rootEntry; chain = r .chain; slots = b }) (n ∷ q) (pageAtPath (record { rootEntry = r .rootEntry; chain = r .chain; slots = b }) (n ∷ q)) e cs s (deepest - suc (length q)))
     (z .1) (sub-at v (r .rootEntry) (r .chain) (z .0) e cs s n q (z .2)) h
 
 dir-parts : (h : Slot) (t : Tree) (e : Entry) (cs : List ℕ) (s : Tree) (e₀ : Entry) (cs₀ : List ℕ) → h ≡ Slot.directory e₀ cs₀ → found h t ≡ found (Slot.directory e cs) s → (e₀ ≡ e) × (cs₀ ≡ cs) × (t ≡ s)
@@ -163,6 +163,6 @@ site-root v r e cs s a b c h = rw (← a, ← b, ← c) (root-site v r h)
 
 -- one for both
 pub site : (v : View) (r : Root) → HoldsCard v r → (q : Path) (e : Entry) (cs : List ℕ) (s : Tree) → lookFrom (rootSlot r) (r .slots) q ≡ found (Slot.directory e cs) s
-    → Site v r q (pageOf r q) e cs s (deepest - length q)
+    → Site v r q (pageAtPath r q) e cs s (deepest - length q)
 site v r h [] e cs s g = let d = dir-parts (rootSlot r) (r .slots) e cs s (r .rootEntry) (r .chain) refl g in site-root v r e cs s (d .0) (d .1) (d .2) h
 site v r h (n ∷ q) e cs s g = sub-site v r h n q e cs s g

@@ -33,8 +33,8 @@ pub record CheckIsHolding : Type 0 where
   pub complete : (v : View) (r : Root) → HoldsCard v r → checkTree v ≡ ok (r, reached r)
 
 -- Free, reached and orphaned clusters add up to the allocatable ones.
-abbrev pub CountsAddUp : Type 0
-CountsAddUp =
+abbrev pub ViewCountsAddUp : Type 0
+ViewCountsAddUp =
     (allocEnd : ℕ) (v : View) (r : Root) (m : Marks) → checkTree v ≡ ok (r, m)
     → freeCount allocEnd v + reachedCount allocEnd r + orphanCount allocEnd v r ≡ allocEnd
 
@@ -49,14 +49,14 @@ givenBack y c r = cond (creates c) 0 (tell (clustersBack y) 0 (lookUp r (path c)
 
 -- After an accepted change the card is accepted again; its own path is what the rules say and every other path stays;
 -- the free count is the old one less what was taken, plus what came back.
-pub record Kept (y : Rules) (c : Change) (v w : View) (r : Root) : Type 0 where
+pub record ViewKept (y : Rules) (c : Change) (v w : View) (r : Root) : Type 0 where
   pub again : Accepted y w
   pub paths : (q : Path) → treeOf w q ≡ cond (samePath q (path c)) (standingAfter c (treeOf v q)) (treeOf v q)
   pub room : needed c r ≤ freeOf y v
   pub free : freeOf y w ≡ freeOf y v - needed c r + givenBack y c r
 
-abbrev pub ChangeKeeps : Type 0
-ChangeKeeps = (y : Rules) (v : View) (a : Accepted y v) (c : Change) (w : View) → perform y c v ≡ done w → Kept y c v w (a .root)
+abbrev pub ViewChangeKeeps : Type 0
+ViewChangeKeeps = (y : Rules) (v : View) (a : Accepted y v) (c : Change) (w : View) → perform y c v ≡ done w → ViewKept y c v w (a .root)
 
 -- A change is accepted exactly when it meets no refusal.
 abbrev pub AcceptedExactly : Type 0
@@ -68,22 +68,22 @@ AcceptedExactly =
 -- ---- demand 3
 
 -- Two changes in this order, accepted to its end.
-pub record Order (y : Rules) (v : View) (a b : Change) : Type 0 where
+pub record ViewOrder (y : Rules) (v : View) (a b : Change) : Type 0 where
   pub between : View
   pub final : View
   pub firstDone : perform y a v ≡ done between
   pub thenDone : perform y b between ≡ done final
 
-pub record Commute (y : Rules) (v : View) (a b : Change) : Type 0 where
-  pub tree : (one : Order y v a b) (other : Order y v b a) (q : Path) → treeOf (one .final) q ≡ treeOf (other .final) q
-  pub free : (one : Order y v a b) (other : Order y v b a) → ¬ Crossed a b → freeOf y (one .final) ≡ freeOf y (other .final)
-  pub creations : creates a ≡ true → creates b ≡ true → Order y v a b ↔ Order y v b a
+pub record ViewCommute (y : Rules) (v : View) (a b : Change) : Type 0 where
+  pub tree : (one : ViewOrder y v a b) (other : ViewOrder y v b a) (q : Path) → treeOf (one .final) q ≡ treeOf (other .final) q
+  pub free : (one : ViewOrder y v a b) (other : ViewOrder y v b a) → ¬ Crossed a b → freeOf y (one .final) ≡ freeOf y (other .final)
+  pub creations : creates a ≡ true → creates b ≡ true → ViewOrder y v a b ↔ ViewOrder y v b a
 
 -- Any two changes at different paths, neither a beginning of the other, commute on any accepted card.
-abbrev pub Demand3 : Type 0
-Demand3 =
+abbrev pub ViewDemand3 : Type 0
+ViewDemand3 =
     (y : Rules) (v : View) → Accepted y v → (a b : Change)
-    → beginning (path a) (path b) ≡ false → beginning (path b) (path a) ≡ false → Commute y v a b
+    → beginning (path a) (path b) ≡ false → beginning (path b) (path a) ≡ false → ViewCommute y v a b
 
 -- ---- what is written
 

@@ -44,15 +44,15 @@ abbrev pub laterPages : List ℕ → List ℕ
 laterPages [] = []
 laterPages (p ∷ ps) = ps
 
-abbrev pub pageIn : List ℕ → Tree → Path → ℕ
-pageIn ps end q = 0
-pageIn ps (node h s t) [] = 0
-pageIn ps (node h s t) (n ∷ []) = cond (isNamed h n) (firstPage ps) (pageIn (laterPages ps) t (n ∷ []))
-pageIn ps (node h s t) (n ∷ m ∷ q) = cond (isNamed h n) (pageIn (entryPages h) s (m ∷ q)) (pageIn (laterPages ps) t (n ∷ m ∷ q))
+abbrev pub pageAmong : List ℕ → Tree → Path → ℕ
+pageAmong ps end q = 0
+pageAmong ps (node h s t) [] = 0
+pageAmong ps (node h s t) (n ∷ []) = cond (isNamed h n) (firstPage ps) (pageAmong (laterPages ps) t (n ∷ []))
+pageAmong ps (node h s t) (n ∷ m ∷ q) = cond (isNamed h n) (pageAmong (entryPages h) s (m ∷ q)) (pageAmong (laterPages ps) t (n ∷ m ∷ q))
 
-abbrev pub pageOf : Root → Path → ℕ
-pageOf r [] = 0
-pageOf r (n ∷ q) = pageIn (entryPages (rootSlot r)) (r .slots) (n ∷ q)
+abbrev pub pageAtPath : Root → Path → ℕ
+pageAtPath r [] = 0
+pageAtPath r (n ∷ q) = pageAmong (entryPages (rootSlot r)) (r .slots) (n ∷ q)
 
 -- the lowest dead slot of a directory, or the place after the last one; and the slot of a name; both counted from slot 2
 abbrev pub firstDead : Tree → ℕ

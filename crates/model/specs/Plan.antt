@@ -8,7 +8,7 @@ use lib.ListN.{drop, getD, length, take}
 use Rattle.model.specs.Change.{Change, Rules, create, delete, directoryMode, fileMode, makeDirectory, path, removeDirectory, replace}
 use Rattle.model.specs.Counts.{isFree, totalBelow}
 use Rattle.model.specs.Entry.{Entry, clustersFor, endMark, entryOf}
-use Rattle.model.specs.Lookup.{Found, absent, firstDead, found, indexOf, lookIn, lookUp, pageOf}
+use Rattle.model.specs.Lookup.{Found, absent, firstDead, found, indexOf, lookIn, lookUp, pageAtPath}
 use Rattle.model.specs.Names.{Name, dotDotName, dotName, lastName, parent}
 use Rattle.model.specs.Pages.{dataPages, decoded, entryPage, paddedName, zeroPage}
 use Rattle.model.specs.Tree.{Root, Slot, Tree, entryPages, slotCount, times}
@@ -242,7 +242,7 @@ module _ (y : Rules) where
 
   -- the plan of a change on a card
   abbrev pub planOf : Change → View → Root → Option Plan
-  planOf c v r = planAt c v (pageOf r (parent (path c))) (lookUp r (parent (path c)))
+  planOf c v r = planAt c v (pageAtPath r (parent (path c))) (lookUp r (parent (path c)))
 
 -- ---- the view after it
 

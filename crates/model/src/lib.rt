@@ -1,5 +1,5 @@
 // The model of a card is in specs/. Each claim about it is the contract of a function that does nothing.
-ghost use Rattle.model.specs.Claims.{CheckIsHolding, CountsAddUp, AcceptedExactly, ChangeKeeps, WritesGiveView, Demand3};
+ghost use Rattle.model.specs.Claims.{CheckIsHolding, ViewCountsAddUp, AcceptedExactly, ViewChangeKeeps, WritesGiveView, ViewDemand3};
 ghost use Rattle.model.specs.Bench.{BenchNumbers, RuleNumbers};
 
 // The limits of document 01, each with its one name in code: the largest N, how far below the root a directory may lie, and the most names of a path.
@@ -16,7 +16,7 @@ pub fn check_is_holding()
 
 // Free, reached and orphaned clusters add up to the allocatable ones.
 pub fn counts_add_up()
-    ensures { λ _. ⌜ CountsAddUp ⌝ }
+    ensures { λ _. ⌜ ViewCountsAddUp ⌝ }
 {}
 
 // A change is accepted exactly when it meets no refusal.
@@ -26,7 +26,7 @@ pub fn accepted_exactly()
 
 // After an accepted change the card is accepted again, its own path is what the rules say, and every other path stays.
 pub fn change_keeps()
-    ensures { λ _. ⌜ ChangeKeeps ⌝ }
+    ensures { λ _. ⌜ ViewChangeKeeps ⌝ }
 {}
 
 // The page writes and table words of an accepted change give the view after it.
@@ -36,7 +36,7 @@ pub fn writes_give_view()
 
 // Demand 3: any two changes at paths of which neither is a beginning of the other commute.
 pub fn demand_3()
-    ensures { λ _. ⌜ Demand3 ⌝ }
+    ensures { λ _. ⌜ ViewDemand3 ⌝ }
 {}
 
 // The numbers of the bench card, and of words and times.

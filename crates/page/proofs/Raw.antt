@@ -13,7 +13,7 @@ use Rattle.ecc.specs.declared.Verdict.the-variants.{Good}
 use Rattle.ecc.specs.Code.{codeOf}
 use Rattle.ecc.specs.Judge.{judge, corrected}
 use Rattle.ecc.proofs.Laws.{fresh-good, length-corrected}
-use Rattle.page.specs.Page.{part, chunkOf, storedCode, verdictOf, Placed, joined, isReadable, readRaw, freshCode, codedPage}
+use Rattle.page.specs.Page.{part, chunkOf, storedCode, verdictOf, Placed, correctedData, isReadable, readRaw, freshCode, codedPage}
 use Rattle.page.proofs.Lists.{length-part, part-bytes, append-bytes}
 use Rattle.page.proofs.Chunks.{placed, corrected-bytes}
 
@@ -21,15 +21,15 @@ use Rattle.page.proofs.Chunks.{placed, corrected-bytes}
 pub length-chunk : (page : List ℕ) (v : Verdict) (k : ℕ) → length page ≡ 528 → k < 4 → length (corrected v (chunkOf page k)) ≡ 128
 length-chunk page v k h b = length-corrected v (chunkOf page k) ∙ length-part page (128 * k) 128 (omega arith)
 
-length-joined : (page : List ℕ) (v0 v1 v2 v3 : Verdict) → length page ≡ 528 → length (joined page v0 v1 v2 v3) ≡ 512
-unfolding joined
+length-joined : (page : List ℕ) (v0 v1 v2 v3 : Verdict) → length page ≡ 528 → length (correctedData page v0 v1 v2 v3) ≡ 512
+unfolding correctedData
 length-joined page v0 v1 v2 v3 h =
     simp length-append
     (omega (arith, length-chunk page v0 0 h (omega arith), length-chunk page v1 1 h (omega arith), length-chunk page v2 2 h (omega arith), length-chunk page v3 3 h (omega arith)))
 
 joined-bytes : (page : List ℕ) (v0 v1 v2 v3 : Verdict) → Placed v0 → Placed v1 → Placed v2 → Placed v3 → ((i : ℕ) → getD page i 0 < 256)
-    → (i : ℕ) → getD (joined page v0 v1 v2 v3) i 0 < 256
-unfolding joined
+    → (i : ℕ) → getD (correctedData page v0 v1 v2 v3) i 0 < 256
+unfolding correctedData
 joined-bytes page v0 v1 v2 v3 p0 p1 p2 p3 h =
     let c0 = corrected v0 (chunkOf page 0) in
     let c1 = corrected v1 (chunkOf page 1) in
@@ -40,7 +40,7 @@ joined-bytes page v0 v1 v2 v3 p0 p1 p2 p3 h =
     one : (k : ℕ) (v : Verdict) → Placed v → (i : ℕ) → getD (corrected v (chunkOf page k)) i 0 < 256
     one k v p = corrected-bytes v (chunkOf page k) p (part-bytes page (128 * k) 128 h)
 
-read-is : (page d : List ℕ) → readRaw page ≡ some d → d ≡ joined page (verdictOf page 0) (verdictOf page 1) (verdictOf page 2) (verdictOf page 3)
+read-is : (page d : List ℕ) → readRaw page ≡ some d → d ≡ correctedData page (verdictOf page 0) (verdictOf page 1) (verdictOf page 2) (verdictOf page 3)
 unfolding readRaw
 read-is page d e = go (isReadable (verdictOf page 0) && (isReadable (verdictOf page 1) && (isReadable (verdictOf page 2) && isReadable (verdictOf page 3)))) _ e
   where
@@ -121,7 +121,7 @@ module _ (old bytes : List ℕ) (h : length bytes ≡ 512) where
 
   -- it reads back as it was written
   pub read-coded : readRaw (codedPage old bytes) ≡ some bytes
-  unfolding readRaw joined
+  unfolding readRaw correctedData
   read-coded =
       rw (good 0 (omega arith), good 1 (omega arith), good 2 (omega arith), good 3 (omega arith))
       (ap {B = Option (List ℕ)} some

@@ -57,14 +57,14 @@ Placed CodeBit = Unit {0}
 Placed Unreadable = Unit {0}
 
 -- the data of a raw page, each chunk as its verdict corrects it
-unfoldable pub joined : List ℕ → Verdict → Verdict → Verdict → Verdict → List ℕ
-joined page v0 v1 v2 v3 =
+unfoldable pub correctedData : List ℕ → Verdict → Verdict → Verdict → Verdict → List ℕ
+correctedData page v0 v1 v2 v3 =
     corrected v0 (chunkOf page 0) ++ (corrected v1 (chunkOf page 1) ++ (corrected v2 (chunkOf page 2) ++ corrected v3 (chunkOf page 3)))
 
 -- A page with an unreadable chunk is unreadable. Spare bytes 12 to 15 are ignored.
 abbrev pub dataBy : List ℕ → Verdict → Verdict → Verdict → Verdict → Option (List ℕ)
 dataBy page v0 v1 v2 v3 =
-    cond (isReadable v0 && (isReadable v1 && (isReadable v2 && isReadable v3))) (some (joined page v0 v1 v2 v3)) none
+    cond (isReadable v0 && (isReadable v1 && (isReadable v2 && isReadable v3))) (some (correctedData page v0 v1 v2 v3)) none
 
 unfoldable pub readRaw : List ℕ → Option (List ℕ)
 readRaw page = dataBy page (verdictOf page 0) (verdictOf page 1) (verdictOf page 2) (verdictOf page 3)

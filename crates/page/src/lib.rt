@@ -5,7 +5,7 @@ ghost use mathlib.Core.Path.{_≡_};
 ghost use Prim.Native.Nat.{_+_, _*_, _<_};
 ghost use lib.ListN.{length};
 ghost use Rattle.ecc.specs.Judge.{corrected, flipAt};
-ghost use Rattle.page.specs.Page.{putAt, chunkOf, verdictOf, isReadable, Placed, joined, readRaw, Read, pageAt, freshCode, codedPage, sameBytes, holds, written, rewritten};
+ghost use Rattle.page.specs.Page.{putAt, chunkOf, verdictOf, isReadable, Placed, correctedData, readRaw, Read, pageAt, freshCode, codedPage, sameBytes, holds, written, rewritten};
 ghost use Rattle.page.specs.PageLaws.{PageLaws};
 
 // The verdict on chunk k of a raw page: the chunk is lent as a part of the page, beside its code bytes.
@@ -75,7 +75,7 @@ fn copy_part(page: &[u8], k: usize, verdict: Verdict, out: &mut [u8])
 // The four chunks, each as its verdict corrects it, are written to `out`.
 fn copy_data(page: &[u8], v0: Verdict, v1: Verdict, v2: Verdict, v3: Verdict, out: &mut [u8])
     requires { ⌜ (length (now page) ≡ 528) × (length (now out) ≡ 512) × Placed v0 × Placed v1 × Placed v2 × Placed v3 ⌝ }
-    ensures { λ _. ⌜ now (out .exit) ≡ joined (now (page .entry)) v0 v1 v2 v3 ⌝ }
+    ensures { λ _. ⌜ now (out .exit) ≡ correctedData (now (page .entry)) v0 v1 v2 v3 ⌝ }
 {
     copy_part(page, 0, v0, out);
     copy_part(page, 1, v1, out);

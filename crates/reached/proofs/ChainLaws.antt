@@ -16,7 +16,7 @@ use Rattle.model.specs.Check.{Marks, followChain, mark, marks, prepend}
 use Rattle.model.specs.Entry.{Entry, endMark}
 use Rattle.model.specs.Tree.{times}
 use Rattle.model.specs.View.{Link, View, firstLink, mostClusters, topBit}
-use Rattle.reached.specs.Chain.{broken, chainFrom, chainOf}
+use Rattle.reached.specs.Chain.{broken, chainFrom, chainBehind}
 use Rattle.reached.specs.Marks.{Keeps, marked, withMark}
 use Rattle.reached.specs.Table.{firstLinkOf, tableLinks}
 use Rattle.reached.specs.declared.Chain.{Chain}
@@ -143,10 +143,10 @@ module _ (t : List ℕ) (small : length t ≤ mostClusters) (v : View) (links : 
           (ih (withMark r c) (mark c m) (w - topBit) (keeps-mark r m h c s e)))
 
   -- The chain behind an entry's first cluster, as the model follows it.
-  pub follows : (k first : ℕ) (r : Reached) (m : Marks) → Keeps r m → Follows t r m (followChain v k (firstLinkOf first) m) (chainOf t r first k)
+  pub follows : (k first : ℕ) (r : Reached) (m : Marks) → Keeps r m → Follows t r m (followChain v k (firstLinkOf first) m) (chainBehind t r first k)
   follows k first r m h = go k (eqb first endMark) refl
     where
-      go : (k : ℕ) (b : Bool) → eqb first endMark ≡ b → Follows t r m (followChain v k (cond b Link.last (Link.next first)) m) (chainOf t r first k)
+      go : (k : ℕ) (b : Bool) → eqb first endMark ≡ b → Follows t r m (followChain v k (cond b Link.last (Link.next first)) m) (chainBehind t r first k)
       go zero true e = good-none t r m _ h (chain-none t r first 0 refl ∙ rw e)
       go zero false e = ap (λ (x : Chain). x .sound) (chain-none t r first 0 refl) ∙ e
       go (suc k) true e =
@@ -157,30 +157,30 @@ module _ (t : List ℕ) (small : length t ≤ mostClusters) (v : View) (links : 
 
   -- By cases on the model's answer.
   module _ (k first : ℕ) (r : Reached) (m : Marks) (h : Keeps r m) where
-    pub follow-some : (cs : List ℕ) → followChain v k (firstLinkOf first) m ≡ some cs → ChainGood t r m cs (chainOf t r first k)
+    pub follow-some : (cs : List ℕ) → followChain v k (firstLinkOf first) m ≡ some cs → ChainGood t r m cs (chainBehind t r first k)
     follow-some cs e = go (followChain v k (firstLinkOf first) m) e (follows k first r m h)
       where
-        go : (o : Option (List ℕ)) → o ≡ some cs → Follows t r m o (chainOf t r first k) → ChainGood t r m cs (chainOf t r first k)
+        go : (o : Option (List ℕ)) → o ≡ some cs → Follows t r m o (chainBehind t r first k) → ChainGood t r m cs (chainBehind t r first k)
         go o e f = rw e at f
 
-    pub follow-none : followChain v k (firstLinkOf first) m ≡ none → chainOf t r first k .sound ≡ false
+    pub follow-none : followChain v k (firstLinkOf first) m ≡ none → chainBehind t r first k .sound ≡ false
     follow-none e = go (followChain v k (firstLinkOf first) m) e (follows k first r m h)
       where
-        go : (o : Option (List ℕ)) → o ≡ none → Follows t r m o (chainOf t r first k) → chainOf t r first k .sound ≡ false
+        go : (o : Option (List ℕ)) → o ≡ none → Follows t r m o (chainBehind t r first k) → chainBehind t r first k .sound ≡ false
         go o e f = rw e at f
 
     -- by cases on the code's answer
-    pub sound-some : chainOf t r first k .sound ≡ true → (cs : List ℕ) × (followChain v k (firstLinkOf first) m ≡ some cs) × ChainGood t r m cs (chainOf t r first k)
+    pub sound-some : chainBehind t r first k .sound ≡ true → (cs : List ℕ) × (followChain v k (firstLinkOf first) m ≡ some cs) × ChainGood t r m cs (chainBehind t r first k)
     sound-some e = go (followChain v k (firstLinkOf first) m) refl (follows k first r m h)
       where
-        go : (o : Option (List ℕ)) → followChain v k (firstLinkOf first) m ≡ o → Follows t r m o (chainOf t r first k)
-            → (cs : List ℕ) × (followChain v k (firstLinkOf first) m ≡ some cs) × ChainGood t r m cs (chainOf t r first k)
+        go : (o : Option (List ℕ)) → followChain v k (firstLinkOf first) m ≡ o → Follows t r m o (chainBehind t r first k)
+            → (cs : List ℕ) × (followChain v k (firstLinkOf first) m ≡ some cs) × ChainGood t r m cs (chainBehind t r first k)
         go none q f = tf e f
         go (some cs) q f = (cs, q, f)
 
-    pub broken-none : chainOf t r first k .sound ≡ false → followChain v k (firstLinkOf first) m ≡ none
+    pub broken-none : chainBehind t r first k .sound ≡ false → followChain v k (firstLinkOf first) m ≡ none
     broken-none e = go (followChain v k (firstLinkOf first) m) refl (follows k first r m h)
       where
-        go : (o : Option (List ℕ)) → followChain v k (firstLinkOf first) m ≡ o → Follows t r m o (chainOf t r first k) → followChain v k (firstLinkOf first) m ≡ none
+        go : (o : Option (List ℕ)) → followChain v k (firstLinkOf first) m ≡ o → Follows t r m o (chainBehind t r first k) → followChain v k (firstLinkOf first) m ≡ none
         go none q f = q
         go (some cs) q f = tf (f .sound) e

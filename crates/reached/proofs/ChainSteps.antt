@@ -10,20 +10,20 @@ use lib.Dec.{eqb}
 use lib.ListN.{getD, length}
 use Rattle.model.specs.Entry.{endMark}
 use Rattle.model.specs.View.{topBit}
-use Rattle.reached.specs.Chain.{broken, chainFrom, chainOf, oneCluster}
+use Rattle.reached.specs.Chain.{broken, chainFrom, chainBehind, oneCluster}
 use Rattle.reached.specs.Marks.{marked, withMark}
 use Rattle.reached.specs.declared.Reached.{Reached}
 
 module _ (t : List ℕ) (r : Reached) (c k : ℕ) where
-  pub chain-none : k ≡ 0 → chainOf t r c k ≡ record { sound = eqb c endMark; reached = r }
-  unfolding chainOf
+  pub chain-none : k ≡ 0 → chainBehind t r c k ≡ record { sound = eqb c endMark; reached = r }
+  unfolding chainBehind
   chain-none e = rw e
 
-  pub chain-some : (k ≡ 0 → ⊥) → chainOf t r c k ≡ chainFrom t r c k
-  unfolding chainOf
+  pub chain-some : (k ≡ 0 → ⊥) → chainBehind t r c k ≡ chainFrom t r c k
+  unfolding chainBehind
   chain-some n = go k n
     where
-      go : (k : ℕ) → (k ≡ 0 → ⊥) → chainOf t r c k ≡ chainFrom t r c k
+      go : (k : ℕ) → (k ≡ 0 → ⊥) → chainBehind t r c k ≡ chainFrom t r c k
       go zero n = absurd (n refl)
       go (suc k) n = refl
 

@@ -16,7 +16,7 @@ use Rattle.model.specs.Entry.{endMark}
 use Rattle.model.specs.View.{Link, View, linkOf, topBit}
 use Rattle.reached.specs.Marks.{Keeps, marked, marksOf}
 use Rattle.reached.specs.Table.{tableLinks}
-use Rattle.reached.specs.Totals.{freeAt, freeIn, orphanAt, orphansIn}
+use Rattle.reached.specs.Totals.{freeAt, freeWords, orphanAt, orphansIn}
 use Rattle.reached.specs.declared.Reached.{Reached}
 use Rattle.reached.proofs.MarkLaws.{count-below}
 
@@ -56,7 +56,7 @@ module _ (t : List ℕ) (i : ℕ) (inside : i < length t) where
 
 -- The code's counts are the model's, for a view with that table and a record that keeps the model's marks.
 module _ (t : List ℕ) (v : View) (links : (c : ℕ) → v .link c ≡ tableLinks t c) where
-  pub free-count : freeIn t ≡ freeCount (length t) v
+  pub free-count : freeWords t ≡ freeCount (length t) v
   free-count = total-ext (freeAt t) (λ c. isFree (v .link c)) (length t) (λ c h. rw (links c))
 
   pub orphan-count : (r : Reached) (m : Marks) → Keeps r m → orphansIn t r ≡ totalBelow (λ c. isOrphan (v .link c) (m c)) (length t)

@@ -30,6 +30,6 @@ chainFrom t r c zero = broken r
 chainFrom t r c (suc k) = oneCluster t r c k (chainFrom t (withMark r c) (getD t c 0 - topBit) k)
 
 -- The chain of exactly k clusters behind an entry's first cluster. No clusters at all are sound exactly where that is the end mark.
-unfoldable pub chainOf : List ℕ → Reached → ℕ → ℕ → Chain
-chainOf t r first zero = record { sound = eqb first endMark; reached = r }
-chainOf t r first (suc k) = chainFrom t r first (suc k)
+unfoldable pub chainBehind : List ℕ → Reached → ℕ → ℕ → Chain
+chainBehind t r first zero = record { sound = eqb first endMark; reached = r }
+chainBehind t r first (suc k) = chainFrom t r first (suc k)

@@ -15,8 +15,8 @@ freeAt t c = isFree (tableLinks t c)
 abbrev pub orphanAt : List ℕ → Reached → ℕ → ℕ
 orphanAt t r c = isOrphan (tableLinks t c) (marksOf r c)
 
-abbrev pub freeIn : List ℕ → ℕ
-freeIn t = totalBelow (freeAt t) (length t)
+abbrev pub freeWords : List ℕ → ℕ
+freeWords t = totalBelow (freeAt t) (length t)
 
 abbrev pub orphansIn : List ℕ → Reached → ℕ
 orphansIn t r = totalBelow (orphanAt t r) (length t)

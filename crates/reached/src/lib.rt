@@ -2,8 +2,8 @@
 use model::MOST_CLUSTERS;
 ghost use mathlib.Core.Path.{_≡_};
 ghost use Rattle.reached.specs.Marks.{noMarks, markedIn, marked, withMark};
-ghost use Rattle.reached.specs.Chain.{chainOf};
-ghost use Rattle.reached.specs.Totals.{freeIn, orphansIn};
+ghost use Rattle.reached.specs.Chain.{chainBehind};
+ghost use Rattle.reached.specs.Totals.{freeWords, orphansIn};
 
 // A table word below this is free.
 const TOP_BIT: u32 = 0x8000_0000;
@@ -68,7 +68,7 @@ pub struct Chain {
 // The chain of exactly that many clusters behind an entry's first cluster; the root's begins at cluster 0.
 // The table is the words below alloc_end.
 pub fn walk_chain(table: &[u32], reached: Reached, first: u32, clusters: u32) -> Chain
-    ensures { λ r. ⌜ r ≡ chainOf (now (table .entry)) reached first clusters ⌝ }
+    ensures { λ r. ⌜ r ≡ chainBehind (now (table .entry)) reached first clusters ⌝ }
 {
     if clusters == 0 {
         return Chain {
@@ -118,7 +118,7 @@ pub fn walk_chain(table: &[u32], reached: Reached, first: u32, clusters: u32) ->
 
 // Free: the top bit of the table word is clear.
 pub fn count_free(table: &[u32]) -> usize
-    ensures { λ r. ⌜ r ≡ freeIn (now (table .entry)) ⌝ }
+    ensures { λ r. ⌜ r ≡ freeWords (now (table .entry)) ⌝ }
 {
     let mut n: usize = 0;
     let mut i: usize = 0;

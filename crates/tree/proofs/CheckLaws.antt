@@ -20,7 +20,7 @@ use Rattle.model.specs.Counts.{isOrphan, totalBelow}
 use Rattle.model.specs.Tree.{Root, reached}
 use Rattle.model.specs.View.{View}
 use Rattle.reached.proofs.CountLaws.{free-count, orphan-count, reached-count}
-use Rattle.reached.specs.Totals.{freeIn, orphansIn}
+use Rattle.reached.specs.Totals.{freeWords, orphansIn}
 use Rattle.reached.specs.declared.Reached.{Reached}
 use Rattle.tree.specs.Counted.{checkOf, countsBy, countsIn, superblockIn}
 use Rattle.tree.specs.declared.Counts.{Counts}
@@ -45,7 +45,7 @@ module _ (clusters offset : ℕ) (t image : List ℕ) (q : Reached) where
   same-counts a b c d e f = λ i. record { clusters = c i; free = d i; reached = e i; orphaned = f i }
 
   pub counted-good : (free orphaned : ℕ) → Tells (onImage offset (rootMarks (checkTree (viewBy offset t image)))) verdict.Sound q
-      → free ≡ freeIn t → orphaned ≡ orphansIn t q
+      → free ≡ freeWords t → orphaned ≡ orphansIn t q
       → ok (record { clusters = clusters; free = free; reached = q .count; orphaned = orphaned }) ≡ countsBy clusters offset t image
   unfolding countsBy andThen
   counted-good free orphaned h f o = go (checkTree (viewBy offset t image)) refl h

@@ -19,7 +19,7 @@ use Rattle.page.specs.Page.{Read, isSome, orKept}
 use Rattle.tree.specs.declared.walk.Look.{Look}
 use Rattle.tree.specs.declared.walk.Look.the-variants as look
 use Rattle.tree.specs.Filter.{Knows, hashOf, held, hold}
-use Rattle.tree.specs.Slots.{clusterAt, liveBefore, liveHit, nextOf, slotPage, stepOf}
+use Rattle.tree.specs.Slots.{clusterAt, liveBefore, liveHit, nextOf, slotPage, clusterAfter}
 use Rattle.tree.specs.Walk.{lookBy, lookedAt, pickLook}
 use Rattle.tree.proofs.FilterLaws.{knows-hold, knows-new, knows-skip}
 
@@ -59,7 +59,7 @@ unfolding liveBefore
 before-none v t start n = refl
 
 module _ (v : View) (t : List ℕ) (start : ℕ) where
-  pub cluster-step : (c j x : ℕ) → c ≡ clusterAt t start j → x ≡ stepOf t c j → x ≡ clusterAt t start (j + 1)
+  pub cluster-step : (c j x : ℕ) → c ≡ clusterAt t start j → x ≡ clusterAfter t c j → x ≡ clusterAt t start (j + 1)
   unfolding clusterAt
   cluster-step c j x e f = rw (add-one j, ← e) f
 
@@ -84,10 +84,10 @@ module _ (v : View) (t : List ℕ) (start : ℕ) where
         rw (add-one j) (omega arith)
 
 -- the cluster of the next slot
-pub step-odd : (t : List ℕ) (c k x : ℕ) → k % 2 ≡ 1 → x ≡ nextOf t c → x ≡ stepOf t c k
+pub step-odd : (t : List ℕ) (c k x : ℕ) → k % 2 ≡ 1 → x ≡ nextOf t c → x ≡ clusterAfter t c k
 step-odd t c k x o e = rw (eq-eqb (k % 2) 1 o) e
 
-pub step-even : (t : List ℕ) (c k x : ℕ) → (k % 2 ≡ 1 → ⊥) → x ≡ c → x ≡ stepOf t c k
+pub step-even : (t : List ℕ) (c k x : ℕ) → (k % 2 ≡ 1 → ⊥) → x ≡ c → x ≡ clusterAfter t c k
 step-even t c k x o e = rw (ne-eqb (k % 2) 1 o) e
 
 -- ---- the look

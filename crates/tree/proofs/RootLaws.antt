@@ -18,7 +18,7 @@ use Rattle.model.specs.Tree.{Root, Slot, Tree, entryPages, times}
 use Rattle.model.specs.View.{Link, View, mostClusters}
 use Rattle.reached.proofs.ChainLaws.{broken-none, sound-some}
 use Rattle.reached.proofs.MarkLaws.{keeps-none}
-use Rattle.reached.specs.Chain.{chainOf}
+use Rattle.reached.specs.Chain.{chainBehind}
 use Rattle.reached.specs.Marks.{Sound, marksOf, noMarks}
 use Rattle.reached.specs.Table.{tableLinks}
 use Rattle.reached.specs.declared.Chain.{Chain}
@@ -64,9 +64,9 @@ module _ (v : View) (offset : ℕ) where
       two = leb→le 2 (e .length) (to-T (and-r (isDirectory e && sameName (e .name) dotName) (leb 2 (e .length)) good))
 
       module _ (t : List ℕ) (small : length t ≤ mostClusters) (links : (c : ℕ) → v .link c ≡ tableLinks t c) (k : ℕ) (size : k ≡ directoryClusters e)
-          (start : Reached) (fresh : start ≡ noMarks) (x : Chain) (walked : x ≡ chainOf t start 0 k) where
-        walked-so : x ≡ chainOf t noMarks 0 k
-        walked-so = walked ∙ ap (λ r. chainOf t r 0 k) fresh
+          (start : Reached) (fresh : start ≡ noMarks) (x : Chain) (walked : x ≡ chainBehind t start 0 k) where
+        walked-so : x ≡ chainBehind t noMarks 0 k
+        walked-so = walked ∙ ap (λ r. chainBehind t r 0 k) fresh
 
         pub root-broken : x .sound ≡ false → Tells (onImage offset (rootMarks (checkTree v))) (verdict.Refused is.BadChain) (x .reached)
         unfolding andThen

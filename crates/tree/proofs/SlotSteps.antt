@@ -17,7 +17,7 @@ use Rattle.model.specs.View.{View, firstLink, pagesOf}
 use Rattle.reached.specs.Table.{tableLinks}
 use Rattle.tree.specs.declared.walk.Look.the-variants as look
 use Rattle.tree.specs.Slots.{liveHit, nextOf, slotPages}
-use Rattle.tree.specs.Walk.{entered, insideOf, lookedAt, marksOnly, onChain, pickLook}
+use Rattle.tree.specs.Walk.{enteredLook, insideOf, lookedAt, marksOnly, onChain, pickLook}
 use Rattle.tree.proofs.ChainPages.{directory-pages, follow-chain}
 
 pub fault-ok : {A B : Type 0} (n p : ℕ) (a : A) → _≡_ {A = Result A} (fault n p) (ok a) → B
@@ -154,7 +154,7 @@ module _ (v : View) (t : List ℕ) (links : (c : ℕ) → v .link c ≡ tableLin
   live-in : (b : ℕ) (e : Entry) (file sub new : Bool) → isSubdirectory e ≡ sub
       → onImage off (andThen (cond (file && new) (sound (followChain v (fileClusters e) (firstLink e) m) (λ cs. Slot.file e cs (map (v .page) (pagesOf cs))))
       (cond (sub && ltb 0 b && new) (sound (followChain v (directoryClusters e) (firstLink e) m) (λ cs. Slot.directory e cs)) (fault 7 0))) (λ h. afterEntry v b m h))
-      ≡ entered v off b t m (pickLook new (pickLook file (look.File (e .length) (e .firstCluster)) (pickLook sub (look.Directory (e .length) (e .firstCluster)) look.Bad)) look.Bad)
+      ≡ enteredLook v off b t m (pickLook new (pickLook file (look.File (e .length) (e .firstCluster)) (pickLook sub (look.Directory (e .length) (e .firstCluster)) look.Bad)) look.Bad)
   unfolding andThen
   live-in b e true sub true s = file-in b e (followChain v (fileClusters e) (firstLink e) m)
   live-in zero e false true true s = refl
@@ -171,17 +171,17 @@ module _ (v : View) (t : List ℕ) (links : (c : ℕ) → v .link c ≡ tableLin
   live-in b e false false false s = refl
 
   -- The slot in page p gives what its look leads to.
-  pub enters : (b : ℕ) (seen : Name → ℕ) (p : ℕ) → onImage off (slotMarks v b seen m p) ≡ entered v off b t m (lookedAt seen (2 * off + p) (v .entry p))
+  pub enters : (b : ℕ) (seen : Name → ℕ) (p : ℕ) → onImage off (slotMarks v b seen m p) ≡ enteredLook v off b t m (lookedAt seen (2 * off + p) (v .entry p))
   unfolding andThen
   enters b seen p = go (v .entry p)
     where
       kind : (e : Entry) (l : Bool) → isLive e ≡ l
           → onImage off (andThen (cond l (cond (isFile e && eqb (seen (e .name)) 0) (sound (followChain v (fileClusters e) (firstLink e) m) (λ cs. Slot.file e cs (map (v .page) (pagesOf cs))))
           (cond (isSubdirectory e && ltb 0 b && eqb (seen (e .name)) 0) (sound (followChain v (directoryClusters e) (firstLink e) m) (λ cs. Slot.directory e cs)) (fault 7 0))) (ok Slot.dead)) (λ h. afterEntry v b m h))
-          ≡ entered v off b t m (pickLook l (pickLook (eqb (seen (e .name)) 0) (pickLook (isFile e) (look.File (e .length) (e .firstCluster)) (pickLook (isSubdirectory e) (look.Directory (e .length) (e .firstCluster)) look.Bad)) look.Bad) look.Dead)
+          ≡ enteredLook v off b t m (pickLook l (pickLook (eqb (seen (e .name)) 0) (pickLook (isFile e) (look.File (e .length) (e .firstCluster)) (pickLook (isSubdirectory e) (look.Directory (e .length) (e .firstCluster)) look.Bad)) look.Bad) look.Dead)
       kind e true i = live-in b e (isFile e) (isSubdirectory e) (eqb (seen (e .name)) 0) refl
       kind e false i = dead-in b
 
-      go : (o : Option Entry) → onImage off (andThen (judgeEntry v b seen m p o) (λ h. afterEntry v b m h)) ≡ entered v off b t m (lookedAt seen (2 * off + p) o)
+      go : (o : Option Entry) → onImage off (andThen (judgeEntry v b seen m p o) (λ h. afterEntry v b m h)) ≡ enteredLook v off b t m (lookedAt seen (2 * off + p) o)
       go none = refl
       go (some e) = kind e (isLive e) refl

@@ -18,7 +18,7 @@ use Rattle.model.specs.Tree.{Tree}
 use Rattle.model.specs.View.{View, mostClusters}
 use Rattle.reached.proofs.ChainLaws.{broken-none, sound-some}
 use Rattle.reached.proofs.MarkLaws.{keeps-self}
-use Rattle.reached.specs.Chain.{chainOf}
+use Rattle.reached.specs.Chain.{chainBehind}
 use Rattle.reached.specs.Marks.{Sound, marksOf}
 use Rattle.reached.specs.Table.{firstLinkOf, tableLinks}
 use Rattle.reached.specs.declared.Chain.{Chain}
@@ -27,8 +27,8 @@ use Rattle.tree.specs.declared.walk.Look.{Look}
 use Rattle.tree.specs.declared.walk.Look.the-variants as look
 use Rattle.tree.specs.declared.walk.Verdict.{Verdict}
 use Rattle.tree.specs.declared.walk.Verdict.the-variants as verdict
-use Rattle.tree.specs.Slots.{clusterAt, liveBefore, liveHit, nextOf, slotPage, slotPages, stepOf}
-use Rattle.tree.specs.Walk.{Judges, Tells, entered, insideOf, isSound, lookedAt, marksOnly, onChain}
+use Rattle.tree.specs.Slots.{clusterAt, liveBefore, liveHit, nextOf, slotPage, slotPages, clusterAfter}
+use Rattle.tree.specs.Walk.{Judges, Tells, enteredLook, insideOf, isSound, lookedAt, marksOnly, onChain}
 use Rattle.tree.proofs.SlotSteps.{deeperOf, enters, slotMarks, walk-is, walk-step}
 
 -- ---- the first two entries
@@ -96,30 +96,30 @@ module _ (v : View) (offset below : ℕ) (t : List ℕ) where
 
   pub rest-step : ((c : ℕ) → v .link c ≡ tableLinks t c) → (start c k left : ℕ) (m : Marks) → 0 < left → c ≡ clusterAt t start k
       → rest start c k left m
-      ≡ andThen (entered v offset below t m (lookedAt (liveBefore v t start k) (2 * offset + slotPage c k) (v .entry (slotPage c k)))) (λ n. rest start (stepOf t c k) (k + 1) (left - 1) n)
+      ≡ andThen (enteredLook v offset below t m (lookedAt (liveBefore v t start k) (2 * offset + slotPage c k) (v .entry (slotPage c k)))) (λ n. rest start (clusterAfter t c k) (k + 1) (left - 1) n)
   unfolding slotPages liveBefore
   rest-step links start c k zero m l e = absurd (omega arith)
   rest-step links start c k (suc left) m l e =
-      ap (onImage offset) (walk-step v below (slotPage c k) (slotPages t (stepOf t c k) (suc k) left) (liveBefore v t start k) m)
+      ap (onImage offset) (walk-step v below (slotPage c k) (slotPages t (clusterAfter t c k) (suc k) left) (liveBefore v t start k) m)
       ∙ image-then offset (slotMarks v below (liveBefore v t start k) m (slotPage c k)) _
-      ∙ ap (λ (s : Result Marks). andThen s (λ n. onImage offset (marksOnly (walkSlots v (deeperOf v below) below (slotPages t (stepOf t c k) (suc k) left)
+      ∙ ap (λ (s : Result Marks). andThen s (λ n. onImage offset (marksOnly (walkSlots v (deeperOf v below) below (slotPages t (clusterAfter t c k) (suc k) left)
       (λ x. liveBefore v t start k x + liveHit (v .entry (slotPage c k)) x) n)))) (enters v t links offset m below (liveBefore v t start k) (slotPage c k))
       ∙ rw (add-one k, sub-one (suc left), e)
 
   -- a slot that is refused ends the walk; one that is sound leaves the rest
   module _ (links : (c : ℕ) → v .link c ≡ tableLinks t c) (start c k left : ℕ) (whole : Result Marks) (r : Reached) (w : whole ≡ rest start c k left (marksOf r))
       (l : 0 < left) (here : c ≡ clusterAt t start k) (seen : Look) (f : seen ≡ lookedAt (liveBefore v t start k) (2 * offset + slotPage c k) (v .entry (slotPage c k)))
-      (x : Verdict) (q : Reached) (h : Tells (entered v offset below t (marksOf r) seen) x q) where
-    stepped : whole ≡ andThen (entered v offset below t (marksOf r) seen) (λ n. rest start (stepOf t c k) (k + 1) (left - 1) n)
+      (x : Verdict) (q : Reached) (h : Tells (enteredLook v offset below t (marksOf r) seen) x q) where
+    stepped : whole ≡ andThen (enteredLook v offset below t (marksOf r) seen) (λ n. rest start (clusterAfter t c k) (k + 1) (left - 1) n)
     stepped =
         w ∙ rest-step links start c k left (marksOf r) l here
-        ∙ ap (λ (z : Look). andThen (entered v offset below t (marksOf r) z) (λ n. rest start (stepOf t c k) (k + 1) (left - 1) n)) (sym f)
+        ∙ ap (λ (z : Look). andThen (enteredLook v offset below t (marksOf r) z) (λ n. rest start (clusterAfter t c k) (k + 1) (left - 1) n)) (sym f)
 
     pub slot-stop : isSound x ≡ false → Tells whole x q
-    slot-stop e = tells-stop (entered v offset below t (marksOf r) seen) (λ n. rest start (stepOf t c k) (k + 1) (left - 1) n) whole x q h e stepped
+    slot-stop e = tells-stop (enteredLook v offset below t (marksOf r) seen) (λ n. rest start (clusterAfter t c k) (k + 1) (left - 1) n) whole x q h e stepped
 
-    pub slot-go : isSound x ≡ true → (whole ≡ rest start (stepOf t c k) (k + 1) (left - 1) (marksOf q)) × Sound q
-    slot-go e = tells-go (entered v offset below t (marksOf r) seen) (λ n. rest start (stepOf t c k) (k + 1) (left - 1) n) whole x q h e stepped
+    pub slot-go : isSound x ≡ true → (whole ≡ rest start (clusterAfter t c k) (k + 1) (left - 1) (marksOf q)) × Sound q
+    slot-go e = tells-go (enteredLook v offset below t (marksOf r) seen) (λ n. rest start (clusterAfter t c k) (k + 1) (left - 1) n) whole x q h e stepped
 
   pub slots-done : (start c k left : ℕ) (whole : Result Marks) (r : Reached) → whole ≡ rest start c k left (marksOf r) → left ≡ 0 → Sound r → Tells whole verdict.Sound r
   slots-done start c k left whole r w e s = rw (w ∙ rest-done start c k left (marksOf r) e) (keeps-self r s)
@@ -155,22 +155,22 @@ module _ (v : View) (offset below : ℕ) (t : List ℕ) where
 -- ---- an entry and its chain
 
 module _ (t : List ℕ) (small : length t ≤ mostClusters) (v : View) (links : (c : ℕ) → v .link c ≡ tableLinks t c) (offset : ℕ)
-    (r : Reached) (s : Sound r) (len first k : ℕ) (x : Chain) (e : x ≡ chainOf t r first k) where
+    (r : Reached) (s : Sound r) (len first k : ℕ) (x : Chain) (e : x ≡ chainBehind t r first k) where
   on-none : (o : Option (List ℕ)) (g : List ℕ → Result Marks) → o ≡ none → Tells (onChain o g) (verdict.Refused is.BadChain) (x .reached)
   on-none o g f = rw f (refl, refl)
 
   broken-so : x .sound ≡ false → followChain v k (firstLinkOf first) (marksOf r) ≡ none
   broken-so f = broken-none t small v links k first r (marksOf r) (keeps-self r s) (rw e at f)
 
-  pub file-bad : (below : ℕ) → k ≡ clustersFor len → x .sound ≡ false → Tells (entered v offset below t (marksOf r) (look.File len first)) (verdict.Refused is.BadChain) (x .reached)
+  pub file-bad : (below : ℕ) → k ≡ clustersFor len → x .sound ≡ false → Tells (enteredLook v offset below t (marksOf r) (look.File len first)) (verdict.Refused is.BadChain) (x .reached)
   file-bad below q f = rw (← q) (on-none (followChain v k (firstLinkOf first) (marksOf r)) _ (broken-so f))
 
-  pub file-good : (below : ℕ) → k ≡ clustersFor len → x .sound ≡ true → Tells (entered v offset below t (marksOf r) (look.File len first)) verdict.Sound (x .reached)
+  pub file-good : (below : ℕ) → k ≡ clustersFor len → x .sound ≡ true → Tells (enteredLook v offset below t (marksOf r) (look.File len first)) verdict.Sound (x .reached)
   file-good below q f =
       let g = sound-some t small v links k first r (marksOf r) (keeps-self r s) (rw e at f) in
       rw (← q, g .1, e) (g .2 .keeps)
 
-  pub directory-bad : (below : ℕ) → 0 < below → k ≡ (len + 1) / 2 → x .sound ≡ false → Tells (entered v offset below t (marksOf r) (look.Directory len first)) (verdict.Refused is.BadChain) (x .reached)
+  pub directory-bad : (below : ℕ) → 0 < below → k ≡ (len + 1) / 2 → x .sound ≡ false → Tells (enteredLook v offset below t (marksOf r) (look.Directory len first)) (verdict.Refused is.BadChain) (x .reached)
   directory-bad below b q f = rw (lt-ltb 0 below b, ← q) (on-none (followChain v k (firstLinkOf first) (marksOf r)) _ (broken-so f))
 
   pub directory-sound : x .sound ≡ true → Sound (x .reached)
@@ -178,7 +178,7 @@ module _ (t : List ℕ) (small : length t ≤ mostClusters) (v : View) (links : 
 
   pub directory-good : (below : ℕ) → 0 < below → k ≡ (len + 1) / 2 → x .sound ≡ true → (w : Verdict) (z : Reached)
       → Tells (onImage offset (insideOf v (below - 1) t first len (marksOf (x .reached)))) w z
-      → Tells (entered v offset below t (marksOf r) (look.Directory len first)) w z
+      → Tells (enteredLook v offset below t (marksOf r) (look.Directory len first)) w z
   directory-good below b q f w z h =
       let g = sound-some t small v links k first r (marksOf r) (keeps-self r s) (rw e at f) in
       let m : marks (marksOf r) (g .0) ≡ marksOf (x .reached) = rw e (sym (fun-ext (g .2 .keeps .marks))) in
@@ -186,5 +186,5 @@ module _ (t : List ℕ) (small : length t ≤ mostClusters) (v : View) (links : 
       rw (lt-ltb 0 below b, ← q, g .1, m, p) h
 
 pub directory-deep : (v : View) (offset : ℕ) (t : List ℕ) (r : Reached) (m : Marks) (below len first : ℕ) → below ≡ 0
-    → Tells (entered v offset below t m (look.Directory len first)) (verdict.Refused is.BadEntry) r
+    → Tells (enteredLook v offset below t m (look.Directory len first)) (verdict.Refused is.BadEntry) r
 directory-deep v offset t r m below len first e = rw e (refl, refl)

@@ -15,13 +15,13 @@ abbrev pub nextOf : List ℕ → ℕ → ℕ
 nextOf table c = getD table c 0 - topBit
 
 -- the cluster of the slot after slot k, which lies in cluster c
-abbrev pub stepOf : List ℕ → ℕ → ℕ → ℕ
-stepOf table c k = cond (eqb (k % 2) 1) (nextOf table c) c
+abbrev pub clusterAfter : List ℕ → ℕ → ℕ → ℕ
+clusterAfter table c k = cond (eqb (k % 2) 1) (nextOf table c) c
 
 -- the cluster of slot k of a directory whose slots begin in cluster c, and the slot's page in the view
 unfoldable pub clusterAt : List ℕ → ℕ → ℕ → ℕ
 clusterAt table c zero = c
-clusterAt table c (suc k) = stepOf table (clusterAt table c k) k
+clusterAt table c (suc k) = clusterAfter table (clusterAt table c k) k
 
 abbrev pub slotPage : ℕ → ℕ → ℕ
 slotPage c k = 2 * c + k % 2
@@ -29,7 +29,7 @@ slotPage c k = 2 * c + k % 2
 -- the pages of n slots from slot k on, which lies in cluster c
 unfoldable pub slotPages : List ℕ → ℕ → ℕ → ℕ → List ℕ
 slotPages table c k zero = []
-slotPages table c k (suc n) = slotPage c k ∷ slotPages table (stepOf table c k) (suc k) n
+slotPages table c k (suc n) = slotPage c k ∷ slotPages table (clusterAfter table c k) (suc k) n
 
 -- how often a live entry bears the name: in one page, and in the slots before slot k
 abbrev pub liveHit : Option Entry → Name → ℕ

@@ -69,12 +69,12 @@ unfoldable pub insideOf : View → ℕ → List ℕ → ℕ → ℕ → Marks �
 insideOf v below table first length m =
     marksOnly (andThen (judgeDots v (first ∷ [])) (λ x. walkDirectory v below (slotPages table (nextOf table first) 0 (length - 2)) (λ n. 0) m))
 
-abbrev pub entered : View → ℕ → ℕ → List ℕ → Marks → Look → Result Marks
-entered v offset below table m (look.Unreadable page) = fault 2 page
-entered v offset below table m look.Bad = fault 7 0
-entered v offset below table m look.Dead = ok m
-entered v offset below table m (look.File length first) = onChain (followChain v (clustersFor length) (firstLinkOf first) m) (λ cs. ok (marks m cs))
-entered v offset below table m (look.Directory length first) =
+abbrev pub enteredLook : View → ℕ → ℕ → List ℕ → Marks → Look → Result Marks
+enteredLook v offset below table m (look.Unreadable page) = fault 2 page
+enteredLook v offset below table m look.Bad = fault 7 0
+enteredLook v offset below table m look.Dead = ok m
+enteredLook v offset below table m (look.File length first) = onChain (followChain v (clustersFor length) (firstLinkOf first) m) (λ cs. ok (marks m cs))
+enteredLook v offset below table m (look.Directory length first) =
     cond (ltb 0 below)
     (onChain (followChain v ((length + 1) / 2) (firstLinkOf first) m) (λ cs. onImage offset (insideOf v (pred below) table first length (marks m cs))))
     (fault 7 0)

@@ -15,7 +15,7 @@ ghost use mathlib.Core.Path.{_≡_};
 ghost use Prim.Native.Nat.{_≤_};
 ghost use lib.ListN.{length, take};
 ghost use Rattle.layout.specs.See.{checkImage, onImage, viewBy};
-ghost use Rattle.layout.specs.Table.{openCard, tableAfter, told};
+ghost use Rattle.layout.specs.Table.{openCard, tableAfter, toldOpened};
 ghost use Rattle.model.specs.Check.{checkTree};
 ghost use Rattle.model.specs.View.{mostClusters};
 ghost use Rattle.tree.specs.Counted.{CountsAddUp, checkOf, countsBy, superblockIn, toldCounts};
@@ -90,7 +90,7 @@ fn judge_tree(image: &[u8], table: &[u32], end: usize, offset: u32) -> Verdict
 
 // The whole check, with the superblock and the table for the calls that go on from it. The table has its words from the moment that they are sound.
 pub fn open_checked(image: &[u8], table: &mut [u32; MOST_CLUSTERS]) -> Opened
-    ensures checked { λ r. ⌜ told r ≡ superblockIn (checkImage (now (image .entry))) ⌝ }
+    ensures checked { λ r. ⌜ toldOpened r ≡ superblockIn (checkImage (now (image .entry))) ⌝ }
     ensures loaded { λ _. ⌜ now (table .exit) ≡ tableAfter (now (image .entry)) (openCard (now (image .entry))) (now (table .entry)) ⌝ }
 {
     let opened = open_card(image, table);

@@ -27,7 +27,7 @@ ghost use Rattle.model.specs.View.{mostClusters};
 ghost use Rattle.reached.specs.Marks.{Sound, marksOf};
 ghost use Rattle.tree.specs.Filter.{Knows};
 ghost use Rattle.tree.specs.Slots.{clusterAt, liveBefore, slotPage};
-ghost use Rattle.tree.specs.Walk.{Judges, Tells, entered, insideOf, isSound, lookBy, lookedAt, rootMarks};
+ghost use Rattle.tree.specs.Walk.{Judges, Tells, enteredLook, insideOf, isSound, lookBy, lookedAt, rootMarks};
 
 // How a part of the tree is judged.
 pub(crate) enum Verdict {
@@ -138,7 +138,7 @@ fn walk_entry(
     below: u32,
 ) -> Walked
     requires { ⌜ (length (now table) ≤ mostClusters) × Sound reached ⌝ }
-    ensures { λ r. ⌜ Tells (entered (viewBy offset (now (table .entry)) (now (image .entry))) offset below (now (table .entry)) (marksOf reached) look) (r .verdict) (r .reached) ⌝ }
+    ensures { λ r. ⌜ Tells (enteredLook (viewBy offset (now (table .entry)) (now (image .entry))) offset below (now (table .entry)) (marksOf reached) look) (r .verdict) (r .reached) ⌝ }
 {
     match look {
         Look::Unreadable(page) => Walked {

@@ -4,7 +4,7 @@ use native.Mathlib.Omega.{arith}
 use denote.Ref.{now}
 use Rattle.model.specs.Check.{Result}
 use Rattle.layout.specs.declared.Superblock.{Superblock}
-use Rattle.layout.specs.Table.{told, tableAfter}
+use Rattle.layout.specs.Table.{toldOpened, tableAfter}
 use Rattle.layout.proofs.Geometry.{open-facts}
 use borrow.Author.Needs.{needs}
 use Rattle.layout.proofs.open_card.Statement.{statement}
@@ -18,7 +18,7 @@ enum-known-opened c = search needs
 
 load-table-requires : tie.Need-load-table-requires
 load-table-requires c κs =
-    let e = sym (c .before .before .before .before .judge-card .ensures) ∙ ap told (c .before .before .opened .given .1) in
+    let e = sym (c .before .before .before .before .judge-card .ensures) ∙ ap toldOpened (c .before .before .opened .given .1) in
     let g = open-facts (now (c .before .before .before .before .before .before .args .image)) _ e in
     (e, omega (arith, g .room, g .most))
 
@@ -27,12 +27,12 @@ enum-known-opened-2 c = search needs
 
 returns : tie.Need-returns
 returns c =
-    let e = sym (c .before .before .before .before .before .judge-card .ensures) ∙ ap told (c .before .before .before .opened .given .1) in
+    let e = sym (c .before .before .before .before .before .judge-card .ensures) ∙ ap toldOpened (c .before .before .before .opened .given .1) in
     (sym e, c .load-table .ensures ∙ sym (ap (λ (r : Result Superblock). tableAfter (now (c .before .before .before .before .before .before .before .args .image)) r (now (c .before .before .before .before .before .before .before .args .table))) e))
 
 returns-2 : tie.Need-returns-2
 returns-2 c =
-    let e = sym (c .before .before .before .judge-card .ensures) ∙ ap told (c .before .opened2 .given .1) in
+    let e = sym (c .before .before .before .judge-card .ensures) ∙ ap toldOpened (c .before .opened2 .given .1) in
     (sym e, sym (ap (λ (r : Result Superblock). tableAfter (now (c .before .before .before .before .before .args .image)) r (now (c .before .before .before .before .before .args .table))) e))
 
 pub open-card-spec : {M : Type 1} → statement M

@@ -6,7 +6,7 @@ use native.Mathlib.Omega.{arith}
 use lib.ListN.{length, drop-of-length-le}
 use Rattle.ecc.specs.declared.Verdict.{Verdict}
 use Rattle.ecc.specs.Judge.{corrected}
-use Rattle.page.specs.Page.{putAt, chunkOf, joined}
+use Rattle.page.specs.Page.{putAt, chunkOf, correctedData}
 use Rattle.page.proofs.Lists.{put-four}
 use Rattle.page.proofs.Raw.{length-chunk}
 use borrow.Author.Needs.{needs}
@@ -16,8 +16,8 @@ use Rattle.page.proofs.copy_data.Tie as tie
 copied-all : (page out o1 o2 o3 o4 : List ℕ) (v0 v1 v2 v3 : Verdict) → length page ≡ 528 → length out ≡ 512
     → o1 ≡ putAt out 0 (corrected v0 (chunkOf page 0)) → o2 ≡ putAt o1 128 (corrected v1 (chunkOf page 1))
     → o3 ≡ putAt o2 256 (corrected v2 (chunkOf page 2)) → o4 ≡ putAt o3 384 (corrected v3 (chunkOf page 3))
-    → o4 ≡ joined page v0 v1 v2 v3
-unfolding joined
+    → o4 ≡ correctedData page v0 v1 v2 v3
+unfolding correctedData
 copied-all page out o1 o2 o3 o4 v0 v1 v2 v3 h ho e0 e1 e2 e3 =
     let c0 = corrected v0 (chunkOf page 0) in
     let c1 = corrected v1 (chunkOf page 1) in

@@ -5,7 +5,7 @@ use mathlib.Core.List.{List}
 use mathlib.Core.Option.{none, some}
 use Prim.Native.Nat.{ℕ}
 use Rattle.ecc.specs.declared.Verdict.{Verdict}
-use Rattle.page.specs.Page.{verdictOf, isReadable, Placed, joined, readRaw}
+use Rattle.page.specs.Page.{verdictOf, isReadable, Placed, correctedData, readRaw}
 use Rattle.page.proofs.Chunks.{placed}
 use borrow.Author.Needs.{needs}
 use Rattle.page.proofs.read_raw.Statement.{statement}
@@ -17,10 +17,10 @@ placed-by page k e = subst Placed (sym e) (placed page k)
 read-by : (page : List ℕ) (v0 v1 v2 v3 : Verdict) {r0 r1 r2 r3 b : Bool}
     → v0 ≡ verdictOf page 0 → v1 ≡ verdictOf page 1 → v2 ≡ verdictOf page 2 → v3 ≡ verdictOf page 3
     → r0 ≡ isReadable v0 → r1 ≡ isReadable v1 → r2 ≡ isReadable v2 → r3 ≡ isReadable v3 → (r0 && (r1 && (r2 && r3))) ≡ b
-    → readRaw page ≡ cond b (some (joined page v0 v1 v2 v3)) none
+    → readRaw page ≡ cond b (some (correctedData page v0 v1 v2 v3)) none
 unfolding readRaw
 read-by page v0 v1 v2 v3 {r0} {r1} {r2} {r3} {b} e0 e1 e2 e3 f0 f1 f2 f3 g =
-    sym (ap (λ (x : Bool). cond x (some (joined page v0 v1 v2 v3)) none) (sym g) ∙ rw (f0, f1, f2, f3, e0, e1, e2, e3))
+    sym (ap (λ (x : Bool). cond x (some (correctedData page v0 v1 v2 v3)) none) (sym g) ∙ rw (f0, f1, f2, f3, e0, e1, e2, e3))
 
 judge-part-requires : tie.Need-judge-part-requires
 judge-part-requires c κs = search needs

@@ -1,7 +1,7 @@
 -- Each way out is the definition's; a file that the name leads to gets its new contents.
 use mathlib.Core.Path.{refl}
 use borrow.Author.Needs.{needs}
-use Rattle.change.specs.Calls.{CanReplace, replaced, replacedIn}
+use Rattle.change.specs.Calls.{CanReplace, replacedEntry, replacedIn}
 use Rattle.change.proofs.CallLaws.{says-as}
 use Rattle.change.proofs.EditAnswers.{known-there, on-absent, on-kind, on-there}
 use Rattle.change.proofs.editing.replace_in.Statement.{statement}
@@ -36,7 +36,7 @@ unfolding replacedIn
 returns c =
     let start = c .before .before .before .before .before .before .before .before .before .before in
     let a = start .args in
-    says-as (on-absent (a .s) (a .image .now) (a .table .now) (a .first) (a .page .now) (a .name .now) (c .before .before .enter .ensures) (replaced (a .s) (a .image .now) (a .table .now) (a .at) (a .page .now) (a .time .now) (a .bytes .now)) (c .enum-told .given .1)) (refl, refl)
+    says-as (on-absent (a .s) (a .image .now) (a .table .now) (a .first) (a .page .now) (a .name .now) (c .before .before .enter .ensures) (replacedEntry (a .s) (a .image .now) (a .table .now) (a .at) (a .page .now) (a .time .now) (a .bytes .now)) (c .enum-told .given .1)) (refl, refl)
 
 same-length-3 : tie.Need-same-length-3
 same-length-3 c = search needs
@@ -49,7 +49,7 @@ unfolding replacedIn
 returns-2 c =
     let start = c .before .before .before .before .before .before .before .before .before .before in
     let a = start .args in
-    says-as (on-kind (a .s) (a .image .now) (a .table .now) (a .first) (a .page .now) (a .name .now) (c .before .before .enter .ensures) (replaced (a .s) (a .image .now) (a .table .now) (a .at) (a .page .now) (a .time .now) (a .bytes .now)) (c .enum-told2 .given .1)) (refl, refl)
+    says-as (on-kind (a .s) (a .image .now) (a .table .now) (a .first) (a .page .now) (a .name .now) (c .before .before .enter .ensures) (replacedEntry (a .s) (a .image .now) (a .table .now) (a .at) (a .page .now) (a .time .now) (a .bytes .now)) (c .enum-told2 .given .1)) (refl, refl)
 
 same-length-5 : tie.Need-same-length-5
 same-length-5 c = search needs
@@ -62,7 +62,7 @@ unfolding replacedIn
 returns-3 c =
     let start = c .before .before .before .before .before .before .before .before .before .before .before .before .before .before .before .before .before .before .before in
     let a = start .args in
-    says-as (on-there (a .s) (a .image .now) (a .table .now) (a .first) (a .page .now) (a .name .now) (c .before .before .before .before .before .before .before .before .before .before .before .enter .ensures) (replaced (a .s) (a .image .now) (a .table .now) (a .at) (a .page .now) (a .time .now) (a .bytes .now)) _ (c .before .before .before .before .before .before .before .before .before .enum-told3 .given .1)) (c .before .before .before .before .replace-entry .ensures)
+    says-as (on-there (a .s) (a .image .now) (a .table .now) (a .first) (a .page .now) (a .name .now) (c .before .before .before .before .before .before .before .before .before .before .before .enter .ensures) (replacedEntry (a .s) (a .image .now) (a .table .now) (a .at) (a .page .now) (a .time .now) (a .bytes .now)) _ (c .before .before .before .before .before .before .before .before .before .enum-told3 .given .1)) (c .before .before .before .before .replace-entry .ensures)
 
 pub replace-in-spec : {M : Type 1} → statement M
 replace-in-spec =

@@ -6,9 +6,9 @@ use borrow.Author.Needs.{needs}
 use lib.ListN.{length}
 use Rattle.layout.specs.See.{viewBy}
 use Rattle.tree.proofs.LookLaws.{step-even, step-odd}
-use Rattle.tree.specs.Slots.{slotPages, stepOf}
+use Rattle.tree.specs.Slots.{slotPages, clusterAfter}
 use Rattle.listing.specs.Emit.{most}
-use Rattle.listing.specs.Paths.{pathOf}
+use Rattle.listing.specs.Paths.{pathBytes}
 use Rattle.listing.specs.Render.{slotsText}
 use Rattle.listing.proofs.EmitLaws.{wrote-as, wrote-length, wrote-none}
 use Rattle.listing.proofs.RenderLaws.{Remains, left, left-all, left-none, remains-as, turn-deep, turn-flat}
@@ -42,7 +42,7 @@ calls t = (slot-page-reads.Asked, slot-page-reads.Learnt, list-entry-reads.Asked
 abbrev list-slots-Inv-loop : list-slots-lts.InvT-loop
 list-slots-Inv-loop image table offset out₀ at path start count below next₀ c₀ k₀ out next c k =
     (k ≤ count) × (c < 2 ^ 32) × (next ≤ most) × (length out ≡ length out₀)
-    × Remains out₀ at (slotsText (viewBy offset table image) table below (pathOf path) (slotPages table start 0 count)) out next (left (viewBy offset table image) table below (pathOf path) c k count)
+    × Remains out₀ at (slotsText (viewBy offset table image) table below (pathBytes path) (slotPages table start 0 count)) out next (left (viewBy offset table image) table below (pathBytes path) c k count)
 
 abbrev list-slots-μ-loop : list-slots-lts.MeasureT-loop
 list-slots-μ-loop image table offset out₀ at path start count below next₀ c₀ k₀ out next c k = count - k
@@ -51,7 +51,7 @@ list-slots-loop-holds : (t : ℕ) → list-slots-lts.Need-loop-holds (calls t) (
 list-slots-loop-holds t c =
     let a = c .before .before .before .args in
     let v = viewBy (a .offset) (a .table .now) (a .image .now) in
-    (omega arith, omega arith, omega arith, refl, λ after end w. wrote-as (left-all v (a .table .now) (a .below) (pathOf (a .path)) (a .start) (a .count)) w)
+    (omega arith, omega arith, omega arith, refl, λ after end w. wrote-as (left-all v (a .table .now) (a .below) (pathBytes (a .path)) (a .start) (a .count)) w)
 
 list-slots-slot-page-requires : (t : ℕ) → list-slots-lts.Need-slot-page-requires (calls t) (list-slots-at t) list-slots.Post list-slots-Inv-loop list-slots-μ-loop
 list-slots-slot-page-requires t c κs = search needs
@@ -84,15 +84,15 @@ list-slots-loop-again t c =
     let w = c .before .before .before .before .before .before .before .before .loop in
     let line = c .before .before .before .before .list-entry .ensures .0 in
     let fits : length (w .out) ≤ most = omega arith in
-    let x : c .if2 .c ≡ stepOf t (w .c) (w .k) =
+    let x : c .if2 .c ≡ clusterAfter t (w .c) (w .k) =
     ⊎-elim (λ z. step-odd t (w .c) (w .k) _ (z .0 .taken) (z .2 ∙ z .1 .ensures)) (λ z. step-even t (w .c) (w .k) _ (z .0 .left) (z .1)) (c .if2 .came) in (
       omega arith,
       ⊎-elim (λ z. omega (arith, z .2, z .1 .ensures, c .before .before .before .before .before .before .before .before .before .before .shared-slice-known2 .given (w .c))) (λ z. omega (arith, z .1)) (c .if2 .came),
       ⊎-elim (λ z. omega (arith, z .7, z .3 .ensures .place)) (λ z. omega (arith, z .2, line .place)) (c .before .if1 .came),
       ⊎-elim (λ z. ap length (z .6) ∙ wrote-length (z .3 .ensures) ∙ wrote-length line ∙ w .inv .3) (λ z. ap length (z .1) ∙ wrote-length line ∙ w .inv .3) (c .before .if1 .came),
       ⊎-elim
-          (λ z. remains-as (z .6) (z .7) (turn-deep v t (a .below) (pathOf (a .path)) (w .c) (w .k) (a .count) _ _ (c .before .before .before .before .before .before .before .loop-test .taken) (c .before .before .before .before .before .slot-page .ensures .0) x fits (w .inv .4) line (z .0 .taken) (c .before .before .before .before .list-entry .ensures .1) (z .3 .ensures)))
-          (λ z. remains-as (z .1) (z .2) (turn-flat v t (a .below) (pathOf (a .path)) (w .c) (w .k) (a .count) _ _ (c .before .before .before .before .before .before .before .loop-test .taken) (c .before .before .before .before .before .slot-page .ensures .0) x fits (w .inv .4) line (omega (arith, z .0 .left))))
+          (λ z. remains-as (z .6) (z .7) (turn-deep v t (a .below) (pathBytes (a .path)) (w .c) (w .k) (a .count) _ _ (c .before .before .before .before .before .before .before .loop-test .taken) (c .before .before .before .before .before .slot-page .ensures .0) x fits (w .inv .4) line (z .0 .taken) (c .before .before .before .before .list-entry .ensures .1) (z .3 .ensures)))
+          (λ z. remains-as (z .1) (z .2) (turn-flat v t (a .below) (pathBytes (a .path)) (w .c) (w .k) (a .count) _ _ (c .before .before .before .before .before .before .before .loop-test .taken) (c .before .before .before .before .before .slot-page .ensures .0) x fits (w .inv .4) line (omega (arith, z .0 .left))))
           (c .before .if1 .came),
     )
 
@@ -103,7 +103,7 @@ list-slots-returns : (t : ℕ) → list-slots-lts.Need-returns (calls t) (list-s
 list-slots-returns t c =
     let a = c .before .before .before .before .before .args in
     let w = c .before .loop in
-    w .inv .4 (w .out) (w .next) (wrote-as (sym (left-none (viewBy (a .offset) (a .table .now) (a .image .now)) (a .table .now) (a .below) (pathOf (a .path)) (w .c) (w .k) (a .count) (omega (arith, c .loop-test .left)))) (wrote-none _ _ (w .inv .2)))
+    w .inv .4 (w .out) (w .next) (wrote-as (sym (left-none (viewBy (a .offset) (a .table .now) (a .image .now)) (a .table .now) (a .below) (pathBytes (a .path)) (w .c) (w .k) (a .count) (omega (arith, c .loop-test .left)))) (wrote-none _ _ (w .inv .2)))
 
 pub +list-slots-spec : {M : Type 1} → statement M
 +list-slots-spec = close μ-list-slots λ t. list-slots-lts.spec (calls t)

@@ -7,7 +7,7 @@ use Rattle.layout.specs.See.{viewBy}
 use Rattle.lookup.specs.Descend.{lives}
 use Rattle.lookup.proofs.PageReads.{none-lives, shown-live}
 use Rattle.tree.proofs.LookLaws.{unread, was-read}
-use Rattle.listing.specs.Paths.{pathOf}
+use Rattle.listing.specs.Paths.{pathBytes}
 use Rattle.listing.proofs.EmitLaws.{wrote-as, wrote-none}
 use Rattle.listing.proofs.EntryLaws.{directory-leads, directory-line, file-leads, file-line, leads-nowhere, name-fits, no-line, seen-by}
 use borrow.Author.Needs.{needs}
@@ -22,7 +22,7 @@ returns c =
     let a = c .before .before .before .before .before .before .args in
     let o = viewBy (a .offset) (a .table .now) (a .image .now) .entry (a .page) in
     let quiet : false ≡ lives o = none-lives (unread (c .before .read-slot .ensures) (not-true _ (c .if1 .taken))) in
-    (wrote-as (no-line (pathOf (a .path)) o quiet) (wrote-none _ _ (omega arith)), leads-nowhere (a .table .now) o (a .at) 0 (a .path) quiet)
+    (wrote-as (no-line (pathBytes (a .path)) o quiet) (wrote-none _ _ (omega arith)), leads-nowhere (a .table .now) o (a .at) 0 (a .path) quiet)
 
 is-live-requires : tie.Need-is-live-requires
 is-live-requires c κs = search needs
@@ -32,7 +32,7 @@ returns-2 c =
     let a = c .before .before .before .before .before .before .before .before .before .args in
     let o = viewBy (a .offset) (a .table .now) (a .image .now) .entry (a .page) in
     let quiet : false ≡ lives o = sym (not-true _ (c .if2 .taken)) ∙ shown-live _ (c .before .before .before .before .read-slot .ensures) (not-false _ (c .before .before .before .if1 .left)) (c .before .is-live .ensures) in
-    (wrote-as (no-line (pathOf (a .path)) o quiet) (wrote-none _ _ (omega arith)), leads-nowhere (a .table .now) o (a .at) 0 (a .path) quiet)
+    (wrote-as (no-line (pathBytes (a .path)) o quiet) (wrote-none _ _ (omega arith)), leads-nowhere (a .table .now) o (a .at) 0 (a .path) quiet)
 
 word-at-requires : tie.Need-word-at-requires
 word-at-requires c κs = search needs
@@ -58,7 +58,7 @@ returns-3 : tie.Need-returns-3
 returns-3 c =
     let a = c .before .before .before .before .before .before .before .before .before .before .before .before .before .before .before .before .before .before .before .before .before .args in
     let seen =
-    seen-by (pathOf (a .path)) (a .path .len) (viewBy (a .offset) (a .table .now) (a .image .now) .entry (a .page)) (c .before .before .before .before .before .before .before .before .before .before .before .before .before .before .before .before .read-slot .last .1 .1 .1 .1 .0) _ _ _ (was-read (c .before .before .before .before .before .before .before .before .before .before .before .before .before .before .before .before .read-slot .ensures) (not-false _ (c .before .before .before .before .before .before .before .before .before .before .before .before .before .before .before .if1 .left))) (sym (not-false _ (c .before .before .before .before .before .before .before .before .before .before .before .before .if2 .left)) ∙ c .before .before .before .before .before .before .before .before .before .before .before .before .before .is-live .ensures) (c .before .before .before .before .before .before .before .before .before .before .word-at .ensures) (c .before .before .before .before .before .before .before .before .entry-name .ensures) (c .before .before .before .before .before .before .before .with-name .ensures) in
+    seen-by (pathBytes (a .path)) (a .path .len) (viewBy (a .offset) (a .table .now) (a .image .now) .entry (a .page)) (c .before .before .before .before .before .before .before .before .before .before .before .before .before .before .before .before .read-slot .last .1 .1 .1 .1 .0) _ _ _ (was-read (c .before .before .before .before .before .before .before .before .before .before .before .before .before .before .before .before .read-slot .ensures) (not-false _ (c .before .before .before .before .before .before .before .before .before .before .before .before .before .before .before .if1 .left))) (sym (not-false _ (c .before .before .before .before .before .before .before .before .before .before .before .before .if2 .left)) ∙ c .before .before .before .before .before .before .before .before .before .before .before .before .before .is-live .ensures) (c .before .before .before .before .before .before .before .before .before .before .word-at .ensures) (c .before .before .before .before .before .before .before .before .entry-name .ensures) (c .before .before .before .before .before .before .before .with-name .ensures) in
     let kind = sym (not-true _ (c .before .before .before .before .if3 .taken)) ∙ c .before .before .before .before .before .is-directory .ensures in
     (wrote-as (file-line seen kind) (c .before .before .put-entry .ensures), file-leads seen (a .table .now) (c .before .before .put-entry .result) 0 kind)
 
@@ -82,7 +82,7 @@ returns-4 : tie.Need-returns-4
 returns-4 c =
     let a = c .before .before .before .before .before .before .before .before .before .before .before .before .before .before .before .before .before .before .before .before .before .before .before .before .before .args in
     let seen =
-    seen-by (pathOf (a .path)) (a .path .len) (viewBy (a .offset) (a .table .now) (a .image .now) .entry (a .page)) (c .before .before .before .before .before .before .before .before .before .before .before .before .before .before .before .before .before .before .before .before .read-slot .last .1 .1 .1 .1 .0) _ _ _ (was-read (c .before .before .before .before .before .before .before .before .before .before .before .before .before .before .before .before .before .before .before .before .read-slot .ensures) (not-false _ (c .before .before .before .before .before .before .before .before .before .before .before .before .before .before .before .before .before .before .before .if1 .left))) (sym (not-false _ (c .before .before .before .before .before .before .before .before .before .before .before .before .before .before .before .before .if2 .left)) ∙ c .before .before .before .before .before .before .before .before .before .before .before .before .before .before .before .before .before .is-live .ensures) (c .before .before .before .before .before .before .before .before .before .before .before .before .before .before .word-at .ensures) (c .before .before .before .before .before .before .before .before .before .before .before .before .entry-name .ensures) (c .before .before .before .before .before .before .before .before .before .before .before .with-name .ensures) in
+    seen-by (pathBytes (a .path)) (a .path .len) (viewBy (a .offset) (a .table .now) (a .image .now) .entry (a .page)) (c .before .before .before .before .before .before .before .before .before .before .before .before .before .before .before .before .before .before .before .before .read-slot .last .1 .1 .1 .1 .0) _ _ _ (was-read (c .before .before .before .before .before .before .before .before .before .before .before .before .before .before .before .before .before .before .before .before .read-slot .ensures) (not-false _ (c .before .before .before .before .before .before .before .before .before .before .before .before .before .before .before .before .before .before .before .if1 .left))) (sym (not-false _ (c .before .before .before .before .before .before .before .before .before .before .before .before .before .before .before .before .if2 .left)) ∙ c .before .before .before .before .before .before .before .before .before .before .before .before .before .before .before .before .before .is-live .ensures) (c .before .before .before .before .before .before .before .before .before .before .before .before .before .before .word-at .ensures) (c .before .before .before .before .before .before .before .before .before .before .before .before .entry-name .ensures) (c .before .before .before .before .before .before .before .before .before .before .before .with-name .ensures) in
     let kind = sym (not-false _ (c .before .before .before .before .before .before .before .before .if3 .left)) ∙ c .before .before .before .before .before .before .before .before .before .is-directory .ensures in
     (wrote-as (directory-line seen kind) (c .before .before .before .before .before .before .put-entry2 .ensures), directory-leads seen (a .table .now) (c .before .before .before .before .before .before .put-entry2 .result) _ _ _ kind (c .before .before .word-at2 .ensures) (c .before .next-of .ensures) (c .slots-of .ensures))
 

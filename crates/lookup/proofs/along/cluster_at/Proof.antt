@@ -4,7 +4,7 @@ use mathlib.Core.Path.{_∙_, _≡_}
 use Prim.Native.Nat.{_-_, _<_, _≤_, _^_}
 use native.Mathlib.Omega.{arith}
 use borrow.Author.Needs.{needs}
-use Rattle.tree.specs.Slots.{clusterAt, stepOf}
+use Rattle.tree.specs.Slots.{clusterAt, clusterAfter}
 use Rattle.lookup.proofs.ScanLaws.{cluster-start, cluster-step}
 use Rattle.lookup.proofs.along.cluster_at.Statement.{statement}
 use Rattle.lookup.proofs.along.cluster_at.Tie as tie
@@ -32,7 +32,7 @@ loop-again : tie.Need-loop-again Inv-loop μ-loop
 loop-again c =
     let t = c .before .before .before .before .args .table .now in
     let w = c .before .before .loop in
-    let x : c .if1 .c ≡ stepOf t (w .c) (w .k) =
+    let x : c .if1 .c ≡ clusterAfter t (w .c) (w .k) =
     ⊎-elim (λ v. step-odd t (w .c) (w .k) _ (v .0 .taken) (v .2 ∙ v .1 .ensures)) (λ v. step-even t (w .c) (w .k) _ (v .0 .left) (v .1)) (c .if1 .came) in (
       omega arith,
       ⊎-elim (λ v. omega (arith, v .2, v .1 .ensures, c .before .before .before .shared-slice-known .given (w .c))) (λ v. omega (arith, v .1)) (c .if1 .came),

@@ -6,7 +6,7 @@ use native.Mathlib.Omega.{arith}
 use borrow.Author.Needs.{needs}
 use Rattle.layout.specs.See.{viewBy}
 use Rattle.lookup.specs.Descend.{dying, scan}
-use Rattle.tree.specs.Slots.{slotPages, stepOf}
+use Rattle.tree.specs.Slots.{slotPages, clusterAfter}
 use Rattle.lookup.proofs.ScanLaws.{rest, scan-all, scan-end, scan-here, scan-later}
 use Rattle.lookup.proofs.along.first_dead.Statement.{statement}
 use Rattle.lookup.proofs.along.first_dead.Tie as tie
@@ -48,7 +48,7 @@ loop-again : tie.Need-loop-again Inv-loop μ-loop
 loop-again c =
     let t = c .before .before .before .before .before .before .before .before .args .table .now in
     let w = c .before .before .before .before .before .loop in
-    let x : c .if2 .c ≡ stepOf t (w .c) (w .k) =
+    let x : c .if2 .c ≡ clusterAfter t (w .c) (w .k) =
     ⊎-elim (λ v. step-odd t (w .c) (w .k) _ (v .0 .taken) (v .2 ∙ v .1 .ensures)) (λ v. step-even t (w .c) (w .k) _ (v .0 .left) (v .1)) (c .if2 .came) in (
       omega arith,
       ⊎-elim (λ v. omega (arith, v .2, v .1 .ensures, c .before .before .before .before .before .before .shared-slice-known2 .given (w .c))) (λ v. omega (arith, v .1)) (c .if2 .came),

@@ -1,6 +1,6 @@
 -- `lookup::finding::find_with` meets its contract: what the check refuses is refused, any other card is asked.
 use mathlib.Core.Path.{_∙_, ap, sym}
-use Rattle.layout.specs.Table.{told}
+use Rattle.layout.specs.Table.{toldOpened}
 use Rattle.lookup.specs.Find.{findIn}
 use Rattle.lookup.proofs.AnswerLaws.{find-refused}
 use Rattle.lookup.proofs.CardLaws.{accepted, call-accepted, call-refused, words-fit, words-hold}
@@ -25,19 +25,19 @@ cast-find-words c = search needs
 
 find-words-requires : tie.Need-find-words-requires
 find-words-requires c κs =
-    words-fit (c .before .before .before .before .before .before .before .before .before .before .args .image .now) (c .before .before .before .before .opened2 .given .0 .0) (sym (ap told (c .before .before .before .before .opened2 .given .1)) ∙ c .before .before .before .before .before .before .open-checked .ensures .0) _ _ (c .before .before .before .before .before .before .open-checked .ensures .1)
+    words-fit (c .before .before .before .before .before .before .before .before .before .before .args .image .now) (c .before .before .before .before .opened2 .given .0 .0) (sym (ap toldOpened (c .before .before .before .before .opened2 .given .1)) ∙ c .before .before .before .before .before .before .open-checked .ensures .0) _ _ (c .before .before .before .before .before .before .open-checked .ensures .1)
 
 returns : tie.Need-returns
 returns c =
     find-refused _ (c .before .before .opened .given .0 .0) _
-    (call-refused (c .before .before .before .before .before .before .before .before .args .image .now) (c .before .before .before .before .before .before .before .before .args .path .now) (λ s. findIn) _ _ (sym (ap told (c .before .before .opened .given .1)) ∙ c .before .before .before .before .open-checked .ensures .0))
+    (call-refused (c .before .before .before .before .before .before .before .before .args .image .now) (c .before .before .before .before .before .before .before .before .args .path .now) (λ s. findIn) _ _ (sym (ap toldOpened (c .before .before .opened .given .1)) ∙ c .before .before .before .before .open-checked .ensures .0))
     (c .no-entry .ensures)
 
 returns-2 : tie.Need-returns-2
 returns-2 c =
-    let y = accepted (c .before .before .before .before .before .before .before .before .before .before .before .args .image .now) (c .before .before .before .before .before .opened2 .given .0 .0) (sym (ap told (c .before .before .before .before .before .opened2 .given .1)) ∙ c .before .before .before .before .before .before .before .open-checked .ensures .0) in
+    let y = accepted (c .before .before .before .before .before .before .before .before .before .before .before .args .image .now) (c .before .before .before .before .before .opened2 .given .0 .0) (sym (ap toldOpened (c .before .before .before .before .before .opened2 .given .1)) ∙ c .before .before .before .before .before .before .before .open-checked .ensures .0) in
     rw (call-accepted (c .before .before .before .before .before .before .before .before .before .before .before .args .image .now) (c .before .before .before .before .before .before .before .before .before .before .before .args .path .now) (λ s. findIn) (c .before .before .before .before .before .opened2 .given .0 .0) (y .root) (y .marks) (y .checked))
-    (c .find-words .ensures (y .root) (words-hold (c .before .before .before .before .before .before .before .before .before .before .before .args .image .now) (c .before .before .before .before .before .opened2 .given .0 .0) (sym (ap told (c .before .before .before .before .before .opened2 .given .1)) ∙ c .before .before .before .before .before .before .before .open-checked .ensures .0) _ _ (c .before .before .before .before .before .before .before .open-checked .ensures .1)))
+    (c .find-words .ensures (y .root) (words-hold (c .before .before .before .before .before .before .before .before .before .before .before .args .image .now) (c .before .before .before .before .before .opened2 .given .0 .0) (sym (ap toldOpened (c .before .before .before .before .before .opened2 .given .1)) ∙ c .before .before .before .before .before .before .before .open-checked .ensures .0) _ _ (c .before .before .before .before .before .before .before .open-checked .ensures .1)))
 
 pub find-with-spec : {M : Type 1} → statement M
 find-with-spec =

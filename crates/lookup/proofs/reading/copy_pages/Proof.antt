@@ -8,8 +8,8 @@ use lib.ListN.{length}
 use lib.Seq.{sets}
 use Rattle.layout.specs.See.{viewBy}
 use Rattle.model.specs.Bytes.{slice}
-use Rattle.lookup.specs.Descend.{joined, pagesFor, scan, unread}
-use Rattle.tree.specs.Slots.{slotPages, stepOf}
+use Rattle.lookup.specs.Descend.{dataAlong, pagesFor, scan, unread}
+use Rattle.tree.specs.Slots.{slotPages, clusterAfter}
 use Rattle.lookup.specs.declared.along.Place.the-variants.{Nowhere}
 use Rattle.lookup.proofs.PageReads.{view-sized}
 use Rattle.lookup.proofs.PagesLaws.{copy-end, copy-more, copy-step}
@@ -21,8 +21,8 @@ abbrev Inv-loop : tie.InvT-loop
 Inv-loop image table offset start low skip count out₀ c₀ k₀ from₀ done₀ out c k from done =
     (length out ≡ length out₀) × (done ≤ count) × (from < 512) × (c < 2 ^ 32) × (k + pagesFor from (count - done) < 4294967296)
     × (scan (unread (viewBy offset table image)) (slotPages table c k (pagesFor from (count - done))) k ≡ Nowhere)
-    × (sets out done (slice (joined (viewBy offset table image) (slotPages table c k (pagesFor from (count - done)))) from (count - done))
-    ≡ sets out₀ 0 (slice (joined (viewBy offset table image) (slotPages table start low (pagesFor skip count))) skip count))
+    × (sets out done (slice (dataAlong (viewBy offset table image) (slotPages table c k (pagesFor from (count - done)))) from (count - done))
+    ≡ sets out₀ 0 (slice (dataAlong (viewBy offset table image) (slotPages table start low (pagesFor skip count))) skip count))
 
 abbrev μ-loop : tie.MeasureT-loop
 μ-loop image table offset start low skip count out₀ c₀ k₀ from₀ done₀ out c k from done = count - done
@@ -70,7 +70,7 @@ loop-again c =
     let w = c .before .before .before .before .before .before .before .before .before .before .before .loop in
     let n = c .before .before .before .before .before .before .piece-of .result in
     let count = (c .before .before .before .before .before .before .before .before .before .before .before .before .before .before .before .args .count) in
-    let x : c .if1 .c ≡ stepOf t (w .c) (w .k) =
+    let x : c .if1 .c ≡ clusterAfter t (w .c) (w .k) =
     ⊎-elim (λ v. step-odd t (w .c) (w .k) _ (v .0 .taken) (v .2 ∙ v .1 .ensures)) (λ v. step-even t (w .c) (w .k) _ (v .0 .left) (v .1)) (c .if1 .came) in
     let s = copy-step (viewBy (c .before .before .before .before .before .before .before .before .before .before .before .before .before .before .before .args .offset) (c .before .before .before .before .before .before .before .before .before .before .before .before .before .before .before .args .table .now) (c .before .before .before .before .before .before .before .before .before .before .before .before .before .before .before .args .image .now)) (view-sized _ _ _) t (w .c) (w .k) (w .from) (count - w .done) n (c .if1 .c) _ (count - (w .done + n)) (w .inv .2) (omega (arith, c .before .before .before .before .before .before .before .before .before .before .loop-test .taken)) (c .before .before .before .before .before .before .piece-of .ensures) x (c .before .before .before .before .before .before .before .before .before .slot-page .ensures .0) (omega arith) (w .inv .5) (c .before .before .before .before .before .before .before .read-slot .ensures) in (
       search needs,
@@ -87,7 +87,7 @@ same-length c = search needs
 
 returns : tie.Need-returns Inv-loop μ-loop
 returns c =
-    copy-end (joined (viewBy (c .before .before .before .before .before .args .offset) (c .before .before .before .before .before .args .table .now) (c .before .before .before .before .before .args .image .now)) (slotPages (c .before .before .before .before .before .args .table .now) (c .before .loop .c) (c .before .loop .k) (pagesFor (c .before .loop .from) ((c .before .before .before .before .before .args .count) - c .before .loop .done)))) (c .before .loop .out) (c .before .loop .done) (c .before .loop .from) ((c .before .before .before .before .before .args .count) - c .before .loop .done) (omega arith) ∙ c .before .loop .inv .6
+    copy-end (dataAlong (viewBy (c .before .before .before .before .before .args .offset) (c .before .before .before .before .before .args .table .now) (c .before .before .before .before .before .args .image .now)) (slotPages (c .before .before .before .before .before .args .table .now) (c .before .loop .c) (c .before .loop .k) (pagesFor (c .before .loop .from) ((c .before .before .before .before .before .args .count) - c .before .loop .done)))) (c .before .loop .out) (c .before .loop .done) (c .before .loop .from) ((c .before .before .before .before .before .args .count) - c .before .loop .done) (omega arith) ∙ c .before .loop .inv .6
 
 pub copy-pages-spec : {M : Type 1} → statement M
 copy-pages-spec =

@@ -2,7 +2,7 @@
 use mathlib.Core.Path.{_∙_, ap, sym}
 use lib.ListN.{length}
 use Rattle.layout.specs.See.{onImage}
-use Rattle.layout.specs.Table.{told}
+use Rattle.layout.specs.Table.{toldOpened}
 use Rattle.lookup.specs.Read.{readIn}
 use Rattle.lookup.proofs.CardLaws.{accepted, read-accepted, call-refused, read-unopened, words-fit, words-hold}
 use borrow.Author.Needs.{needs}
@@ -23,21 +23,21 @@ cast-read-words c = search needs
 
 read-words-requires : tie.Need-read-words-requires
 read-words-requires c κs =
-    words-fit (c .before .before .before .before .before .before .before .before .before .before .before .before .args .image .now) (c .before .before .before .before .before .opened2 .given .0 .0) (sym (ap told (c .before .before .before .before .before .opened2 .given .1)) ∙ c .before .before .before .before .before .before .before .open-checked .ensures .0) _ _ (c .before .before .before .before .before .before .before .open-checked .ensures .1)
+    words-fit (c .before .before .before .before .before .before .before .before .before .before .before .before .args .image .now) (c .before .before .before .before .before .opened2 .given .0 .0) (sym (ap toldOpened (c .before .before .before .before .before .opened2 .given .1)) ∙ c .before .before .before .before .before .before .before .open-checked .ensures .0) _ _ (c .before .before .before .before .before .before .before .open-checked .ensures .1)
 
 returns : tie.Need-returns
 returns c =
     read-unopened _ (c .before .opened .given .0 .0) _
-    (call-refused (c .before .before .before .before .before .before .before .before .args .image .now) (c .before .before .before .before .before .before .before .before .args .path .now) (λ s root path. onImage (s .offset) (readIn root path (c .before .before .before .before .before .before .before .before .args .from) (length (c .before .before .before .before .before .before .before .before .args .out .now)))) _ _ (sym (ap told (c .before .opened .given .1)) ∙ c .before .before .before .open-checked .ensures .0))
+    (call-refused (c .before .before .before .before .before .before .before .before .args .image .now) (c .before .before .before .before .before .before .before .before .args .path .now) (λ s root path. onImage (s .offset) (readIn root path (c .before .before .before .before .before .before .before .before .args .from) (length (c .before .before .before .before .before .before .before .before .args .out .now)))) _ _ (sym (ap toldOpened (c .before .opened .given .1)) ∙ c .before .before .before .open-checked .ensures .0))
 
 same-length : tie.Need-same-length
 same-length c = search needs
 
 returns-2 : tie.Need-returns-2
 returns-2 c =
-    let y = accepted (c .before .before .before .before .before .before .before .before .before .before .before .before .before .before .before .args .image .now) (c .before .before .before .before .before .before .before .before .opened2 .given .0 .0) (sym (ap told (c .before .before .before .before .before .before .before .before .opened2 .given .1)) ∙ c .before .before .before .before .before .before .before .before .before .before .open-checked .ensures .0) in
+    let y = accepted (c .before .before .before .before .before .before .before .before .before .before .before .before .before .before .before .args .image .now) (c .before .before .before .before .before .before .before .before .opened2 .given .0 .0) (sym (ap toldOpened (c .before .before .before .before .before .before .before .before .opened2 .given .1)) ∙ c .before .before .before .before .before .before .before .before .before .before .open-checked .ensures .0) in
     rw (read-accepted (c .before .before .before .before .before .before .before .before .before .before .before .before .before .before .before .args .image .now) (c .before .before .before .before .before .before .before .before .before .before .before .before .before .before .before .args .path .now) (c .before .before .before .before .before .before .before .before .before .before .before .before .before .before .before .args .from) (length (c .before .before .before .before .before .before .before .before .before .before .before .before .before .before .before .args .out .now)) (c .before .before .before .before .before .before .before .before .opened2 .given .0 .0) (y .root) (y .marks) (y .checked))
-    (c .before .before .read-words .ensures (y .root) (words-hold (c .before .before .before .before .before .before .before .before .before .before .before .before .before .before .before .args .image .now) (c .before .before .before .before .before .before .before .before .opened2 .given .0 .0) (sym (ap told (c .before .before .before .before .before .before .before .before .opened2 .given .1)) ∙ c .before .before .before .before .before .before .before .before .before .before .open-checked .ensures .0) _ _ (c .before .before .before .before .before .before .before .before .before .before .open-checked .ensures .1)))
+    (c .before .before .read-words .ensures (y .root) (words-hold (c .before .before .before .before .before .before .before .before .before .before .before .before .before .before .before .args .image .now) (c .before .before .before .before .before .before .before .before .opened2 .given .0 .0) (sym (ap toldOpened (c .before .before .before .before .before .before .before .before .opened2 .given .1)) ∙ c .before .before .before .before .before .before .before .before .before .before .open-checked .ensures .0) _ _ (c .before .before .before .before .before .before .before .before .before .before .open-checked .ensures .1)))
 
 pub read-with-spec : {M : Type 1} → statement M
 read-with-spec =

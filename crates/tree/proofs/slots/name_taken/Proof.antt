@@ -6,7 +6,7 @@ use native.Mathlib.Omega.{arith}
 use borrow.Author.Needs.{needs}
 use Rattle.layout.specs.See.{viewBy}
 use Rattle.model.specs.Entry.{entryOf}
-use Rattle.tree.specs.Slots.{clusterAt, liveBefore, stepOf}
+use Rattle.tree.specs.Slots.{clusterAt, liveBefore, clusterAfter}
 use Rattle.tree.proofs.LookLaws.{before-none, cluster-start, cluster-step, step-even, step-odd, taken-here, taken-later}
 use Rattle.tree.proofs.slots.name_taken.Statement.{statement}
 use Rattle.tree.proofs.slots.name_taken.Tie as tie
@@ -44,7 +44,7 @@ loop-again : tie.Need-loop-again Inv-loop μ-loop
 loop-again c =
     let t = c .before .before .before .before .before .before .before .before .args .table .now in
     let w = c .before .before .before .before .before .loop in
-    let x : c .if2 .c ≡ stepOf t (w .c) (w .j) =
+    let x : c .if2 .c ≡ clusterAfter t (w .c) (w .j) =
     ⊎-elim (λ v. step-odd t (w .c) (w .j) _ (v .0 .taken) (v .2 ∙ v .1 .ensures)) (λ v. step-even t (w .c) (w .j) _ (v .0 .left) (v .1)) (c .if2 .came) in (
       omega arith,
       cluster-step (viewBy (c .before .before .before .before .before .before .before .before .args .offset) t (c .before .before .before .before .before .before .before .before .args .image .now)) t (c .before .before .before .before .before .before .before .before .args .start) (w .c) (w .j) _ (w .inv .1) x,

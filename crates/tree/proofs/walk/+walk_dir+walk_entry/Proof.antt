@@ -9,7 +9,7 @@ use Rattle.layout.specs.See.{onImage, viewBy}
 use Rattle.reached.proofs.MarkLaws.{keeps-self}
 use Rattle.reached.specs.Marks.{Sound, marksOf}
 use Rattle.tree.specs.Filter.{Knows}
-use Rattle.tree.specs.Slots.{clusterAt, stepOf}
+use Rattle.tree.specs.Slots.{clusterAt, clusterAfter}
 use Rattle.tree.specs.Walk.{insideOf}
 use Rattle.tree.proofs.FilterLaws.{knows-none}
 use Rattle.tree.proofs.LookLaws.{cluster-start, cluster-step, step-even, step-odd}
@@ -132,7 +132,7 @@ walk-dir-loop-again t c =
     let tb = a .table .now in
     let v = viewBy (a .offset) tb (a .image .now) in
     let w = c .before .before .before .before .before .before .before .before .loop in
-    let x : c .if3 .c ≡ stepOf tb (w .c) (w .k) =
+    let x : c .if3 .c ≡ clusterAfter tb (w .c) (w .k) =
     ⊎-elim (λ z. step-odd tb (w .c) (w .k) _ (z .0 .taken) (z .2 ∙ z .1 .ensures)) (λ z. step-even tb (w .c) (w .k) _ (z .0 .left) (z .1)) (c .if3 .came) in
     let g = slot-go v (a .offset) (a .below) tb (λ n. refl) (c .before .before .before .before .before .before .before .before .before .before .next-of .result) (w .c) (w .k) (w .left) _ (w .r) (w .inv .0) (c .before .before .before .before .before .before .before .loop-test .taken) (w .inv .1) (c .before .before .before .before .before .look-at .result) (c .before .before .before .before .before .look-at .ensures .0) _ _ (c .before .before .before .before .walk-entry .ensures) (sym (c .before .before .before .is-sound2 .ensures) ∙ not-false _ (c .before .before .if2 .left)) in (
       rw x (g .0),
