@@ -19,6 +19,7 @@ pub mod Operations
 pub mod ChangeOperations
 pub mod AbstractCards
 pub mod SlotOfName
+pub mod NewEntries
 pub mod PlanActs
 pub mod Directories
 pub mod NewClusters

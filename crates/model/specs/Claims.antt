@@ -42,7 +42,7 @@ ViewCountsAddUp =
 
 -- the clusters that come back where a node of the tree goes
 abbrev pub clustersBack : Rules → Slot → Tree → ℕ
-clustersBack y h s = returned (y .allocEnd) (y .mayTake) (chainOf h)
+clustersBack y h s = returned y (chainOf h)
 
 abbrev pub givenBack : Rules → Change → Root → ℕ
 givenBack y c r = cond (creates c) 0 (tell (clustersBack y) 0 (lookUp r (path c)))
