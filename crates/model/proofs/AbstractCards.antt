@@ -1,4 +1,4 @@
--- The five changes on a view of a card.
+-- The abstract card of a view: what stands at each path, the room of each directory, and the free count.
 use mathlib.Core.Option.{none}
 use Rattle.model.specs.Change.{Rules}
 use Rattle.model.specs.Counts.{isFree, totalBelow}

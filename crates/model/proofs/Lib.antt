@@ -4,6 +4,7 @@ pub mod Slices
 pub mod Fields
 pub mod PageBytes
 pub mod Frame
+pub mod Chains
 pub mod CheckHolds
 pub mod CountLaws
 pub mod Allocation

@@ -11,7 +11,7 @@ use lib.ListN.{length}
 use Rattle.model.specs.Change.{Change, Rules, path}
 use Rattle.model.specs.Entry.{Entry, clustersFor}
 use Rattle.model.specs.Holds.{HoldsCard, HoldsSlot, UniqueNames, deepest}
-use Rattle.model.specs.Lookup.{Found, absent, firstDead, found, indexOf, isNamed, lookIn, pageAtPath, tell}
+use Rattle.model.specs.Lookup.{Found, absent, firstDead, found, indexOf, isNamed, lookIn, tell}
 use Rattle.model.specs.Names.{Name, Path, goodName, lastName, parent, sameName}
 use Rattle.model.specs.Plan.{Filling, Plan, adding, after, altering, firstOf, freeClusters, growthClusters, growthWithOne, lengthWithOne, made, newContents, newDirectory, newFile, ownClusters, planOf, removal, returned}
 use Rattle.model.specs.Standing.{standing}

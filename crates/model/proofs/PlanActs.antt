@@ -14,7 +14,7 @@ use Rattle.model.specs.Entry.{Entry, endMark}
 use Rattle.model.specs.Holds.{HoldsCard, HoldsSlot}
 use Rattle.model.specs.Lookup.{absent, isNamed, lookFrom, lookIn, tell}
 use Rattle.model.specs.Names.{Name, Path, parent, sameName, samePath}
-use Rattle.model.specs.Plan.{Directory, Edit, Plan, after, firstOf, freeBelow, freeClusters, growthClusters, linkTo, made, ownClusters, returned, takeable, withLength}
+use Rattle.model.specs.Plan.{Directory, Edit, Plan, after, firstOf, freeClusters, growthClusters, linkTo, made, ownClusters, returned, takeable, withLength}
 use Rattle.model.specs.Standing.{standing}
 use Rattle.model.specs.Tree.{Root, Slot, Tree, deadHit, deadSlots, end, entryPages, nameUses, reached, rootSlot, times}
 use Rattle.model.specs.View.{Link, View}

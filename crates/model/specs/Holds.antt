@@ -18,7 +18,7 @@ deepest = 3
 abbrev pub mostNames : ℕ
 mostNames = suc deepest
 
--- The clusters are a chain behind a link: each is not free, for a link leads on from it, and the end mark stands at the last.
+-- The clusters are a chain behind a link: each word leads to the next cluster, and the end mark stands at the last. So none is free.
 abbrev pub Chain : View → Link → List ℕ → Type 0
 Chain v l [] = l ≡ Link.last
 Chain v l (c ∷ cs) = (l ≡ Link.next c) × Chain v (v .link c) cs
