@@ -1,6 +1,6 @@
 -- The pages that the code writes for an entry that stands are those of the model's plan.
 use Prim.Native.Nat.{ℕ}
-use mathlib.Core.Bool.{false, true}
+use mathlib.Core.Bool.{false}
 use mathlib.Core.List.{List, [], _++_, _∷_, append-nil}
 use mathlib.Core.Option.{some}
 use mathlib.Core.Path.{_∙_, _≡_, ap, ap₂, refl, sym}

@@ -1,25 +1,23 @@
 -- The pages that an accepted change writes: each lies in the allocatable clusters, has 512 bytes and reads back as its entry.
-use Prim.Native.Nat.{ℕ, zero, suc, _+_, _*_, _/_, _^_, _<_, _≤_}
+use Prim.Native.Nat.{ℕ, _+_, _*_, _/_, _^_, _<_, _≤_}
 use mathlib.Core.Bool.{Bool, _&&_, cond, false, true}
 use mathlib.Core.List.{List, [], _++_, _∷_, map}
 use mathlib.Core.Option.{Option, none, some}
 use mathlib.Core.Path.{_∙_, _≡_, ap, ap₂, fun-ext, refl, subst, sym}
 use native.Mathlib.Decide.{decLt}
 use native.Mathlib.Omega.{arith}
-use borrow.Author.Tests.{eqb-true, ltb-true}
+use borrow.Author.Tests.{ltb-true}
 use lib.Dec.{eqb, ltb}
 use lib.ListN.{drop, length, length-drop, take}
 use lib.Seq.{length-take-le}
 use Rattle.lookup.proofs.EnterLaws.{some-same}
 use Rattle.model.specs.Bytes.{little}
 use Rattle.model.specs.Change.{Rules}
-use Rattle.model.specs.Counts.{totalBelow}
 use Rattle.model.specs.Entry.{Entry, entryOf}
 use Rattle.model.specs.Holds.{HoldsCard}
 use Rattle.model.specs.Names.{Name, goodName, legalBytes}
 use Rattle.model.specs.Pages.{decoded, entryPage, zeroCluster}
 use Rattle.model.specs.Plan.{Filling, Plan, after, directoryAfter, firstOf, killed, newContents, newDirectory, newFile, setAll}
-use Rattle.model.specs.Time.{validTime}
 use Rattle.model.specs.Tree.{Root, reached, times}
 use Rattle.model.specs.View.{Link, View, pagesOf}
 use Rattle.model.specs.Writes.{clusterWrites, directoryWrite, pageWrites, slotWrite}
@@ -30,7 +28,6 @@ use Rattle.model.proofs.Frame.{hit-self, times-pages}
 use Rattle.model.proofs.Outcome.{Deed, Work}
 use Rattle.model.proofs.NewEntries.{eight-bytes, few, first-fits, whole}
 use Rattle.model.proofs.PageBytes.{Alters, Fit, Full, Whole, entry-altered, entry-new, full-data, length-altered, length-new, length-zero}
-use Rattle.model.proofs.SlotOfName.{total-times}
 use Rattle.change.specs.Image.{Lands}
 use Rattle.change.proofs.PageWrites.{lands-append}
 

@@ -1,6 +1,6 @@
 -- Which refusal a change meets whose directory was found: what stands at its last name, then room.
 use Prim.Native.Nat.{ℕ, _+_}
-use mathlib.Core.Bool.{cond, true}
+use mathlib.Core.Bool.{cond}
 use mathlib.Core.List.{List, [], _∷_}
 use mathlib.Core.Path.{_∙_, _≡_, ap, ap₂, sym}
 use lib.Dec.{leb}
