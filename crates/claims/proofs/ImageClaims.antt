@@ -12,7 +12,7 @@ use Rattle.change.specs.Changed.{changed, changedBy, decided, outcomeWith, rule
 use Rattle.ecc.proofs.Numbers.{code-numbers}
 use Rattle.layout.specs.declared.Superblock.{Superblock}
 use Rattle.layout.specs.See.{checkImage, see}
-use Rattle.layout.proofs.Geometry.{open-facts}
+use Rattle.layout.proofs.OpenFacts.{open-facts}
 use Rattle.layout.proofs.Stages.{not-ok}
 use Rattle.model.proofs.BenchHolds.{rule-numbers}
 use Rattle.model.proofs.ClaimsHold.{change-keeps, demand-3-holds}
