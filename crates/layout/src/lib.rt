@@ -3,6 +3,7 @@ pub mod page0;
 pub mod table;
 
 use model::MOST_CLUSTERS;
+use page::CLUSTER_BYTES;
 use page::read_page;
 use page0::good_length;
 use page0::good_superblock;
@@ -76,7 +77,7 @@ fn judge_card(image: &[u8]) -> Opened
     if !good_text(&page) {
         return Opened::Refused(Refusal::BadText);
     }
-    if !good_superblock(image.len() / 1056, &page) {
+    if !good_superblock(image.len() / CLUSTER_BYTES, &page) {
         return Opened::Refused(Refusal::BadSuperblock);
     }
     judge_table(image, superblock_of(&page))

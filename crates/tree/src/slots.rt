@@ -3,6 +3,7 @@ use fields::kinds::is_live;
 use fields::names::same_entry_name;
 use layout::Geometry;
 use layout::image_page;
+use page::page_count;
 use page::read_page;
 ghost use mathlib.Core.Path.{_≡_};
 ghost use Prim.Native.Nat.{_+_, _-_, _*_, _<_};
@@ -58,7 +59,7 @@ pub fn read_slot(
     if count <= page / 2 {
         return false;
     }
-    if image.len() / 528 <= page {
+    if page_count(image) <= page {
         return false;
     }
     read_page(image, image_page(geometry, page), out)
