@@ -8,7 +8,7 @@ use Rattle.change.proofs.ChangedLaws.{Done, accepted, answered, checked-parts, 
 use Rattle.change.proofs.ChangedView.{end-is}
 use Rattle.change.specs.Changed as change
 use Rattle.change.specs.Changed.{changed, changedBy, decided, imageWith, rulesOf}
-use Rattle.ecc.proofs.Numbers.{code-numbers}
+use Rattle.ecc.proofs.Numbers.{all-ones, bytes-0-and-1, only-byte-0, only-byte-127, only-byte-5, zero-chunk}
 use Rattle.layout.specs.declared.Superblock.{Superblock}
 use Rattle.layout.specs.See.{checkImage, see}
 use Rattle.layout.proofs.Geometry.{open-facts}
@@ -35,12 +35,12 @@ use Rattle.claims.specs.Seen.{freeIn, freeBy, standingIn, treeIn}
 pub marked-numbers : MarkedNumbers
 marked-numbers =
     record {
-      zero-chunk = code-numbers .zero-chunk;
-      only-byte-0 = code-numbers .only-byte-0;
-      only-byte-127 = code-numbers .only-byte-127;
-      only-byte-5 = code-numbers .only-byte-5;
-      bytes-0-and-1 = code-numbers .bytes-0-and-1;
-      all-ones = code-numbers .all-ones;
+      zero-chunk = zero-chunk;
+      only-byte-0 = only-byte-0;
+      only-byte-127 = only-byte-127;
+      only-byte-5 = only-byte-5;
+      bytes-0-and-1 = bytes-0-and-1;
+      all-ones = all-ones;
       leap-day-2000 = rule-numbers .leapDay2000;
       leap-day-2100 = rule-numbers .leapDay2100;
       word-free = rule-numbers .wordFree;

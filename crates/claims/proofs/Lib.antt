@@ -1,2 +1,3 @@
 -- Every claim holds.
 pub mod ImageClaims
+pub mod Witness
