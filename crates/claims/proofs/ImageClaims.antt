@@ -55,7 +55,7 @@ pub record Card (image : List ℕ) : Type 0 where
   pub marks : Marks
   pub checked : checkImage image ≡ ok (superblock, root, marks)
 
-card-of : (image : List ℕ) (counts : Counts) → checkOf image ≡ ok counts → Card image
+pub card-of : (image : List ℕ) (counts : Counts) → checkOf image ≡ ok counts → Card image
 unfolding checkOf andThen
 card-of image counts e = go (checkImage image) refl e
   where

@@ -12,7 +12,7 @@ use Rattle.layout.specs.declared.Superblock.{Superblock}
 use Rattle.layout.proofs.Geometry.{good-card}
 use Rattle.layout.proofs.Stages.{Readable}
 use Rattle.layout.specs.Superblock.{clustersIn, goodLength, goodSuperblock, goodText, superblockOf}
-use Rattle.layout.specs.Table.{dataOf, goodNames, namesOf, openCard, tableNames, tableOf, tablePage, tableWord, upTo}
+use Rattle.layout.specs.Table.{dataOf, goodTableNames, namesOf, openCard, tableNames, tableOf, tablePage, tableWord, upTo}
 use Rattle.model.proofs.CheckHolds.{holds-check}
 use Rattle.model.specs.Bytes.{word}
 use Rattle.model.specs.Check.{checkTree, ok}
@@ -104,7 +104,7 @@ opened =
         indirect-good = refl;
         first-read = readable 16 benchNames (bench-read 16);
         second-read = readable 17 onesPage (bench-read 17);
-        names-good = ap (λ names. goodNames 10 (8 ∷ []) names) names-are;
+        names-good = ap (λ names. goodTableNames 10 (8 ∷ []) names) names-are;
         table-read = λ t h. rw names-are (table-read t h);
       };
     })

@@ -2,4 +2,5 @@
 pub mod Seen
 pub mod Witness
 pub mod Numbers
+pub mod ReadsTree
 pub mod Claims

@@ -2,6 +2,7 @@
 ghost use Rattle.ecc.specs.Claims.{TwoFlipsUnreadable};
 ghost use Rattle.tree.specs.Counted.{CountsAddUp};
 ghost use Rattle.claims.specs.Numbers.{MarkedNumbers};
+ghost use Rattle.claims.specs.ReadsTree.{TreeIsReading};
 ghost use Rattle.claims.specs.Witness.{BenchAccepted};
 ghost use Rattle.claims.specs.Claims.{ChangeKeeps, Demand3, RefusalLeaves};
 
@@ -38,4 +39,9 @@ pub fn demand_3()
 // The claims are of something: the check accepts the bench card, with the counts that document 01 gives.
 pub fn bench_accepted()
     ensures { λ _. ⌜ BenchAccepted ⌝ }
+{}
+
+// The tree of an accepted image is what find and reads answer at every path.
+pub fn tree_is_reading()
+    ensures { λ _. ⌜ TreeIsReading ⌝ }
 {}
