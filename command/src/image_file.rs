@@ -11,7 +11,9 @@ use crate::{Card, Refusal, MOST_BYTES};
 /// Why a file's card was not changed, or not made.
 #[derive(Debug)]
 pub enum Error {
+    /// By the rules of the card.
     Refused(Refusal),
+    /// A file of the host cannot be read or written.
     Host(io::Error),
 }
 

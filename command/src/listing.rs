@@ -2,11 +2,14 @@
 
 use crate::{Card, Kind, Refusal};
 
-/// An entry of the tree: a file with its bytes, or a directory with its slots.
+/// An entry of the tree, as a line of the listing has it.
 #[derive(Clone, Debug, PartialEq, Eq)]
 pub struct Line {
+    /// What it is.
     pub kind: Kind,
+    /// A file's bytes, or a directory's entries, the first two and dead ones too.
     pub length: u32,
+    /// Its path on the card.
     pub path: Vec<u8>,
 }
 
@@ -22,8 +25,20 @@ impl Line {
     }
 }
 
-impl Card {
-    /// Every entry in tree order: slot order, a directory before its inside.
+impl<B: AsRef<[u8]>> Card<B> {
+    /// Every entry in tree order: slot order, a directory before its inside. One check of the card.
+    ///
+    /// ```
+    /// use ps2card::{Card, Kind, Stamp};
+    ///
+    /// let mut card = Card::fresh(56, &Stamp::now())?;
+    /// card.make_dir(b"/SAVE", &Stamp::now())?;
+    /// card.create(b"/SAVE/A", &Stamp::now(), b"bytes")?;
+    /// let tree = card.tree()?;
+    /// assert_eq!((tree[0].kind, &tree[0].path[..]), (Kind::Directory, &b"/SAVE"[..]));
+    /// assert_eq!((tree[1].kind, tree[1].length, tree[1].parent()), (Kind::File, 5, &b"/SAVE"[..]));
+    /// # Ok::<(), ps2card::Refusal>(())
+    /// ```
     pub fn tree(&self) -> Result<Vec<Line>, Refusal> {
         let text = self.list()?;
         Ok(text.split(|&byte| byte == b'\n').filter_map(parse).collect())

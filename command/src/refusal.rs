@@ -3,7 +3,19 @@
 use std::fmt;
 
 /// A refusal. The image and every output are as they were before the call.
+///
+/// Of several that apply, the first of 1 to 7 that the check meets is told, then the first in this order: 8, 14, 9, 10,
+/// 11, 13, 15, 12.
+///
+/// ```
+/// use ps2card::{Card, Refusal};
+///
+/// let refusal = Card::new(&[0; 100][..]).check().unwrap_err();
+/// assert_eq!((refusal, refusal.number(), refusal.page()), (Refusal::BadLength, 1, None));
+/// assert!(refusal.to_string().starts_with("refused 1: "));
+/// ```
 #[derive(Clone, Copy, Debug, PartialEq, Eq, Hash)]
+#[non_exhaustive]
 pub enum Refusal {
     /// 1: the image's length is that of no card.
     BadLength,
@@ -35,12 +47,15 @@ pub enum Refusal {
     BadTime,
     /// 15: the read's offset lies beyond the file's length.
     BadOffset,
+    /// A number that this wrapper has no word for, as a newer library may tell it.
+    Unknown(u32),
 }
 
 impl Refusal {
-    /// The refusal that a call told: its number, and the page it wrote for number 2. Nothing for 0 and other numbers.
+    /// The refusal that a call told: its number, and the page it wrote for number 2. Nothing for 0.
     pub(crate) fn told(number: u32, page: usize) -> Option<Refusal> {
         Some(match number {
+            0 => return None,
             1 => Refusal::BadLength,
             2 => Refusal::UnreadablePage(page),
             3 => Refusal::BadText,
@@ -56,8 +71,16 @@ impl Refusal {
             13 => Refusal::NotEmpty,
             14 => Refusal::BadTime,
             15 => Refusal::BadOffset,
-            _ => return None,
+            other => Refusal::Unknown(other),
         })
+    }
+
+    /// The refusal that a listing is, as its one line says: `refused N`, or `refused 2 PAGE`. Nothing for a card's.
+    pub(crate) fn listed(text: &[u8]) -> Option<Refusal> {
+        let line = text.strip_prefix(b"refused ")?.strip_suffix(b"\n")?;
+        let mut numbers = std::str::from_utf8(line).ok()?.split(' ').map(str::parse);
+        let (number, page) = (numbers.next()?.ok()?, numbers.next());
+        Refusal::told(u32::try_from(number).ok()?, page.and_then(Result::ok).unwrap_or(0))
     }
 
     /// Document 01's number.
@@ -78,6 +101,7 @@ impl Refusal {
             Refusal::NotEmpty => 13,
             Refusal::BadTime => 14,
             Refusal::BadOffset => 15,
+            Refusal::Unknown(number) => number,
         }
     }
 
@@ -109,6 +133,7 @@ impl Refusal {
             Refusal::NotEmpty => "the directory is not empty",
             Refusal::BadTime => "this is no valid time from 1980 to 9999",
             Refusal::BadOffset => "the offset lies beyond the end of the file",
+            Refusal::Unknown(_) => "the library gives a reason that this program does not know",
         }
     }
 }
@@ -136,7 +161,27 @@ mod tests {
             assert_eq!(refusal.number(), number);
             assert_eq!(refusal.page(), (number == 2).then_some(77));
         }
-        assert_eq!((Refusal::told(0, 0), Refusal::told(16, 0)), (None, None));
+        assert_eq!(Refusal::told(0, 77), None);
+    }
+
+    /// A number of another library is kept and told, and no panic.
+    #[test]
+    fn unknown_numbers() {
+        for number in [16, 22, u32::MAX] {
+            let refusal = Refusal::told(number, 77).expect("a refusal");
+            assert_eq!((refusal, refusal.number(), refusal.page()), (Refusal::Unknown(number), number, None));
+            assert!(refusal.to_string().starts_with(&format!("refused {number}: ")), "{refusal}");
+        }
+    }
+
+    #[test]
+    fn lines_of_listings() {
+        for number in 1..=15 {
+            let line = if number == 2 { "refused 2 77\n".to_string() } else { format!("refused {number}\n") };
+            assert_eq!(Refusal::listed(line.as_bytes()), Refusal::told(number, 77), "{line}");
+        }
+        assert_eq!(Refusal::listed(b"refused 99\n"), Some(Refusal::Unknown(99)));
+        assert!([&b"card 56\nfree 29\n"[..], b"", b"refused"].iter().all(|text| Refusal::listed(text).is_none()));
     }
 
     #[test]

@@ -3,7 +3,17 @@
 use std::fmt;
 use std::time::{SystemTime, UNIX_EPOCH};
 
-/// Eight bytes: zero, second, minute, hour, day, month, and the year as a little-endian half. Any bytes may stand here.
+/// Eight bytes: zero, second, minute, hour, day, month, and the year as a little-endian half, in Japan's time. Any bytes
+/// may stand here; a change refuses those that are no time from 1980 to 9999.
+///
+/// ```
+/// use ps2card::Stamp;
+///
+/// let stamp = Stamp::parse("2000-02-29T12:34:56").unwrap();
+/// assert_eq!(stamp.0, [0, 56, 34, 12, 29, 2, 0xD0, 0x07]);
+/// assert!(stamp.is_valid() && !Stamp::parse("2100-02-29T12:34:56").unwrap().is_valid());
+/// assert_eq!(stamp.to_string(), "2000-02-29T12:34:56");
+/// ```
 #[derive(Clone, Copy, Debug, Default, PartialEq, Eq)]
 pub struct Stamp(pub [u8; 8]);
 

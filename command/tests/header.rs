@@ -17,7 +17,7 @@ fn compile(folder: &Folder, name: &str) {
         .args(["-std=c99", "-O1", "-Wall", "-Wextra", "-Werror", "-pedantic", "-pthread", "-I"])
         .arg(here.join("../include"))
         .arg(here.join("tests/c").join(format!("{name}.c")))
-        .arg(env!("PS2CARD_ARCHIVE"))
+        .arg(ps2card_sys::ARCHIVE)
         .arg("-o")
         .arg(folder.path(name))
         .output()
@@ -189,7 +189,7 @@ fn as_c(rust: &str) -> String {
 #[test]
 fn declarations() {
     let one_line = |text: &str| text.split_whitespace().collect::<Vec<&str>>().join(" ");
-    let calls = include_str!("../src/calls.rs");
+    let calls = include_str!("../sys/src/lib.rs");
     let wrapper: Vec<String> =
         calls.split("pub fn ").skip(1).map(|text| as_c(text.split(';').next().expect("a declaration"))).collect();
     let code = header().split("*/").map(|part| part.split("/*").next().expect("code")).collect::<String>();

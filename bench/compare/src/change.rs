@@ -1,6 +1,6 @@
 //! The five changes. Each works on a copy of the image between guard bytes; the image becomes what the call made of it.
 
-use ps2card::calls::{ps2card_create, ps2card_delete, ps2card_make_dir, ps2card_remove_dir, ps2card_replace};
+use ps2card_sys::{ps2card_create, ps2card_delete, ps2card_make_dir, ps2card_remove_dir, ps2card_replace};
 use reader::time::Time;
 use reader::{Change, Refusal};
 

@@ -1,6 +1,6 @@
 //! Calls straight on the caller's image, with no copy and no guard bytes, for taking times.
 
-use ps2card::calls::{ps2card_create, ps2card_read};
+use ps2card_sys::{ps2card_create, ps2card_read};
 use reader::time::Time;
 
 /// How many bytes were copied; nothing where the call is refused.

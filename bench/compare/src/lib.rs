@@ -12,7 +12,7 @@ pub mod listing;
 pub mod lookup;
 
 use answer::{verdict, Broken, NO_PAGE};
-use ps2card::calls::ps2card_check;
+use ps2card_sys::ps2card_check;
 use reader::{Counts, Refusal};
 
 pub use change::{create, delete, make_dir, remove_dir, replace};

@@ -1,6 +1,6 @@
 //! The listing.
 
-use ps2card::calls::ps2card_list;
+use ps2card_sys::ps2card_list;
 
 /// What the buffer holds before the call; no byte of a listing.
 const BLANK: u8 = 0xEE;

@@ -1,6 +1,6 @@
 //! Find, directory step and file read.
 
-use ps2card::calls::{ps2card_find, ps2card_read, ps2card_step};
+use ps2card_sys::{ps2card_find, ps2card_read, ps2card_step};
 use reader::{Entry, Refusal};
 
 use crate::answer::{verdict, Broken, NO_PAGE};

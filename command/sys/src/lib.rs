@@ -1,6 +1,13 @@
-//! The functions of `libps2card.a`, as `include/ps2card.h` declares them. `Card` is the safe way to them.
+//! The functions of `libps2card.a`, as `include/ps2card.h` declares and describes them. The package `ps2card` has the
+//! safe way to them; these are for it and for tests that look at what a call leaves alone.
+#![no_std]
+#![deny(missing_docs)]
+
+/// The archive that is linked, for tests that compile C against it.
+pub const ARCHIVE: &str = env!("PS2CARD_ARCHIVE");
 
 extern "C" {
+    /// Checks a card and counts its clusters.
     pub fn ps2card_check(
         image: *const u8,
         image_length: usize,
@@ -11,6 +18,7 @@ extern "C" {
         orphaned: *mut usize,
     ) -> u32;
 
+    /// The entry at a path.
     pub fn ps2card_find(
         image: *const u8,
         image_length: usize,
@@ -27,6 +35,7 @@ extern "C" {
         name: *mut u8,
     ) -> u32;
 
+    /// The first live entry of a directory from a slot on.
     pub fn ps2card_step(
         image: *const u8,
         image_length: usize,
@@ -46,6 +55,7 @@ extern "C" {
         name: *mut u8,
     ) -> u32;
 
+    /// Copies bytes of a file.
     pub fn ps2card_read(
         image: *const u8,
         image_length: usize,
@@ -58,8 +68,10 @@ extern "C" {
         count: *mut usize,
     ) -> u32;
 
+    /// Writes the listing and answers its whole length.
     pub fn ps2card_list(image: *const u8, image_length: usize, out: *mut u8, out_length: usize) -> usize;
 
+    /// Creates a file.
     pub fn ps2card_create(
         image: *mut u8,
         image_length: usize,
@@ -71,6 +83,7 @@ extern "C" {
         page: *mut usize,
     ) -> u32;
 
+    /// Replaces a file's bytes.
     pub fn ps2card_replace(
         image: *mut u8,
         image_length: usize,
@@ -82,6 +95,7 @@ extern "C" {
         page: *mut usize,
     ) -> u32;
 
+    /// Deletes a file.
     pub fn ps2card_delete(
         image: *mut u8,
         image_length: usize,
@@ -90,6 +104,7 @@ extern "C" {
         page: *mut usize,
     ) -> u32;
 
+    /// Makes a directory.
     pub fn ps2card_make_dir(
         image: *mut u8,
         image_length: usize,
@@ -99,6 +114,7 @@ extern "C" {
         page: *mut usize,
     ) -> u32;
 
+    /// Removes an empty directory.
     pub fn ps2card_remove_dir(
         image: *mut u8,
         image_length: usize,
@@ -108,5 +124,5 @@ extern "C" {
     ) -> u32;
 }
 
-/// `ps2card_create` and `ps2card_replace`.
+/// The type of `ps2card_create` and `ps2card_replace`.
 pub type Write = unsafe extern "C" fn(*mut u8, usize, *const u8, usize, *const u8, *const u8, usize, *mut usize) -> u32;
