@@ -1,4 +1,4 @@
-/* Raw PlayStation 2 memory card images: the functions of libstation.a.
+/* Raw PlayStation 2 memory card images: the functions of libps2card.a.
  *
  * Every function is proved to meet its contract for every input: it reads and writes nothing outside what it is lent,
  * keeps no state, takes no memory and ends. What must hold of the caller is what the types say: a pointer with a
@@ -48,13 +48,13 @@ extern "C" {
 /* Checks the card: its clusters, and how many of the allocatable ones are free, reached by a chain, and neither.
  * Refusals: 1 to 7. Untouched on a refusal: clusters, free, reached, orphaned.
  * Stack: at most 224 KiB. */
-uint32_t station_check(const uint8_t *image, size_t image_length, size_t *page, uint32_t *clusters, size_t *free,
+uint32_t ps2card_check(const uint8_t *image, size_t image_length, size_t *page, uint32_t *clusters, size_t *free,
                        size_t *reached, size_t *orphaned);
 
 /* Finds the entry at a path, for the root its first one, and hands out its fields.
  * Refusals: 1 to 10. Untouched on a refusal: every field.
  * Stack: at most 224 KiB. */
-uint32_t station_find(const uint8_t *image, size_t image_length, const uint8_t *path, size_t path_length, size_t *page,
+uint32_t ps2card_find(const uint8_t *image, size_t image_length, const uint8_t *path, size_t path_length, size_t *page,
                       uint16_t *mode, uint32_t *length, uint8_t *created, uint32_t *first, uint32_t *dir_entry,
                       uint8_t *modified, uint32_t *attribute, uint8_t *name);
 
@@ -62,7 +62,7 @@ uint32_t station_find(const uint8_t *image, size_t image_length, const uint8_t *
  * fields are handed out. At the end found is 0, and at and the fields stay as they were.
  * Refusals: 1 to 10. Untouched on a refusal: found, at and every field.
  * Stack: at most 224 KiB. */
-uint32_t station_step(const uint8_t *image, size_t image_length, const uint8_t *path, size_t path_length, uint32_t slot,
+uint32_t ps2card_step(const uint8_t *image, size_t image_length, const uint8_t *path, size_t path_length, uint32_t slot,
                       size_t *page, uint32_t *found, uint32_t *at, uint16_t *mode, uint32_t *length, uint8_t *created,
                       uint32_t *first, uint32_t *dir_entry, uint8_t *modified, uint32_t *attribute, uint8_t *name);
 
@@ -70,43 +70,43 @@ uint32_t station_step(const uint8_t *image, size_t image_length, const uint8_t *
  * stays as it was.
  * Refusals: 1 to 10, 15; 2 also for a page with a byte to copy. Untouched on a refusal: out and count.
  * Stack: at most 224 KiB. */
-uint32_t station_read(const uint8_t *image, size_t image_length, const uint8_t *path, size_t path_length, size_t offset,
+uint32_t ps2card_read(const uint8_t *image, size_t image_length, const uint8_t *path, size_t path_length, size_t offset,
                       uint8_t *out, size_t out_length, size_t *page, size_t *count);
 
 /* Writes the listing into out, as much of it as fits: the counts, then a line for each entry in tree order; or the one
  * line of a refusal, "refused N" or "refused 2 PAGE". The answer is the whole text's length, without a zero at the end:
  * a call with out_length 0 tells how much room it needs. The rest of out stays as it was.
  * Stack: at most 256 KiB. */
-size_t station_list(const uint8_t *image, size_t image_length, uint8_t *out, size_t out_length);
+size_t ps2card_list(const uint8_t *image, size_t image_length, uint8_t *out, size_t out_length);
 
 /* Creates a file with these bytes at a path; both its times become the given one.
  * Refusals: 1 to 12, 14. Untouched on a refusal: the whole image.
  * Stack: at most 256 KiB. */
-uint32_t station_create(uint8_t *image, size_t image_length, const uint8_t *path, size_t path_length,
+uint32_t ps2card_create(uint8_t *image, size_t image_length, const uint8_t *path, size_t path_length,
                         const uint8_t *time, const uint8_t *bytes, size_t bytes_length, size_t *page);
 
 /* Replaces the bytes of the file at a path; its time of change becomes the given one. The new bytes need room beside
  * the old ones.
  * Refusals: 1 to 10, 12, 14. Untouched on a refusal: the whole image.
  * Stack: at most 256 KiB. */
-uint32_t station_replace(uint8_t *image, size_t image_length, const uint8_t *path, size_t path_length,
+uint32_t ps2card_replace(uint8_t *image, size_t image_length, const uint8_t *path, size_t path_length,
                          const uint8_t *time, const uint8_t *bytes, size_t bytes_length, size_t *page);
 
 /* Deletes the file at a path.
  * Refusals: 1 to 10. Untouched on a refusal: the whole image.
  * Stack: at most 256 KiB. */
-uint32_t station_delete(uint8_t *image, size_t image_length, const uint8_t *path, size_t path_length, size_t *page);
+uint32_t ps2card_delete(uint8_t *image, size_t image_length, const uint8_t *path, size_t path_length, size_t *page);
 
 /* Makes an empty directory at a path of one to three names; its times become the given one.
  * Refusals: 1 to 12, 14. Untouched on a refusal: the whole image.
  * Stack: at most 256 KiB. */
-uint32_t station_make_dir(uint8_t *image, size_t image_length, const uint8_t *path, size_t path_length,
+uint32_t ps2card_make_dir(uint8_t *image, size_t image_length, const uint8_t *path, size_t path_length,
                           const uint8_t *time, size_t *page);
 
 /* Removes the directory at a path, which must have no live entry after its first two.
  * Refusals: 1 to 10, 13. Untouched on a refusal: the whole image.
  * Stack: at most 256 KiB. */
-uint32_t station_remove_dir(uint8_t *image, size_t image_length, const uint8_t *path, size_t path_length,
+uint32_t ps2card_remove_dir(uint8_t *image, size_t image_length, const uint8_t *path, size_t path_length,
                             size_t *page);
 
 #ifdef __cplusplus
