@@ -120,7 +120,7 @@ fn put_all_or_nothing() {
     folder.write("SAVE/a", &[1; 10_000]);
     let refused = |number: u8, at: &str| {
         let given = folder.run(&["put", "card", "SAVE"]);
-        assert!(given.err.ends_with(&format!(" ({at})\n")), "{given:?}");
+        assert!(given.err.ends_with(&format!(" (card: {at})\n")), "{given:?}");
         given.refused(Refusal::number(number));
         assert_eq!(folder.read("card"), image);
     };
@@ -137,7 +137,6 @@ fn put_all_or_nothing() {
     fs::remove_file(folder.path("SAVE/link")).expect("removed");
     folder.run(&["put", "card", "SAVE", "--stamp", "2001-02-29T00:00:00"]).refused(Refusal::number(14));
     folder.run(&["put", "card", "none"]).failed(3, "cannot read none");
-    folder.run(&["put", "card", "card"]).failed(3, "cannot read");
     assert_eq!(folder.read("card"), image);
     folder.run(&["put", "card", "SAVE"]).done();
     let once = folder.read("card");
@@ -156,11 +155,11 @@ fn get_taken_back() {
     reader::create(&mut image, long.as_bytes(), &build::usual_time(), b"another").expect("room");
     folder.write("card", &image);
     let above = format!("{}/", "x".repeat(200)).repeat(20);
-    assert!(folder.tool("mkdir", &["-p", &above]).status.success());
-    let out = format!("{above}{}", "y".repeat(65));
-    folder.run(&["get", "card", "/", &out]).failed(3, "cannot write");
-    let left = folder.tool("find", &[".", "-type", "f", "-o", "-name", "y*"]);
+    let deep = format!("{above}{}/", "z".repeat(40));
+    assert!(folder.tool("mkdir", &["-p", &deep]).status.success());
+    folder.run(&["get", "card", "/", &format!("{deep}y")]).failed(3, "cannot write");
+    let left = folder.tool("find", &[".", "-type", "f", "-o", "-name", "y*", "-o", "-name", ".ps2card*"]);
     assert_eq!(String::from_utf8_lossy(&left.stdout), "./card\n");
-    let short = &out[..out.len() - 40];
-    folder.run(&["get", "card", "/", short]).done();
+    folder.run(&["get", "card", "/A", &format!("{deep}y")]).done();
+    folder.run(&["get", "card", "/", &format!("{above}y")]).done();
 }
