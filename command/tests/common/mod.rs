@@ -9,7 +9,9 @@ use std::path::{Path, PathBuf};
 use std::process::{Child, Command, Output, Stdio};
 use std::sync::atomic::{AtomicUsize, Ordering};
 
-use reader::Refusal;
+use reader::content::visit;
+use reader::tree::Checked;
+use reader::{page, Refusal};
 
 /// The time of the cards that the independent builder makes.
 pub const USUAL: &str = "2000-02-29T12:34:56";
@@ -130,4 +132,18 @@ impl Drop for Folder {
 /// A time as `--stamp` takes its bytes.
 pub fn raw_stamp(time: &[u8; 8]) -> String {
     time.iter().fold("0x".to_string(), |text, byte| text + &format!("{byte:02x}"))
+}
+
+/// The unreadable pages of every file, by path in tree order, as indices in the image; files without any too.
+pub fn unreadable_pages(image: &[u8]) -> Vec<(Vec<u8>, Vec<usize>)> {
+    let checked = Checked::of(image).expect("an accepted card");
+    let mut files = Vec::new();
+    visit(&checked.root, b"/", &mut |path, node| {
+        if node.inside.is_none() {
+            let pages = (0..(node.entry.length as usize).div_ceil(page::DATA))
+                .map(|index| checked.card.slot_page(&node.chain, index));
+            files.push((path.to_vec(), pages.filter(|&page| page::read(image, page).is_none()).collect()));
+        }
+    });
+    files
 }
