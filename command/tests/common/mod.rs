@@ -25,6 +25,14 @@ pub struct Outcome {
 }
 
 impl Outcome {
+    pub fn of(output: Output) -> Outcome {
+        Outcome {
+            status: output.status.code().unwrap_or(-1),
+            out: output.stdout,
+            err: String::from_utf8(output.stderr).expect("text"),
+        }
+    }
+
     /// It did what it was asked, without a word of complaint; its output.
     #[track_caller]
     pub fn done(self) -> Vec<u8> {
@@ -109,12 +117,24 @@ impl Folder {
         let mut child = self.start(words);
         // It need not read them.
         let _ = child.stdin.take().expect("standard input").write_all(input);
-        let output = child.wait_with_output().expect("the command ends");
-        Outcome {
-            status: output.status.code().unwrap_or(-1),
-            out: output.stdout,
-            err: String::from_utf8(output.stderr).expect("text"),
+        Outcome::of(child.wait_with_output().expect("the command ends"))
+    }
+
+    /// Runs it with a system call that fails: "folder sync", "attribute", "owner" or "rename".
+    pub fn run_failing(&self, call: &str, words: &[&str]) -> Outcome {
+        let shim = self.path(".shim.so");
+        if !shim.exists() {
+            let source = Path::new(env!("CARGO_MANIFEST_DIR")).join("tests/c/shim.c");
+            let made = Command::new("cc")
+                .args(["-shared", "-fPIC", "-O1", "-Wall", "-Werror", "-o"])
+                .arg(&shim)
+                .arg(source)
+                .status();
+            assert!(made.expect("cc runs").success());
         }
+        let words: Vec<&[u8]> = words.iter().map(|word| word.as_bytes()).collect();
+        let output = self.command(&words).stdin(Stdio::null()).env("LD_PRELOAD", shim).env("SHIM_FAILS", call).output();
+        Outcome::of(output.expect("the command ends"))
     }
 
     pub fn run(&self, words: &[&str]) -> Outcome {
