@@ -9,7 +9,9 @@ use std::path::{Path, PathBuf};
 use std::process::{Child, Command, Output, Stdio};
 use std::sync::atomic::{AtomicUsize, Ordering};
 
+use reader::build::{directory, file, Assembly, Layout};
 use reader::content::visit;
+use reader::entry::NO_CLUSTER;
 use reader::tree::Checked;
 use reader::{page, Refusal};
 
@@ -166,4 +168,18 @@ pub fn unreadable_pages(image: &[u8]) -> Vec<(Vec<u8>, Vec<usize>)> {
         }
     });
     files
+}
+
+/// A card with so many empty files in the directory `/SAVE`, `file0000` and on; an even number.
+pub fn crowd(entries: usize) -> Vec<u8> {
+    let mut card = Assembly::new(Layout::standard());
+    card.directory(&[0, 1], 3);
+    let chain: Vec<usize> = (2..2 + (entries + 2) / 2).collect();
+    card.put(1, 0, &directory(b"SAVE", entries as u32 + 2, chain[0] as u32));
+    card.directory(&chain, entries as u32 + 2);
+    for number in 0..entries {
+        let slot = number + 2;
+        card.put(chain[slot / 2], slot % 2, &file(format!("file{number:04}").as_bytes(), 0, NO_CLUSTER));
+    }
+    card.finish()
 }
