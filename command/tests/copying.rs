@@ -2,10 +2,10 @@
 
 mod common;
 
-use std::fs;
+use std::fs::{self, File};
 use std::os::unix::fs::symlink;
 
-use common::{Folder, USUAL};
+use common::{Folder, Outcome, USUAL};
 use reader::build::{self, random};
 use reader::{Piece, Refusal};
 
@@ -120,7 +120,7 @@ fn put_all_or_nothing() {
     folder.write("SAVE/a", &[1; 10_000]);
     let refused = |number: u8, at: &str| {
         let given = folder.run(&["put", "card", "SAVE"]);
-        assert!(given.err.ends_with(&format!(" ({at})\n")), "{given:?}");
+        assert!(given.err.ends_with(&format!(" (card: {at})\n")), "{given:?}");
         given.refused(Refusal::number(number));
         assert_eq!(folder.read("card"), image);
     };
@@ -137,7 +137,6 @@ fn put_all_or_nothing() {
     fs::remove_file(folder.path("SAVE/link")).expect("removed");
     folder.run(&["put", "card", "SAVE", "--stamp", "2001-02-29T00:00:00"]).refused(Refusal::number(14));
     folder.run(&["put", "card", "none"]).failed(3, "cannot read none");
-    folder.run(&["put", "card", "card"]).failed(3, "cannot read");
     assert_eq!(folder.read("card"), image);
     folder.run(&["put", "card", "SAVE"]).done();
     let once = folder.read("card");
@@ -156,11 +155,61 @@ fn get_taken_back() {
     reader::create(&mut image, long.as_bytes(), &build::usual_time(), b"another").expect("room");
     folder.write("card", &image);
     let above = format!("{}/", "x".repeat(200)).repeat(20);
-    assert!(folder.tool("mkdir", &["-p", &above]).status.success());
-    let out = format!("{above}{}", "y".repeat(65));
-    folder.run(&["get", "card", "/", &out]).failed(3, "cannot write");
-    let left = folder.tool("find", &[".", "-type", "f", "-o", "-name", "y*"]);
+    let deep = format!("{above}{}/", "z".repeat(40));
+    assert!(folder.tool("mkdir", &["-p", &deep]).status.success());
+    folder.run(&["get", "card", "/", &format!("{deep}y")]).failed(3, "cannot write");
+    let left = folder.tool("find", &[".", "-type", "f", "-o", "-name", "y*", "-o", "-name", ".ps2card*"]);
     assert_eq!(String::from_utf8_lossy(&left.stdout), "./card\n");
-    let short = &out[..out.len() - 40];
-    folder.run(&["get", "card", "/", short]).done();
+    folder.run(&["get", "card", "/A", &format!("{deep}y")]).done();
+    folder.run(&["get", "card", "/", &format!("{above}y")]).done();
+}
+
+/// A single file goes in under its own name or another; a directory too.
+#[test]
+fn put_as() {
+    let folder = Folder::new();
+    let (mut image, time) = (build::bench(), build::usual_time());
+    folder.write("card", &image);
+    folder.write("note.txt", b"a note");
+    fs::create_dir(folder.path("SAVE")).expect("a folder");
+    folder.write("SAVE/a", b"in it");
+    for words in [&["note.txt"][..], &["note.txt", "--as", "N OTE"], &["SAVE", "--as=S2"], &["./SAVE/."]] {
+        folder.run(&[&["put", "card", "--stamp", USUAL], words].concat()).done();
+    }
+    reader::create(&mut image, b"/note.txt", &time, b"a note").expect("room");
+    reader::create(&mut image, b"/N OTE", &time, b"a note").expect("room");
+    for save in ["/S2", "/SAVE"] {
+        reader::make_dir(&mut image, save.as_bytes(), &time).expect("room");
+        reader::create(&mut image, format!("{save}/a").as_bytes(), &time, b"in it").expect("room");
+    }
+    assert!(folder.read("card") == image);
+    folder.run(&["put", "card", "note.txt"]).refused(Refusal::number(11));
+    for name in ["", ".", "..", "a*", "0123456789012345678901234567890x"] {
+        folder.run(&["put", "card", "note.txt", "--as", name]).refused(Refusal::number(8));
+    }
+    assert!(folder.read("card") == image);
+}
+
+/// What no card can hold is refused before more than that is read: with memory for a few cards only, a file without an
+/// end, a file of a terabyte, and a thousand files of 8 MB.
+#[test]
+fn put_reads_no_more_than_a_card_holds() {
+    let folder = Folder::new();
+    let image = build::standard();
+    folder.write("card", &image);
+    let sparse = |name: &str, length: u64| File::create(folder.path(name)).and_then(|file| file.set_len(length));
+    sparse("huge", 1 << 40).expect("a sparse file");
+    fs::create_dir(folder.path("MANY")).expect("a folder");
+    (0..1000).for_each(|number| sparse(&format!("MANY/{number:03}"), 8_000_000).expect("a sparse file"));
+    let refused = |source: &str, at: &str| {
+        let script = "ulimit -v 200000; exec \"$@\"";
+        let words = ["-c", script, "sh", env!("CARGO_BIN_EXE_ps2card"), "put", "card", source, "--as", "X"];
+        let given = Outcome::of(folder.tool("sh", &words));
+        assert!(given.err.ends_with(&format!(" (card: {at})\n")), "{given:?}");
+        given.refused(Refusal::number(12));
+    };
+    refused("/dev/zero", "/X");
+    refused("huge", "/X");
+    refused("MANY", "/X/001");
+    assert!(folder.read("card") == image && folder.names() == ["MANY", "card", "huge"]);
 }

@@ -12,7 +12,7 @@ fn standard_card() {
     let folder = Folder::new();
     folder.run(&["new", "card", "--stamp", USUAL]).done();
     assert!(folder.read("card") == build::standard());
-    let counts = "card 8192\nfree 8134\nreached 1\norphaned 0\n";
+    let counts = "card: OK, 8134 KB free\ncard 8192\nfree 8134\nreached 1\norphaned 0\n";
     assert_eq!(folder.run(&["check", "card"]).text(), counts);
     assert_eq!(folder.names(), ["card"]);
 }
@@ -56,7 +56,7 @@ fn every_size() {
 fn smallest_card() {
     let folder = Folder::new();
     folder.run(&["new", "card", "32"]).done();
-    assert_eq!(folder.run(&["check", "card"]).text(), "card 32\nfree 5\nreached 1\norphaned 0\n");
+    assert_eq!(folder.run(&["check", "card"]).text(), "card: OK, 5 KB free\ncard 32\nfree 5\nreached 1\norphaned 0\n");
     folder.write("fits", &[3; 4 * 1024]);
     folder.run(&["create", "card", "/A", "fits"]).done();
     folder.run(&["create", "card", "/B", "fits"]).refused(Refusal::number(12));

@@ -1,36 +1,15 @@
 //! The header: a C program over it, its declarations beside the wrapper's, and the stack that it promises.
 
+#[path = "c/mod.rs"]
+mod c;
 mod common;
 
 use std::fmt::Write;
-use std::path::Path;
-use std::process::Command;
 
+use c::Way;
 use common::Folder;
-use ps2card::{Card, Entry, Refusal, Stamp};
+use ps2card::{Card, Entry, Kind, Refusal, Stamp, MOST_BYTES};
 use reader::build;
-
-/// Compiles a C file of the tests against header and library, with every warning an error.
-fn compile(folder: &Folder, name: &str) {
-    let here = Path::new(env!("CARGO_MANIFEST_DIR"));
-    let output = Command::new("cc")
-        .args(["-std=c99", "-O1", "-Wall", "-Wextra", "-Werror", "-pedantic", "-pthread", "-I"])
-        .arg(here.join("../include"))
-        .arg(here.join("tests/c").join(format!("{name}.c")))
-        .arg(ps2card_sys::ARCHIVE)
-        .arg("-o")
-        .arg(folder.path(name))
-        .output()
-        .expect("cc runs");
-    assert!(output.status.success(), "{}", String::from_utf8_lossy(&output.stderr));
-}
-
-fn run(folder: &Folder, name: &str, words: &[&str]) -> String {
-    let output = Command::new(folder.path(name)).args(words.iter().map(|word| folder.path(word))).output();
-    let output = output.expect("it runs");
-    assert!(output.status.success(), "{output:?}");
-    String::from_utf8(output.stdout).expect("text")
-}
 
 /// What stands in an output before a call of the C program.
 const UNTOUCHED: usize = 77;
@@ -85,7 +64,12 @@ impl Script {
 
     fn find(&mut self, path: &str) {
         let answer = self.card.find(path.as_bytes());
-        self.say(format!("find {}{}", told(&answer), fields(answer.as_ref().ok())));
+        // The bytes of no entry: no directory's bit among them, and no zero in the name.
+        let (directory, length) = match &answer {
+            Ok(entry) => (i32::from(entry.kind() == Kind::Directory), entry.name().len()),
+            Err(_) => (0, 32),
+        };
+        self.say(format!("find {} {directory} {length}{}", told(&answer), fields(answer.as_ref().ok())));
     }
 
     fn step(&mut self, path: &str, slot: u32) {
@@ -124,6 +108,7 @@ impl Script {
         self.change("create", |card| card.create(b"/D/F", &time, b"some bytes of a save"));
         self.change("create", |card| card.create(b"/D/G", &time, b""));
         self.change("create", |card| card.create(b"/none/F", &time, b""));
+        self.find("/");
         self.find("/D/F");
         self.find("/D/H");
         self.step("/D", 0);
@@ -146,17 +131,19 @@ impl Script {
     }
 }
 
-/// C through the header and Rust through the wrapper tell the same and leave the same image.
+/// C through the header and Rust through the wrapper tell the same and leave the same image, however C is compiled.
 #[test]
 fn c_program() {
-    let folder = Folder::new();
-    compile(&folder, "header");
-    folder.write("card", &build::bench());
-    let text = run(&folder, "header", &["card", "changed"]);
     let mut script = Script { card: Card::new(build::bench()), text: String::new() };
     script.run();
-    assert_eq!(text, script.text);
-    assert!(folder.read("changed") == script.card.image() && folder.read("changed") != build::bench());
+    let text = script.text;
+    for way in c::WAYS {
+        let folder = Folder::new();
+        folder.write("card", &build::bench());
+        let told = c::compiled(&folder, c::test("header"), way).run(&folder, &["card", "changed"]).text();
+        assert_eq!(told, text, "{way:?}");
+        assert!(folder.read("changed") == script.card.image() && folder.read("changed") != build::bench());
+    }
     for number in [0, 8, 9, 10, 11, 13, 14, 15] {
         let met = text.lines().any(|line| line.split(' ').nth(1) == Some(&number.to_string()));
         assert_eq!(met, number != 8, "{number}: {text}");
@@ -192,7 +179,8 @@ fn declarations() {
     let calls = include_str!("../sys/src/lib.rs");
     let wrapper: Vec<String> =
         calls.split("pub fn ").skip(1).map(|text| as_c(text.split(';').next().expect("a declaration"))).collect();
-    let code = header().split("*/").map(|part| part.split("/*").next().expect("code")).collect::<String>();
+    let (exported, _) = header().split_once("/* The same with structs. */").expect("two parts");
+    let code = exported.split("*/").map(|part| part.split("/*").next().expect("code")).collect::<String>();
     let declared: Vec<String> = code
         .split(';')
         .filter_map(|part| {
@@ -207,6 +195,57 @@ fn header() -> &'static str {
     include_str!("../../include/ps2card.h")
 }
 
+/// A name of the header as Rust spells it: `BAD_LENGTH` is `BadLength`.
+fn in_rust(name: &str) -> String {
+    let capital = |word: &str| word[..1].to_string() + &word[1..].to_lowercase();
+    name.split('_').map(capital).collect()
+}
+
+/// The header's refusals are the wrapper's, by number and name, in the order in which they are told; its version is the
+/// package's, and its largest card the wrapper's.
+#[test]
+fn constants() {
+    let body =
+        header().split("enum ps2card_refusal {").nth(1).and_then(|rest| rest.split("};").next()).expect("an enum");
+    let lines = body.lines().filter_map(|line| line.trim().strip_prefix("PS2CARD_")?.split_once(" = "));
+    let refusals: Vec<(&str, u32)> = lines
+        .map(|(name, rest)| (name, rest.split([',', ' ']).next().expect("a number").parse().expect("a number")))
+        .collect();
+    let order: Vec<u32> = refusals.iter().map(|refusal| refusal.1).collect();
+    assert_eq!(order, [0, 1, 2, 3, 4, 5, 6, 7, 8, 14, 9, 10, 11, 13, 15, 12]);
+    for (name, number) in &refusals[1..] {
+        let known = KNOWN.iter().find(|refusal| refusal.number() == *number).expect("a refusal of the wrapper");
+        assert_eq!(in_rust(name), format!("{known:?}").split('(').next().expect("a name"));
+    }
+    let defined = |name: &str| {
+        let rest = header().split_once(&format!("#define {name} ")).expect("a definition").1;
+        rest.lines().next().expect("a value").to_string()
+    };
+    assert_eq!(defined("PS2CARD_VERSION"), format!("\"{}\"", env!("CARGO_PKG_VERSION")));
+    let parts = env!("CARGO_PKG_VERSION").split('.').map(|part| part.parse::<usize>().expect("a number"));
+    assert_eq!(defined("PS2CARD_VERSION_NUMBER"), parts.fold(0, |number, part| 100 * number + part).to_string());
+    let cluster: usize = defined("PS2CARD_CLUSTER_BYTES").parse().expect("a number");
+    assert_eq!(defined("PS2CARD_MOST_BYTES"), format!("({} * PS2CARD_CLUSTER_BYTES)", MOST_BYTES / cluster));
+}
+
+const KNOWN: [Refusal; 15] = [
+    Refusal::BadLength,
+    Refusal::UnreadablePage(0),
+    Refusal::BadText,
+    Refusal::BadSuperblock,
+    Refusal::BadTableName,
+    Refusal::BadChain,
+    Refusal::BadEntry,
+    Refusal::BadPath,
+    Refusal::Absent,
+    Refusal::WrongKind,
+    Refusal::Exists,
+    Refusal::NoRoom,
+    Refusal::NotEmpty,
+    Refusal::BadTime,
+    Refusal::BadOffset,
+];
+
 /// The bytes of stack that the header gives for a function.
 fn promised(name: &str) -> usize {
     let (before, _) = header().split_once(&format!(" ps2card_{name}(")).expect("a declaration");
@@ -219,7 +258,7 @@ fn promised(name: &str) -> usize {
 #[test]
 fn stack() {
     let folder = Folder::new();
-    compile(&folder, "stack");
+    let program = c::compiled(&folder, c::test("stack"), Way::C99);
     let time = build::usual_time();
     for image in [build::standard(), build::crowded(), build::bench()] {
         let mut image = image;
@@ -229,7 +268,7 @@ fn stack() {
         reader::create(&mut image, b"/a/b/c/file", &time, &[1; 5000]).expect("room");
         let small = image.len() < 100_000;
         folder.write("card", &image);
-        let text = run(&folder, "stack", &["card"]);
+        let text = program.run(&folder, &["card"]).text();
         print!("{text}");
         assert_eq!(text.lines().count(), 10);
         for line in text.lines() {

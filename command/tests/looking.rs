@@ -5,14 +5,11 @@ mod common;
 use common::Folder;
 use reader::build::{self, bad, good, random};
 use reader::content::lines;
-use reader::{Entry, Refusal};
+use reader::{Counts, Entry, Refusal};
 
 fn counts(image: &[u8]) -> String {
-    let counts = reader::check(image).expect("an accepted card");
-    format!(
-        "card {}\nfree {}\nreached {}\norphaned {}\n",
-        counts.clusters, counts.free, counts.reached, counts.orphaned
-    )
+    let Counts { clusters, free, reached, orphaned } = reader::check(image).expect("an accepted card");
+    format!("card: OK, {free} KB free\ncard {clusters}\nfree {free}\nreached {reached}\norphaned {orphaned}\n")
 }
 
 #[test]
@@ -155,13 +152,21 @@ fn ls_for_people() {
     reader::create(&mut image, b"/SAVE/A B", &build::usual_time(), &[7; 1500]).expect("room");
     reader::create(&mut image, b"/note", &build::usual_time(), b"").expect("room");
     folder.write("card", &image);
-    let all = "dir   1 entry  2024-12-31T23:59:58  SAVE\nfile  0 bytes  2000-02-29T12:34:56  note\n";
+    let all = "dir   1 entry  SAVE\nfile  0 bytes  note\n";
     assert_eq!(folder.run(&["ls", "card"]).text(), all);
     assert_eq!(folder.run(&["ls", "card", "/"]).text(), all);
+    let long = "dir   1 entry  2024-12-31T23:59:58  SAVE\nfile  0 bytes  2000-02-29T12:34:56  note\n";
+    assert_eq!(folder.run(&["ls", "-l", "card"]).text(), long);
+    assert_eq!(folder.run(&["ls", "card", "/SAVE"]).text(), "file  1500 bytes  A B\n");
+    assert_eq!(folder.run(&["ls", "card", "/SAVE/A B"]).text(), "file  1500 bytes  A B\n");
     let save = "file  1500 bytes  2000-02-29T12:34:56  A B\n";
-    assert_eq!(folder.run(&["ls", "card", "/SAVE"]).text(), save);
-    assert_eq!(folder.run(&["ls", "card", "/SAVE/A B"]).text(), save);
+    assert_eq!(folder.run(&["ls", "card", "/SAVE", "-l"]).text(), save);
+    assert_eq!(folder.run(&["ls", "card", "/SAVE/A B", "-l"]).text(), save);
     folder.run(&["ls", "card", "/SAVE/B"]).refused(Refusal::number(9));
     folder.run(&["ls", "card", "SAVE"]).refused(Refusal::number(8));
     folder.run(&["ls", "card", "/note/x"]).refused(Refusal::number(10));
+    folder.run(&["delete", "card", "/SAVE/A B"]).done();
+    assert_eq!(folder.run(&["ls", "card", "/SAVE"]).text(), "/SAVE is empty\n");
+    folder.write("card", &build::bench());
+    assert_eq!(folder.run(&["ls", "card", "-l"]).text(), "/ is empty\n");
 }

@@ -112,7 +112,8 @@ fn leftovers() {
     let folder = Folder::new();
     folder.write("card", &build::bench());
     folder.write("elsewhere", b"mine");
-    symlink("elsewhere", folder.path(".card.ps2card-changing")).expect("a link");
+    symlink("elsewhere", folder.path(".ps2card-new-1-0")).expect("a link");
+    folder.write(".ps2card-new-1-1", b"half an image");
     folder.run(&["mkdir", "card", "/d"]).done();
     assert_eq!((folder.read("elsewhere"), folder.names()), (b"mine".to_vec(), vec!["card".into(), "elsewhere".into()]));
 }

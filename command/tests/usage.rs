@@ -5,8 +5,24 @@ mod common;
 use common::Folder;
 use reader::build;
 
-const COMMANDS: [&str; 14] = [
-    "check", "list", "ls", "find", "step", "read", "get", "create", "replace", "put", "delete", "mkdir", "rmdir", "new",
+/// The commands, and what people of other systems call them.
+const COMMANDS: [(&str, Option<&str>); 16] = [
+    ("check", Some("df")),
+    ("verify", None),
+    ("compare", None),
+    ("list", None),
+    ("ls", None),
+    ("find", Some("stat")),
+    ("step", None),
+    ("read", Some("cat")),
+    ("get", None),
+    ("put", None),
+    ("create", None),
+    ("replace", None),
+    ("delete", Some("rm")),
+    ("mkdir", None),
+    ("rmdir", None),
+    ("new", Some("format")),
 ];
 
 #[test]
@@ -14,15 +30,45 @@ fn help() {
     let folder = Folder::new();
     let all = folder.run(&["--help"]).text();
     assert_eq!(folder.run(&["-h"]).text(), all);
-    for command in COMMANDS {
-        assert!(all.contains(&format!("\n  {command} ")), "{command}");
+    assert_eq!(folder.run(&["help"]).text(), all);
+    let width = |text: &str| text.lines().map(str::len).max().unwrap_or(0);
+    for (command, alias) in COMMANDS {
         let text = folder.run(&[command, "--help"]).text();
-        assert!(text.starts_with(&format!("usage: ps2card {command} IMAGE")), "{text}");
+        let usage = format!("usage: ps2card {command} ");
+        let form = text.lines().next().and_then(|line| line.strip_prefix(&usage)).expect("a usage line");
+        // The list of all commands has the same form, but for the time.
+        let listed = format!("\n  {command:8} {} ", form.trim_end_matches(" [--stamp TIME]"));
+        assert!(all.contains(&listed), "{listed:?}");
         assert_eq!(folder.run(&[command, "a", "b", "c", "d", "e", "f", "--help"]).text(), text);
+        assert_eq!(folder.run(&["help", command]).text(), text);
+        if let Some(alias) = alias {
+            assert_eq!(folder.run(&[alias, "-h"]).text(), text);
+            assert!(text.contains(&format!("Also called {alias}.")) && all.contains(&format!("(also {alias})")));
+        }
         let timed = ["create", "replace", "put", "mkdir", "new"].contains(&command);
-        assert_eq!(text.contains("--stamp"), timed, "{text}");
+        assert_eq!((text.contains("--stamp"), form.contains("[--stamp TIME]")), (timed, timed), "{text}");
+        assert!(!text.contains("valid or not") && width(&text) <= 120, "{text}");
     }
-    assert!(all.lines().chain(COMMANDS).all(|line| line.len() <= 120));
+    assert!(width(&all) <= 120 && !all.contains("valid or not"));
+    assert!(folder.run(&["check", "--help"]).text().contains("It reads no file data"));
+    folder.run(&["help", "frob"]).failed(2, "no command frob");
+    let version = concat!("ps2card ", env!("CARGO_PKG_VERSION"), "\n");
+    assert_eq!(folder.run(&["--version"]).text(), version);
+    assert_eq!(folder.run(&["check", "-V"]).text(), version);
+}
+
+/// A command's other name does the same.
+#[test]
+fn other_names() {
+    let folder = Folder::new();
+    folder.run(&["format", "card", "56", "--stamp", common::USUAL]).done();
+    assert_eq!(folder.read("card"), build::bench());
+    folder.feed(&[b"create", b"card", b"/A", b"-"], b"a save").done();
+    assert_eq!(folder.run(&["cat", "card", "/A"]).done(), b"a save");
+    assert_eq!(folder.run(&["stat", "card", "/A"]), folder.run(&["find", "card", "/A"]));
+    assert_eq!(folder.run(&["df", "card"]), folder.run(&["check", "card"]));
+    folder.run(&["rm", "card", "/A"]).done();
+    assert_eq!(folder.run(&["ls", "card"]).text(), "/ is empty\n");
 }
 
 #[test]
@@ -30,13 +76,29 @@ fn wrong_usage() {
     let folder = Folder::new();
     let image = build::bench();
     folder.write("card", &image);
-    let wrong: [&[&str]; 24] = [
+    let wrong: [&[&str]; 40] = [
         &[],
         &["frob"],
         &["frob", "card"],
         &["--frob"],
         &["check"],
-        &["check", "card", "card"],
+        &["check", "-", "-"],
+        &["verify"],
+        &["verify", "-", "card", "-"],
+        &["compare", "card"],
+        &["compare", "card", "card", "card"],
+        &["compare", "-", "-"],
+        &["compare", "--bytes-only=yes", "card", "card"],
+        &["check", "-r", "card"],
+        &["ls", "--as", "x", "card"],
+        &["put", "card", ".", "--as"],
+        &["put", "card", ".", "--as", "a/b"],
+        &["put", "card", "-"],
+        &["delete", "-", "/A"],
+        &["mkdir", "-", "/A"],
+        &["new", "-"],
+        &["rmdir", "-r", "card", "/A"],
+        &["put", "-", "."],
         &["check", "--frob", "card"],
         &["list", "card", "/"],
         &["ls", "card", "/", "/"],
@@ -73,15 +135,4 @@ fn files_that_are_not_there() {
     }
     folder.run(&["delete", "none", "/A"]).failed(3, "cannot change none");
     folder.run(&["delete", ".", "/A"]).failed(3, "cannot change .");
-}
-
-/// A reader that goes away ends the command without a word.
-#[test]
-fn closed_output() {
-    let folder = Folder::new();
-    folder.write("card", &build::crowded());
-    let mut child = folder.start(&[b"list", b"card"]);
-    drop(child.stdout.take());
-    let output = child.wait_with_output().expect("it ends");
-    assert_eq!((output.status.code(), output.stderr), (Some(3), Vec::new()));
 }

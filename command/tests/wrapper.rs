@@ -59,6 +59,22 @@ fn refused_listings() {
     }
 }
 
+/// The check reads no file data, as the header says: a card with a damaged file passes, and a read of it does not.
+#[test]
+fn check_reads_no_file_data() {
+    let mut card = Card::new(build::bench());
+    card.create(b"/F", &time(), &[7; 3000]).expect("room");
+    let (sound, first) = (card.check(), card.find(b"/F").expect("a file").first as usize);
+    // The allocatable clusters of this card start at 10; its second page has bytes 512 to 1023.
+    let page = 2 * (10 + first) + 1;
+    let mut image = card.into_image();
+    image[page * 528] ^= 3;
+    let card = Card::new(image);
+    assert!(sound.is_ok() && card.check() == sound && card.list().is_ok());
+    assert_eq!(card.bytes(b"/F", 0, 3000), Err(Refusal::UnreadablePage(page)));
+    assert_eq!(card.bytes(b"/F", 0, 512).map(|bytes| bytes.len()), Ok(512));
+}
+
 /// Both errors go where any error goes, with words.
 #[test]
 fn errors() {
@@ -79,9 +95,9 @@ fn threads_and_stack() {
     let text = work(&mut Card::new(build::standard())).expect("room");
     let threads: Vec<thread::JoinHandle<Vec<u8>>> = (0..8)
         .map(|_| {
-            let card = Card::new(build::standard());
+            let mut card = Card::new(build::standard());
             let small = thread::Builder::new().stack_size(STACK + 64 * 1024);
-            small.spawn(move || (0..5).map(|_| work(&mut card.clone()).expect("room")).last().expect("a text"))
+            small.spawn(move || work(&mut card).expect("room"))
         })
         .map(|thread| thread.expect("a thread"))
         .collect();

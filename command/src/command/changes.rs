@@ -1,75 +1,104 @@
-//! The commands that are one change each: create, replace, delete, mkdir, rmdir.
+//! The commands that change what stands at one path: create, replace, delete, mkdir, rmdir.
 
-use ps2card::{image_file, Card, Refusal};
+use ps2card::{Card, Kind, Refusal};
 
-use super::{input, Command};
-use crate::arguments::Call;
+use super::{change, input, Command};
+use crate::arguments::{Call, Opt, Syntax};
 use crate::failure::Failure;
+use crate::output;
 
 pub const CREATE: Command = Command {
-    name: "create",
-    form: "IMAGE PATH FILE",
-    summary: "put a host file at a new path",
-    help: "Creates a file on the card with the bytes of a host file; - is standard input.",
-    words: 3..=3,
-    takes_time: true,
+    syntax: Syntax {
+        name: "create",
+        alias: None,
+        words: 3..=3,
+        options: &[Opt::Stamp],
+        help: include_str!("../help/create.txt"),
+    },
     run: create,
 };
 
 pub const REPLACE: Command = Command {
-    name: "replace",
-    form: "IMAGE PATH FILE",
-    summary: "put a host file in the place of a file",
-    help: "Replaces the bytes of a file on the card by those of a host file; - is standard input. The old bytes keep\n\
-           their room until the new ones stand: there must be room for both.",
-    words: 3..=3,
-    takes_time: true,
+    syntax: Syntax {
+        name: "replace",
+        alias: None,
+        words: 3..=3,
+        options: &[Opt::Stamp],
+        help: include_str!("../help/replace.txt"),
+    },
     run: replace,
 };
 
 pub const DELETE: Command = Command {
-    name: "delete",
-    form: "IMAGE PATH",
-    summary: "delete a file",
-    help: "Deletes a file on the card.",
-    words: 2..=2,
-    takes_time: false,
-    run: |call| change(call, |card| card.delete(call.bytes(1))),
+    syntax: Syntax {
+        name: "delete",
+        alias: Some("rm"),
+        words: 2..=2,
+        options: &[Opt::Recursive],
+        help: include_str!("../help/delete.txt"),
+    },
+    run: delete,
 };
 
 pub const MKDIR: Command = Command {
-    name: "mkdir",
-    form: "IMAGE PATH",
-    summary: "make a directory",
-    help: "Makes an empty directory on the card, at most three names deep.",
-    words: 2..=2,
-    takes_time: true,
-    run: |call| change(call, |card| card.make_dir(call.bytes(1), &call.stamp())),
+    syntax: Syntax {
+        name: "mkdir",
+        alias: None,
+        words: 2..=2,
+        options: &[Opt::Stamp],
+        help: include_str!("../help/mkdir.txt"),
+    },
+    run: |call| at_path(call, |card| card.make_dir(call.bytes(1), &call.stamp())),
 };
 
 pub const RMDIR: Command = Command {
-    name: "rmdir",
-    form: "IMAGE PATH",
-    summary: "remove an empty directory",
-    help: "Removes an empty directory on the card.",
-    words: 2..=2,
-    takes_time: false,
-    run: |call| change(call, |card| card.remove_dir(call.bytes(1))),
+    syntax: Syntax { name: "rmdir", alias: None, words: 2..=2, options: &[], help: include_str!("../help/rmdir.txt") },
+    run: |call| at_path(call, |card| card.remove_dir(call.bytes(1))),
 };
+
+/// One change at the path given.
+fn at_path(call: &Call, edit: impl FnOnce(&mut Card) -> Result<(), Refusal>) -> Result<(), Failure> {
+    change(call, |card| edit(card).map_err(|refusal| (refusal, call.bytes(1).to_vec())))
+}
 
 // The host file is read before the image is locked: standard input may take its time.
 fn create(call: &Call) -> Result<(), Failure> {
     let bytes = input(call.file(2))?;
-    change(call, |card| card.create(call.bytes(1), &call.stamp(), &bytes))
+    at_path(call, |card| card.create(call.bytes(1), &call.stamp(), &bytes))
 }
 
 fn replace(call: &Call) -> Result<(), Failure> {
     let bytes = input(call.file(2))?;
-    change(call, |card| card.replace(call.bytes(1), &call.stamp(), &bytes))
+    at_path(call, |card| card.replace(call.bytes(1), &call.stamp(), &bytes))
 }
 
-/// Changes the card in the image file.
-fn change(call: &Call, edit: impl FnOnce(&mut Card) -> Result<(), Refusal>) -> Result<(), Failure> {
-    image_file::change(call.image(), |card| Ok(edit(card)?))
-        .map_err(|error| Failure::of_image("change", call.image(), error))
+fn delete(call: &Call) -> Result<(), Failure> {
+    match call.asked(Opt::Recursive) {
+        true => change(call, |card| delete_all(card, call.bytes(1))),
+        false => at_path(call, |card| card.delete(call.bytes(1))),
+    }
+}
+
+/// Deletes a file, or a directory with all below it, what lies deepest first.
+fn delete_all(card: &mut Card, path: &[u8]) -> Result<(), (Refusal, Vec<u8>)> {
+    let met = |refusal: Refusal, path: &[u8]| (refusal, path.to_vec());
+    match card.delete(path) {
+        // A file on the way is refused in the same words as a directory at the end.
+        Err(Refusal::WrongKind) => card.find(path).map_err(|refusal| met(refusal, path))?,
+        done => return done.map_err(|refusal| met(refusal, path)),
+    };
+    let start = [path, b"/"].concat();
+    let below = card.tree().map_err(|refusal| met(refusal, path))?;
+    let below: Vec<_> = below.into_iter().filter(|line| line.path.starts_with(&start)).collect();
+    output::expect(below.len() + 1);
+    // In tree order a directory stands before its inside.
+    for line in below.iter().rev() {
+        let done = match line.kind {
+            Kind::File => card.delete(&line.path),
+            Kind::Directory => card.remove_dir(&line.path),
+        };
+        done.map_err(|refusal| met(refusal, &line.path))?;
+        output::advance();
+    }
+    card.remove_dir(path).map_err(|refusal| met(refusal, path))
 }

@@ -2,26 +2,28 @@
 
 use ps2card::{allowed_clusters, image_file, Card, STANDARD_CLUSTERS};
 
-use super::Command;
-use crate::arguments::Call;
+use super::{changeable, say, Command};
+use crate::arguments::{Call, Opt, Syntax};
 use crate::failure::Failure;
 
 pub const NEW: Command = Command {
-    name: "new",
-    form: "IMAGE [N]",
-    summary: "make a fresh formatted card",
-    help: "Makes an image file of a formatted, empty card with N clusters of 1,024 bytes: a multiple of 8 from 32 to\n\
-           8,192 (default: 8,192, a card of 8 MB). The file must not exist. The time is that of the root directory.",
-    words: 1..=2,
-    takes_time: true,
+    syntax: Syntax {
+        name: "new",
+        alias: Some("format"),
+        words: 1..=2,
+        options: &[Opt::Stamp],
+        help: include_str!("../help/new.txt"),
+    },
     run: new,
 };
 
 fn new(call: &Call) -> Result<(), Failure> {
+    let image = changeable(call)?;
     let clusters = call.number(1, "N")?.unwrap_or(STANDARD_CLUSTERS);
     if !allowed_clusters(clusters) {
         return Err(call.usage(format!("N is a multiple of 8 from 32 to 8192, not {clusters}")));
     }
-    let card = Card::fresh(clusters, &call.stamp())?;
-    image_file::create(call.image(), &card).map_err(|error| Failure::of_image("make", call.image(), error))
+    let card = Card::fresh(clusters, &call.stamp()).map_err(|refusal| Failure::refused(refusal, image))?;
+    image_file::create(image, &mut |notice| say(image, notice), &card)
+        .map_err(|error| Failure::of_image("make", image, error))
 }

@@ -1,103 +1,118 @@
 //! The command that copies files out to the host: get.
 
 use std::ffi::OsStr;
-use std::fs::{self, File, OpenOptions};
+use std::fs::{self, DirBuilder, File, FileTimes, OpenOptions};
 use std::io::{self, Write};
 use std::os::unix::ffi::OsStrExt;
 use std::path::{Path, PathBuf};
+use std::time::SystemTime;
 
-use ps2card::{image_file, Card, Kind, Refusal};
+use ps2card::image_file::{absent, sync_folder, Growing, Notice};
+use ps2card::{Entry, Kind};
 
-use super::{load, print, Command};
-use crate::arguments::Call;
+use super::image::Image;
+use super::{print, say, Command};
+use crate::arguments::{Call, Syntax};
 use crate::failure::Failure;
+use crate::{host_time, output};
 
 pub const GET: Command = Command {
-    name: "get",
-    form: "IMAGE PATH FILE|DIR",
-    summary: "copy a file or a whole directory out",
-    help:
-        "Copies a file on the card to a host file (- is standard output), or a directory with all below it to a host\n\
-           directory. What it makes must not exist. All of it is read before anything is written.",
-    words: 3..=3,
-    takes_time: false,
+    syntax: Syntax { name: "get", alias: None, words: 3..=3, options: &[], help: include_str!("../help/get.txt") },
     run: get,
 };
 
-/// One file or directory to make on the host.
+/// One file or directory to make on the host, below the copy's own name; what is a file has bytes.
 struct Copy {
-    to: PathBuf,
+    below: PathBuf,
     bytes: Option<Vec<u8>>,
+    modified: Option<SystemTime>,
 }
 
 fn get(call: &Call) -> Result<(), Failure> {
-    let card = load(call)?;
+    let image = Image::load(call.image())?;
     let (path, to) = (call.bytes(1), call.file(2));
-    let copies = match card.find(path)?.kind() {
-        Kind::File => {
-            let bytes = card.bytes(path, 0, usize::MAX)?;
-            if to == Path::new("-") {
-                return print(&bytes);
-            }
-            vec![Copy { to: to.to_path_buf(), bytes: Some(bytes) }]
-        }
-        Kind::Directory => below(&card, path, to).map_err(|(refusal, at)| Failure::Refused(refusal, Some(at)))?,
+    let entry = image.find(path)?;
+    if to == Path::new("-") {
+        return print(&image.bytes(path, 0, entry.length as usize)?);
+    }
+    let failed = |error| Failure::host("write", to, error);
+    absent(to).map_err(failed)?;
+    // All is read before anything is written.
+    let copies = match entry.kind() {
+        Kind::File => vec![copy(&image, path, PathBuf::new(), &entry)?],
+        Kind::Directory => tree(&image, path, &entry)?,
     };
-    write(&copies)
+    write(&copies, to).map_err(failed)?;
+    if let Err(error) = sync_folder(to) {
+        say(to, Notice::Unsynced(error));
+    }
+    Ok(())
 }
 
-/// A directory and all below it, in tree order; a refusal with the path that it is met at.
-fn below(card: &Card, path: &[u8], to: &Path) -> Result<Vec<Copy>, (Refusal, Vec<u8>)> {
-    let mut copies = vec![Copy { to: to.to_path_buf(), bytes: None }];
-    let inside: &[u8] = if path == b"/" { b"" } else { path };
-    for line in card.tree().map_err(|refusal| (refusal, path.to_vec()))? {
-        let Some(rest) = line.path.strip_prefix(inside).and_then(|rest| rest.strip_prefix(b"/")) else { continue };
-        let bytes = match line.kind {
-            Kind::File => {
-                Some(card.bytes(&line.path, 0, line.length as usize).map_err(|refusal| (refusal, line.path.clone()))?)
-            }
-            Kind::Directory => None,
-        };
-        copies.push(Copy { to: to.join(OsStr::from_bytes(rest)), bytes });
+fn copy(image: &Image, path: &[u8], below: PathBuf, entry: &Entry) -> Result<Copy, Failure> {
+    let bytes = match entry.kind() {
+        Kind::File => Some(image.bytes(path, 0, entry.length as usize)?),
+        Kind::Directory => None,
+    };
+    Ok(Copy { below, bytes, modified: host_time::moment(&entry.modified) })
+}
+
+/// A directory and all below it, in tree order.
+fn tree(image: &Image, path: &[u8], entry: &Entry) -> Result<Vec<Copy>, Failure> {
+    let start = if path == b"/" { b"/".to_vec() } else { [path, b"/"].concat() };
+    let tree = image.tree()?;
+    let below: Vec<_> = tree.iter().filter(|line| line.path.starts_with(&start)).collect();
+    output::expect(below.len());
+    let mut copies = vec![copy(image, path, PathBuf::new(), entry)?];
+    for line in below {
+        let entry = image.find(&line.path)?;
+        copies.push(copy(image, &line.path, PathBuf::from(OsStr::from_bytes(&line.path[start.len()..])), &entry)?);
+        output::advance();
     }
     Ok(copies)
 }
 
-/// Makes all of them and sees that they last; on an error takes back what it made.
-fn write(copies: &[Copy]) -> Result<(), Failure> {
-    let mut made = Vec::new();
-    for copy in copies {
-        if let Err(error) = make(copy, &mut made) {
-            made.into_iter().rev().for_each(take_back);
-            return Err(Failure::host("write", &copy.to, error));
-        }
-    }
-    let first = &copies[0].to;
-    let mut folders = copies.iter().filter(|copy| copy.bytes.is_none());
-    let synced = folders.try_for_each(|copy| File::open(&copy.to)?.sync_all());
-    synced.and_then(|()| image_file::sync_folder(first)).map_err(|error| Failure::host("write", first, error))
-}
-
-/// Makes one, never over another.
-fn make<'a>(copy: &'a Copy, made: &mut Vec<&'a Copy>) -> io::Result<()> {
-    match &copy.bytes {
-        None => {
-            fs::create_dir(&copy.to)?;
-            made.push(copy);
-            Ok(())
-        }
-        Some(bytes) => {
-            let mut file = OpenOptions::new().write(true).create_new(true).open(&copy.to)?;
-            made.push(copy);
-            file.write_all(bytes)?;
-            file.sync_all()
-        }
-    }
-}
-
-fn take_back(copy: &Copy) {
-    let _ = match copy.bytes {
-        Some(_) => fs::remove_file(&copy.to),
-        None => fs::remove_dir(&copy.to),
+/// Makes all of them under a hidden name, sees that they last, and then gives the first its own.
+fn write(copies: &[Copy], to: &Path) -> io::Result<()> {
+    let (whole, inside) = copies.split_first().expect("a copy has a file or a directory");
+    let growing = match whole.bytes {
+        Some(_) => Growing::file(to, 0o666)?,
+        None => Growing::directory(to)?,
     };
+    if let Some(bytes) = &whole.bytes {
+        fill(growing.handle(), growing.at(), bytes, whole)?;
+    }
+    for copy in inside {
+        let at = growing.at().join(&copy.below);
+        match &copy.bytes {
+            Some(bytes) => fill(&OpenOptions::new().write(true).create_new(true).open(&at)?, &at, bytes, copy)?,
+            None => DirBuilder::new().create(&at)?,
+        }
+    }
+    // A directory's time would move with each file that is made in it.
+    for copy in inside.iter().rev().filter(|copy| copy.bytes.is_none()) {
+        keep(&File::open(growing.at().join(&copy.below))?, copy)?;
+    }
+    if whole.bytes.is_none() {
+        keep(growing.handle(), whole)?;
+    }
+    growing.place_new(to)
+}
+
+/// Writes a file, and reads it back.
+fn fill(mut file: &File, at: &Path, bytes: &[u8], copy: &Copy) -> io::Result<()> {
+    file.write_all(bytes)?;
+    keep(file, copy)?;
+    match fs::read(at)? == bytes {
+        true => Ok(()),
+        false => Err(io::Error::other("what was written reads back differently")),
+    }
+}
+
+/// Gives it the card's time, and sees that it lasts.
+fn keep(file: &File, copy: &Copy) -> io::Result<()> {
+    if let Some(modified) = copy.modified {
+        file.set_times(FileTimes::new().set_modified(modified))?;
+    }
+    file.sync_all()
 }

@@ -26,14 +26,7 @@ static void print_hex(const uint8_t *bytes, size_t count) {
     }
 }
 
-/* The fields of an entry, as find and step hand them out. */
-struct entry {
-    uint16_t mode;
-    uint32_t length, first, dir_entry, attribute;
-    uint8_t created[8], modified[8], name[32];
-};
-
-static void print_entry(const struct entry *e) {
+static void print_entry(const ps2card_entry *e) {
     printf(" %x %lu %lu %lu %lu ", (unsigned)e->mode, (unsigned long)e->length, (unsigned long)e->first,
            (unsigned long)e->dir_entry, (unsigned long)e->attribute);
     print_hex(e->created, 8);
@@ -43,31 +36,30 @@ static void print_entry(const struct entry *e) {
 }
 
 static void check(void) {
-    size_t page = UNTOUCHED, free_count = UNTOUCHED, reached = UNTOUCHED, orphaned = UNTOUCHED;
-    uint32_t clusters = UNTOUCHED;
-    uint32_t number = ps2card_check(image, image_length, &page, &clusters, &free_count, &reached, &orphaned);
-    printf("check %lu %lu %lu %lu %lu %lu\n", (unsigned long)number, (unsigned long)page, (unsigned long)clusters,
-           (unsigned long)free_count, (unsigned long)reached, (unsigned long)orphaned);
+    ps2card_counts c = {UNTOUCHED, UNTOUCHED, UNTOUCHED, UNTOUCHED};
+    size_t page = UNTOUCHED;
+    uint32_t number = ps2card_check_counts(image, image_length, &page, &c);
+    printf("check %lu %lu %lu %lu %lu %lu\n", (unsigned long)number, (unsigned long)page, (unsigned long)c.clusters,
+           (unsigned long)c.free, (unsigned long)c.reached, (unsigned long)c.orphaned);
 }
 
 static void find(const char *path) {
-    struct entry e;
+    ps2card_entry e;
     size_t page = UNTOUCHED;
     uint32_t number;
     memset(&e, UNTOUCHED, sizeof e);
-    number = ps2card_find(image, image_length, text(path), strlen(path), &page, &e.mode, &e.length, e.created, &e.first,
-                          &e.dir_entry, e.modified, &e.attribute, e.name);
-    printf("find %lu %lu", (unsigned long)number, (unsigned long)page);
+    number = ps2card_find_entry(image, image_length, text(path), strlen(path), &page, &e);
+    printf("find %lu %lu %d %lu", (unsigned long)number, (unsigned long)page, ps2card_is_directory(&e),
+           (unsigned long)ps2card_name_length(&e));
     print_entry(&e);
 }
 
 static void step(const char *path, uint32_t slot) {
-    struct entry e;
+    ps2card_entry e;
     size_t page = UNTOUCHED;
     uint32_t found = UNTOUCHED, at = UNTOUCHED, number;
     memset(&e, UNTOUCHED, sizeof e);
-    number = ps2card_step(image, image_length, text(path), strlen(path), slot, &page, &found, &at, &e.mode, &e.length,
-                          e.created, &e.first, &e.dir_entry, e.modified, &e.attribute, e.name);
+    number = ps2card_step_entry(image, image_length, text(path), strlen(path), slot, &page, &found, &at, &e);
     printf("step %lu %lu %lu %lu", (unsigned long)number, (unsigned long)page, (unsigned long)found, (unsigned long)at);
     print_entry(&e);
 }
@@ -136,6 +128,7 @@ int main(int count, char **words) {
     create("/D/F", time_of_change, "some bytes of a save");
     create("/D/G", time_of_change, "");
     create("/none/F", time_of_change, "");
+    find("/");
     find("/D/F");
     find("/D/H");
     step("/D", 0);
