@@ -2,12 +2,13 @@
 use Prim.Native.Nat.{ℕ, zero, suc, _*_, _+_, _-_}
 use mathlib.Core.Bool.{cond, false}
 use mathlib.Core.List.{List}
+use mathlib.Core.Option.{Option, none, some}
 use mathlib.Core.Path.{_∙_, _≡_, ap, refl, sym}
 use lib.ListN.{length}
 use Rattle.change.proofs.ChangedLaws.{Done, accepted, answered, checked-parts, performs}
 use Rattle.change.proofs.ChangedView.{end-is, no-words}
 use Rattle.change.specs.Changed as change
-use Rattle.change.specs.Changed.{changed, changedBy, decided, imageWith, rulesOf}
+use Rattle.change.specs.Changed.{changed, changedBy, decided, outcomeWith, rulesOf}
 use Rattle.layout.specs.declared.Superblock.{Superblock}
 use Rattle.layout.specs.See.{checkImage, see}
 use Rattle.layout.proofs.Geometry.{open-facts}
@@ -23,7 +24,7 @@ use Rattle.model.specs.Counts.{isFree, totalBelow}
 use Rattle.model.specs.Lookup.{Found, absent, found, lookUp, tell}
 use Rattle.model.specs.Names.{Path, beginning, samePath}
 use Rattle.model.specs.Perform.{done, perform}
-use Rattle.model.specs.Plan.{freeOf, planOf}
+use Rattle.model.specs.Plan.{Plan, freeOf, planOf}
 use Rattle.model.specs.Refusal.{needed, refusal}
 use Rattle.model.specs.Standing.{standingsOf, treeOf}
 use Rattle.model.specs.Tree.{Root, chainOf}
@@ -126,14 +127,16 @@ pub refusal-leaves : RefusalLeaves
 unfolding changed
 refusal-leaves image c n p e = go (checkImage image) e
   where
-    by-number : (k : ℕ) (next : List ℕ) → (decided k image next) .answer ≡ fault n p → (decided k image next) .image ≡ image
-    by-number zero next e = not-ok n p tt (sym e)
-    by-number (suc k) next e = refl
+    by-number : (s : Superblock) (k : ℕ) (plan : Option Plan) → (decided k image (outcomeWith s image plan)) .answer ≡ fault n p
+        → (decided k image (outcomeWith s image plan)) .image ≡ image
+    by-number s zero none e = refl
+    by-number s zero (some plan) e = not-ok n p tt (sym e)
+    by-number s (suc k) plan e = refl
 
     go : (r : Result (Superblock × Root × Marks)) → (changedBy c image r) .answer ≡ fault n p → (changedBy c image r) .image ≡ image
     go (fault k q) e = refl
     go (ok x) e =
-        by-number (refusal (rulesOf (x .0)) c (see (x .0) image) (x .1)) (imageWith (x .0) image (planOf (rulesOf (x .0)) c (see (x .0) image) (x .1))) e
+        by-number (x .0) (refusal (rulesOf (x .0)) c (see (x .0) image) (x .1)) (planOf (rulesOf (x .0)) c (see (x .0) image) (x .1)) e
 
 -- ---- demand 3
 module _ (image : List ℕ) (s : Superblock) (root : Root) (m : Marks) (checked : checkImage image ≡ ok (s, root, m)) where
