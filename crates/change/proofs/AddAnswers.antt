@@ -31,7 +31,7 @@ module _ (s : Superblock) (image table : List ℕ) (at first : ℕ) (page name t
   made-kind d = rw d (refl, refl)
 
   module _ (directory : isDirectory (entryOf page) ≡ true) where
-    module _ (k p : ℕ) (there : placeOf (viewBy (s .offset) table image) table first page name ≡ place.At k p) where
+    module _ (k p : ℕ) (there : placeOf (viewBy (s .geometry) table image) table first page name ≡ place.At k p) where
       pub created-there : (bytes : List ℕ) → Says (fault 11 0) image (createdIn s image table at first page name time bytes)
       unfolding createdIn
       created-there bytes = rw (directory, there) (refl, refl)
@@ -40,8 +40,8 @@ module _ (s : Superblock) (image table : List ℕ) (at first : ℕ) (page name t
       unfolding madeIn
       made-there = rw (directory, there) (refl, refl)
 
-    module _ (missing : placeOf (viewBy (s .offset) table image) table first page name ≡ place.Nowhere) {dead : Place}
-        (dead-is : deadOf (viewBy (s .offset) table image) table first page ≡ dead) where
+    module _ (missing : placeOf (viewBy (s .geometry) table image) table first page name ≡ place.Nowhere) {dead : Place}
+        (dead-is : deadOf (viewBy (s .geometry) table image) table first page ≡ dead) where
       pub created-so : (bytes : List ℕ) → createdIn s image table at first page name time bytes ≡ added s image table at first page dead fileMode (length bytes) time name bytes
       unfolding createdIn
       created-so bytes = rw (directory, missing, dead-is)
@@ -58,9 +58,9 @@ module _ (s : Superblock) (image table : List ℕ) (at first : ℕ) (page name t
       → dots ≡ dotsOf s image table first (numberBy dead (word page 4)) time
   dots-so dead e n d u b = rw (b, d, u, n, e)
 
-  module _ {dead : Place} (dead-is : deadOf (viewBy (s .offset) table image) table first page ≡ dead)
-      (can : CanAdd s image table at first page (deadOf (viewBy (s .offset) table image) table first page) directoryMode 2 time name
-      (dotsOf s image table first (numberBy (deadOf (viewBy (s .offset) table image) table first page) (word page 4)) time)) where
+  module _ {dead : Place} (dead-is : deadOf (viewBy (s .geometry) table image) table first page ≡ dead)
+      (can : CanAdd s image table at first page (deadOf (viewBy (s .geometry) table image) table first page) directoryMode 2 time name
+      (dotsOf s image table first (numberBy (deadOf (viewBy (s .geometry) table image) table first page) (word page 4)) time)) where
     pub number-fits : {entries : ℕ} → entries ≡ word page 4 → numberBy dead entries < 4294967296
     number-fits e = let z = ap₂ numberBy dead-is (sym e) in omega (arith, can .low-slot)
 

@@ -10,7 +10,7 @@ use lib.ListN.{getD, length, length-append}
 use Rattle.layout.specs.declared.Superblock.{Superblock}
 use Rattle.layout.specs.See.{checkImage, see}
 use Rattle.layout.specs.Table.{openCard, tableOf}
-use Rattle.layout.proofs.Geometry.{open-facts}
+use Rattle.layout.proofs.OpenFacts.{open-facts}
 use Rattle.layout.proofs.TableLaws.{length-table}
 use Rattle.lookup.specs.declared.along.Place.{Place}
 use Rattle.lookup.specs.declared.along.Place.the-variants as place

@@ -67,9 +67,9 @@ module _ (image : List ℕ) (s : Superblock) (table : List ℕ) (l : Loaded imag
 
 -- ---- at the directory
 module _ (image : List ℕ) (s : Superblock) (table : List ℕ) (K : Kind) (path : List ℕ) (count : ℕ) (time bytes : List ℕ) (r : Ready image s table K path count time bytes)
-    (a : Arrived) (led : a ≡ descended (viewBy (s .offset) table image) table (namesFrom path 0 (count - 1))) where
-  led-so : a ≡ descended (viewBy (s .offset) (tableOf image s) image) (tableOf image s) (namesFrom path 0 (count - 1))
-  led-so = led ∙ ap (λ t. descended (viewBy (s .offset) t image) t (namesFrom path 0 (count - 1))) (r .card .words)
+    (a : Arrived) (led : a ≡ descended (viewBy (s .geometry) table image) table (namesFrom path 0 (count - 1))) where
+  led-so : a ≡ descended (viewBy (s .geometry) (tableOf image s) image) (tableOf image s) (namesFrom path 0 (count - 1))
+  led-so = led ∙ ap (λ t. descended (viewBy (s .geometry) t image) t (namesFrom path 0 (count - 1))) (r .card .words)
 
   many : length (r .names) ≡ suc (count - 1)
   many = omega (arith, r .many, r .some-names)

@@ -33,7 +33,7 @@ unfolding checkImage andThen
 checked-parts bytes s root m e = go (openCard bytes) refl e
   where
     inner : (t : Superblock) → openCard bytes ≡ ok t → (c : Result (Root × Marks)) → checkTree (see t bytes) ≡ c
-        → andThen {A = Root × Marks} {B = Superblock × Root × Marks} (onImage (t .offset) c) (λ x. ok (t, x .0, x .1)) ≡ ok (s, root, m) → (openCard bytes ≡ ok s) × (checkTree (see s bytes) ≡ ok (root, m))
+        → andThen {A = Root × Marks} {B = Superblock × Root × Marks} (onImage (t .geometry) c) (λ x. ok (t, x .0, x .1)) ≡ ok (s, root, m) → (openCard bytes ≡ ok s) × (checkTree (see s bytes) ≡ ok (root, m))
     inner t o (fault n p) f k = not-ok _ _ (s, root, m) k
     inner t o (ok x) f k =
         let z : _≡_ {A = Superblock × Root × Marks} (t, x .0, x .1) (s, root, m) = same-ok _ _ k in

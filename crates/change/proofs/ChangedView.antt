@@ -12,9 +12,9 @@ use lib.ListN.{List·getD-eq-default, drop, getD, length}
 use Rattle.page.specs.Page.{pageAt}
 use Rattle.page.proofs.Laws.{page-length}
 use Rattle.layout.specs.declared.Superblock.{Superblock}
-use Rattle.layout.specs.See.{pageIn, see}
+use Rattle.layout.specs.See.{imagePage, pageIn, see}
 use Rattle.layout.specs.Table.{dataOf, namesOf, openCard, tableClusters, tableOf, tablePage, tableWord}
-use Rattle.layout.proofs.Geometry.{Geometry, names-kept, open-facts, open-kept}
+use Rattle.layout.proofs.OpenFacts.{Geometry, names-kept, open-facts, open-kept}
 use Rattle.layout.proofs.Stages.{Readable}
 use Rattle.layout.proofs.TableLaws.{getD-table, length-table}
 use Rattle.model.specs.Check.{ok}
@@ -53,7 +53,7 @@ module _ (image : List ℕ) (s : Superblock) (opened : openCard image ≡ ok s) 
   count = 2 * tableClusters (s .end)
 
   -- the table's pages lie below the allocatable clusters, after the superblock, and no two are one
-  table-low : (t : ℕ) → t < 2 * tableClusters (s .end) → tablePage (namesOf image s) t < 2 * s .offset
+  table-low : (t : ℕ) → t < 2 * tableClusters (s .end) → tablePage (namesOf image s) t < 2 * s .geometry .offset
   table-low t h = omega (arith, (facts .range (t / 2) (omega arith)) .1)
 
   table-high : (t : ℕ) → t < 2 * tableClusters (s .end) → 2 ≤ tablePage (namesOf image s) t
@@ -69,7 +69,7 @@ module _ (image : List ℕ) (s : Superblock) (opened : openCard image ≡ ok s) 
   table-aside : (t : ℕ) → t < 2 * tableClusters (s .end) → tablePage (namesOf image s) t / 2 ≡ s .indirect → ⊥
   table-aside t h e = facts .apart (t / 2) (omega arith) (omega arith)
 
-  room : 1056 * (s .offset + s .end) ≤ length image
+  room : 1056 * (s .geometry .offset + s .end) ≤ length image
   room = omega (arith, facts .long, facts .room)
 
   sized : (a : ℕ) → Sized ((see s image) .page a)
@@ -77,7 +77,7 @@ module _ (image : List ℕ) (s : Superblock) (opened : openCard image ≡ ok s) 
   sized a page e = go (bool (ltb a (2 * length (tableOf image s)))) e
     where
       go : (ltb a (2 * length (tableOf image s)) ≡ true) ⊎ (ltb a (2 * length (tableOf image s)) ≡ false) → (see s image) .page a ≡ some page → length page ≡ 512
-      go (inl i) e = page-length image (2 * s .offset + a) page (rw i at e)
+      go (inl i) e = page-length image (imagePage (s .geometry) a) page (rw i at e)
       go (inr i) e = absurd (let f : _≡_ {A = Option (List ℕ)} none (some page) = rw i at e in let z : _≡_ {A = ℕ} 0 1 = cc in omega arith)
 
   pub no-words : (c : ℕ) → (rulesOf s) .allocEnd ≤ c → (see s image) .link c ≡ Link.free
@@ -104,24 +104,24 @@ module _ (image : List ℕ) (s : Superblock) (opened : openCard image ≡ ok s) 
     land = rw end-is at (lands (rulesOf s) (see s image) sized (λ a. refl) root holds no-words p d)
 
     abbrev between : List ℕ
-    between = writePages (s .offset) (pageWrites (see s image) p) image
+    between = writePages (s .geometry) (pageWrites (see s image) p) image
 
-    low-kept : (q : ℕ) → q < 2 * s .offset → pageAt (writePages (s .offset) (pageWrites (see s image) p) image) q ≡ pageAt image q
-    low-kept q h = writes.low-page-kept (s .offset) (s .end) (pageWrites (see s image) p) image land q h
+    low-kept : (q : ℕ) → q < 2 * s .geometry .offset → pageAt (writePages (s .geometry) (pageWrites (see s image) p) image) q ≡ pageAt image q
+    low-kept q h = writes.low-page-kept (s .geometry) (s .end) (pageWrites (see s image) p) image land q h
 
-    still-readable : (t : ℕ) → t < 2 * tableClusters (s .end) → Readable (writePages (s .offset) (pageWrites (see s image) p) image) (tablePage (namesOf image s) t)
+    still-readable : (t : ℕ) → t < 2 * tableClusters (s .end) → Readable (writePages (s .geometry) (pageWrites (see s image) p) image) (tablePage (namesOf image s) t)
     still-readable t h = let e = low-kept (tablePage (namesOf image s) t) (table-low t h) in rw e (facts .table-read t h)
 
     table : Stored (namesOf image s) (s .end) (wordsAfter p (λ c. getD (tableOf image s) c 0)) (2 * tableClusters (s .end)) table-apart (2 * tableClusters (s .end))
-        (writePages (s .offset) (pageWrites (see s image) p) image) (imageAfter s image p)
+        (writePages (s .geometry) (pageWrites (see s image) p) image) (imageAfter s image p)
     unfolding imageAfter
     table = stored (namesOf image s) (s .end) _ (2 * tableClusters (s .end)) table-apart _ still-readable (2 * tableClusters (s .end)) (omega arith)
 
     pub length-after : length (imageAfter s image p) ≡ length image
-    length-after = table .long ∙ writes.length-pages-written (s .offset) (s .end) (pageWrites (see s image) p) image land
+    length-after = table .long ∙ writes.length-pages-written (s .geometry) (s .end) (pageWrites (see s image) p) image land
 
     -- pages below the allocatable clusters that are none of the table's
-    pub page-kept : (q : ℕ) → q < 2 * s .offset → ((t : ℕ) → t < 2 * tableClusters (s .end) → tablePage (namesOf image s) t ≡ q → ⊥) → pageAt (imageAfter s image p) q ≡ pageAt image q
+    pub page-kept : (q : ℕ) → q < 2 * s .geometry .offset → ((t : ℕ) → t < 2 * tableClusters (s .end) → tablePage (namesOf image s) t ≡ q → ⊥) → pageAt (imageAfter s image p) q ≡ pageAt image q
     page-kept q h n = table .other q n ∙ low-kept q h
 
     first-kept : pageAt (imageAfter s image p) (2 * s .indirect) ≡ pageAt image (2 * s .indirect)
@@ -140,16 +140,16 @@ module _ (image : List ℕ) (s : Superblock) (opened : openCard image ≡ ok s) 
         first-kept second-kept (λ t h. rw (table .table t h) refl)
 
     -- storing the table leaves the allocatable pages
-    aside : (a : ℕ) → pageIn (s .offset) (s .end) (imageAfter s image p) a ≡ pageIn (s .offset) (s .end) (writePages (s .offset) (pageWrites (see s image) p) image) a
+    aside : (a : ℕ) → pageIn (s .geometry) (s .end) (imageAfter s image p) a ≡ pageIn (s .geometry) (s .end) (writePages (s .geometry) (pageWrites (see s image) p) image) a
     unfolding pageIn
-    aside a = ap (λ o. cond (ltb a (2 * s .end)) o none) (table .other (2 * s .offset + a) (λ t h e. omega (arith, table-low t h)))
+    aside a = ap (λ o. cond (ltb a (2 * s .end)) o none) (table .other (imagePage (s .geometry) a) (λ t h e. omega (arith, table-low t h)))
 
     page-law : (a : ℕ) → (see s (imageAfter s image p)) .page a ≡ (after (see s image) p) .page a
     page-law a =
-        ap (λ n. pageIn (s .offset) n (imageAfter s image p) a) (length-table (imageAfter s image p) s)
+        ap (λ n. pageIn (s .geometry) n (imageAfter s image p) a) (length-table (imageAfter s image p) s)
         ∙ aside a
-        ∙ writes.pages-written (s .offset) (s .end) (pageWrites (see s image) p) image room land a
-        ∙ ap (λ n. pagesAfter (pageWrites (see s image) p) (pageIn (s .offset) n image) a) (sym (length-table image s))
+        ∙ writes.pages-written (s .geometry) (s .end) (pageWrites (see s image) p) image room land a
+        ∙ ap (λ n. pagesAfter (pageWrites (see s image) p) (pageIn (s .geometry) n image) a) (sym (length-table image s))
         ∙ sym (pages-written (rulesOf s) (see s image) root holds p d a)
 
     link-law : (c : ℕ) → (see s (imageAfter s image p)) .link c ≡ (after (see s image) p) .link c

@@ -1,4 +1,6 @@
 -- A change put down, step by step: the table's words linked anew, the pages written, and then the table's pages.
+use Rattle.layout.specs.See.{imagePage}
+use Rattle.layout.specs.declared.Geometry.{Geometry}
 use Prim.Native.Nat.{ℕ, _*_, _+_, _<_, _≤_}
 use mathlib.Core.Bool.{Bool, false, true}
 use mathlib.Core.List.{List, [], _++_, _∷_}
@@ -9,7 +11,7 @@ use lib.ListN.{getD, length}
 use Rattle.page.specs.Page.{isSome, pageAt, put}
 use Rattle.layout.specs.declared.Superblock.{Superblock}
 use Rattle.layout.specs.Table.{namesOf, openCard, tableClusters}
-use Rattle.layout.proofs.Geometry.{names-kept, open-facts}
+use Rattle.layout.proofs.OpenFacts.{names-kept, open-facts}
 use Rattle.model.specs.Check.{ok}
 use Rattle.model.specs.Pages.{dataPages, zeroPage}
 use Rattle.model.specs.Tree.{hit, times}
@@ -48,32 +50,32 @@ module _ (back count : ℕ) (taken : List ℕ) (last : ℕ) (growth table : List
   relinked-only none = so-far ∙ not-led last growth (chained taken (clearedFrom back count table)) none
 
 -- ---- the pages
-module _ (offset : ℕ) (image : List ℕ) where
-  pub no-zeros : (growth : List ℕ) → length growth ≡ 0 → image ≡ writePages offset (clusterWrites (pagesOf growth) (some zeroPage ∷ some zeroPage ∷ [])) image
+module _ (geometry : Geometry) (image : List ℕ) where
+  pub no-zeros : (growth : List ℕ) → length growth ≡ 0 → image ≡ writePages geometry (clusterWrites (pagesOf growth) (some zeroPage ∷ some zeroPage ∷ [])) image
   no-zeros [] h = refl
   no-zeros (g ∷ gs) h = absurd (omega arith)
 
-  pub zeros-written : (growth : List ℕ) {zeros one both : List ℕ} → (length growth ≡ 0 → ⊥) → length growth ≤ 1 → zeros ≡ zeroPage
-      → one ≡ put true (2 * offset + 2 * getD growth 0 0) zeros image → both ≡ put true (2 * offset + 2 * getD growth 0 0 + 1) zeros one
-      → both ≡ writePages offset (clusterWrites (pagesOf growth) (some zeroPage ∷ some zeroPage ∷ [])) image
-  zeros-written [] h k z e f = absurd (h refl)
-  zeros-written (g ∷ []) {one = one} h k z e f =
-      let place : 2 * offset + 2 * g + 1 ≡ 2 * offset + (2 * g + 1) = omega arith in
-      f ∙ ap₂ (λ (p : ℕ) (d : List ℕ). put true p d one) place z ∙ ap (put true (2 * offset + (2 * g + 1)) zeroPage) (e ∙ ap (λ (d : List ℕ). put true (2 * offset + 2 * g) d image) z)
-  zeros-written (g ∷ h ∷ gs) n k z e f = absurd (omega arith)
+  pub zeros-written : (growth : List ℕ) {at : ℕ} {zeros one both : List ℕ} → (length growth ≡ 0 → ⊥) → length growth ≤ 1 → zeros ≡ zeroPage
+      → at ≡ imagePage geometry (2 * getD growth 0 0) → one ≡ put true at zeros image → both ≡ put true (at + 1) zeros one
+      → both ≡ writePages geometry (clusterWrites (pagesOf growth) (some zeroPage ∷ some zeroPage ∷ [])) image
+  zeros-written [] h k z p e f = absurd (h refl)
+  zeros-written (g ∷ []) {at} {zeros} {one} h k z p e f =
+      let place : at + 1 ≡ imagePage geometry (2 * g + 1) = omega arith in
+      f ∙ ap₂ (λ (q : ℕ) (d : List ℕ). put true q d one) place z ∙ ap (put true (imagePage geometry (2 * g + 1)) zeroPage) (e ∙ ap₂ (λ (q : ℕ) (d : List ℕ). put true q d image) p z)
+  zeros-written (g ∷ h ∷ gs) n k z p e f = absurd (omega arith)
 
   -- growth, data, the directory's entry and the change's own, one after the other
   pub all-written : (growth taken bytes : List ℕ) (at : ℕ) (directory : List ℕ) (new : Bool) (slot : ℕ) (entry : List ℕ) {zeroed filled entered whole : List ℕ}
-      → zeroed ≡ writePages offset (clusterWrites (pagesOf growth) (some zeroPage ∷ some zeroPage ∷ [])) image
-      → filled ≡ writePages offset (clusterWrites (pagesOf taken) (dataPages bytes)) zeroed
-      → entered ≡ put false (2 * offset + at) directory filled → whole ≡ put new (2 * offset + slot) entry entered
-      → whole ≡ writePages offset (writesOf growth taken bytes at directory new slot entry) image
+      → zeroed ≡ writePages geometry (clusterWrites (pagesOf growth) (some zeroPage ∷ some zeroPage ∷ [])) image
+      → filled ≡ writePages geometry (clusterWrites (pagesOf taken) (dataPages bytes)) zeroed
+      → entered ≡ put false (imagePage geometry at) directory filled → whole ≡ put new (imagePage geometry slot) entry entered
+      → whole ≡ writePages geometry (writesOf growth taken bytes at directory new slot entry) image
   all-written growth taken bytes at directory new slot entry e f g h =
       let zeros = clusterWrites (pagesOf growth) (some zeroPage ∷ some zeroPage ∷ []) in
       let filling = clusterWrites (pagesOf taken) (dataPages bytes) in
       let entries : List PageWrite = record { always = false; page = at; bytes = directory } ∷ record { always = new; page = slot; bytes = entry } ∷ [] in
-      h ∙ ap (put new (2 * offset + slot) entry) (g ∙ ap (put false (2 * offset + at) directory) (f ∙ ap (writePages offset filling) e))
-      ∙ sym (written-append offset zeros (filling ++ entries) image ∙ written-append offset filling entries (writePages offset zeros image))
+      h ∙ ap (put new (imagePage geometry slot) entry) (g ∙ ap (put false (imagePage geometry at) directory) (f ∙ ap (writePages geometry filling) e))
+      ∙ sym (written-append geometry zeros (filling ++ entries) image ∙ written-append geometry filling entries (writePages geometry zeros image))
 
 -- ---- the pages of the last two writes lie among the allocatable clusters
 lands-behind : (end : ℕ) (xs zs : List PageWrite) → Lands end (xs ++ zs) → Lands end zs
@@ -93,9 +95,9 @@ module _ (image : List ℕ) (s : Superblock) (opened : openCard image ≡ ok s) 
   pub opened-most : s .end ≤ mostClusters
   opened-most = let facts = open-facts image s opened in omega (arith, facts .room, facts .most)
 
-  module _ (ws : List PageWrite) (lands : Lands (s .end) ws) {after : List ℕ} (pages : after ≡ writePages (s .offset) ws image) where
-    kept : (q : ℕ) → q < 2 * s .offset → pageAt after q ≡ pageAt image q
-    kept q h = ap (λ (i : List ℕ). pageAt i q) pages ∙ low-page-kept (s .offset) (s .end) ws image lands q h
+  module _ (ws : List PageWrite) (lands : Lands (s .end) ws) {after : List ℕ} (pages : after ≡ writePages (s .geometry) ws image) where
+    kept : (q : ℕ) → q < 2 * s .geometry .offset → pageAt after q ≡ pageAt image q
+    kept q h = ap (λ (i : List ℕ). pageAt i q) pages ∙ low-page-kept (s .geometry) (s .end) ws image lands q h
 
     first-kept : pageAt after (2 * s .indirect) ≡ pageAt image (2 * s .indirect)
     first-kept = kept (2 * s .indirect) (omega (arith, (open-facts image s opened) .indirect-below))

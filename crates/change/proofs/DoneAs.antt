@@ -61,5 +61,5 @@ module _ (image : List ℕ) (s : Superblock) (root : Root) (m : Marks) (checked 
       changed-is image s root m checked c
       ∙ rw (none, planned)
       (ap (λ i. record { answer = ok tt; image = i })
-      (ap (λ w. storeTable (namesOf image s) (s .end) (wordsAfter plan (λ c. getD (tableOf image s) c 0)) (2 * tableClusters (s .end)) (writePages (s .offset) w image)) same-writes
-      ∙ store-ext (namesOf image s) (s .end) _ (λ c. getD table c 0) (2 * tableClusters (s .end)) (writePages (s .offset) writes image) words))
+      (ap (λ w. storeTable (namesOf image s) (s .end) (wordsAfter plan (λ c. getD (tableOf image s) c 0)) (2 * tableClusters (s .end)) (writePages (s .geometry) w image)) same-writes
+      ∙ store-ext (namesOf image s) (s .end) _ (λ c. getD table c 0) (2 * tableClusters (s .end)) (writePages (s .geometry) writes image) words))

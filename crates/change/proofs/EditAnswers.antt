@@ -19,21 +19,21 @@ use Rattle.change.proofs.CallLaws.{Says}
 
 -- ---- where the name leads
 module _ (s : Superblock) (image table : List ℕ) (first : ℕ) (page name : List ℕ) {here : Arrived}
-    (here-is : here ≡ entered (viewBy (s .offset) table image) table first page name) where
+    (here-is : here ≡ entered (viewBy (s .geometry) table image) table first page name) where
   module _ (rest : ℕ → List ℕ → Outcome) where
-    pub on-absent : here .arrival ≡ arrival.Absent → onEntry s image table (entered (viewBy (s .offset) table image) table first page name) rest ≡ refusedBy 9 image
+    pub on-absent : here .arrival ≡ arrival.Absent → onEntry s image table (entered (viewBy (s .geometry) table image) table first page name) rest ≡ refusedBy 9 image
     on-absent e = rw (← here-is, e)
 
-    pub on-kind : here .arrival ≡ arrival.WrongKind → onEntry s image table (entered (viewBy (s .offset) table image) table first page name) rest ≡ refusedBy 10 image
+    pub on-kind : here .arrival ≡ arrival.WrongKind → onEntry s image table (entered (viewBy (s .geometry) table image) table first page name) rest ≡ refusedBy 10 image
     on-kind e = rw (← here-is, e)
 
-    pub on-there : (next : ℕ) → here .arrival ≡ arrival.At next → onEntry s image table (entered (viewBy (s .offset) table image) table first page name) rest ≡ rest (here .at) (here .page)
+    pub on-there : (next : ℕ) → here .arrival ≡ arrival.At next → onEntry s image table (entered (viewBy (s .geometry) table image) table first page name) rest ≡ rest (here .at) (here .page)
     on-there next e = rw (← here-is, e)
 
   -- what is known of the entry there
   pub known-there : (Known : ℕ → List ℕ → Type 0)
-      → ((next : ℕ) → (entered (viewBy (s .offset) table image) table first page name) .arrival ≡ arrival.At next
-      → Known ((entered (viewBy (s .offset) table image) table first page name) .at) ((entered (viewBy (s .offset) table image) table first page name) .page))
+      → ((next : ℕ) → (entered (viewBy (s .geometry) table image) table first page name) .arrival ≡ arrival.At next
+      → Known ((entered (viewBy (s .geometry) table image) table first page name) .at) ((entered (viewBy (s .geometry) table image) table first page name) .page))
       → (next : ℕ) → here .arrival ≡ arrival.At next → Known (here .at) (here .page)
   known-there Known = subst (λ (x : Arrived). (next : ℕ) → x .arrival ≡ arrival.At next → Known (x .at) (x .page)) (sym here-is)
 
@@ -46,11 +46,11 @@ module _ (s : Superblock) (image table : List ℕ) (at : ℕ) (page : List ℕ) 
 
   -- ---- a directory
   module _ (directory : isDirectory (entryOf entry) ≡ true) where
-    pub removed-live : (k p : ℕ) → scan (livingFrom (viewBy (s .offset) table image) 0) (slotsOf table (word entry 0x10) entry) 0 ≡ place.At k p
+    pub removed-live : (k p : ℕ) → scan (livingFrom (viewBy (s .geometry) table image) 0) (slotsOf table (word entry 0x10) entry) 0 ≡ place.At k p
         → Says (fault 13 0) image (removed s image table at page slot entry)
     removed-live k p e = rw (directory, e) (refl, refl)
 
-    pub removed-done : {count : ℕ} {after : List ℕ} → scan (livingFrom (viewBy (s .offset) table image) 0) (slotsOf table (word entry 0x10) entry) 0 ≡ place.Nowhere
+    pub removed-done : {count : ℕ} {after : List ℕ} → scan (livingFrom (viewBy (s .geometry) table image) 0) (slotsOf table (word entry 0x10) entry) 0 ≡ place.Nowhere
         → count ≡ (size + 1) / 2 → after ≡ imageBy s image (removedWrites page at slot entry) (removedTable table entry count) → Says (ok tt) after (removed s image table at page slot entry)
     removed-done n c e =
         rw (directory, n) (refl, e ∙ ap (λ n. imageBy s image (removedWrites page at slot entry) (removedTable table entry n)) (c ∙ ap (λ n. (n + 1) / 2) size-is))

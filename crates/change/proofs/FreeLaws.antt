@@ -6,7 +6,7 @@ use native.Mathlib.Omega.{arith}
 use lib.ListN.{drop, getD, length, length-append, take}
 use Rattle.layout.specs.declared.Superblock.{Superblock}
 use Rattle.layout.specs.Table.{openCard}
-use Rattle.layout.proofs.Geometry.{open-facts}
+use Rattle.layout.proofs.OpenFacts.{open-facts}
 use Rattle.lookup.specs.declared.along.Place.{Place}
 use Rattle.lookup.specs.declared.along.Place.the-variants as place
 use Rattle.model.specs.Check.{ok}

@@ -1,4 +1,6 @@
 -- The pages that a change writes, as its code makes them: bytes put into a page of zeros, and data page by page.
+use Rattle.layout.specs.See.{imagePage}
+use Rattle.layout.specs.declared.Geometry.{Geometry}
 use Prim.Native.Nat.{ℕ, zero, suc, _%_, _*_, _+_, _-_, _/_, _<_, _≤_}
 use mathlib.Core.Bool.{true}
 use mathlib.Core.List.{List, [], _++_, _∷_}
@@ -113,11 +115,11 @@ module _ (bytes : List ℕ) (k : ℕ) {blank : List ℕ} (blank-zero : blank ≡
       ∙ sym (take-append-le 512 (drop (512 * k) bytes) zeroPage size)
 
 -- ---- page by page: what is left to write, from page k on
-module _ (offset : ℕ) (clusters bytes : List ℕ) where
+module _ (geometry : Geometry) (clusters bytes : List ℕ) where
   abbrev pub leftFrom : ℕ → List ℕ → List ℕ
-  leftFrom k image = writePages offset (clusterWrites (drop k (pagesOf clusters)) (dataPagesTo (2 * clustersFor (length bytes) - k) (drop (512 * k) bytes))) image
+  leftFrom k image = writePages geometry (clusterWrites (drop k (pagesOf clusters)) (dataPagesTo (2 * clustersFor (length bytes) - k) (drop (512 * k) bytes))) image
 
-  pub all-left : (image : List ℕ) → leftFrom 0 image ≡ writePages offset (clusterWrites (pagesOf clusters) (dataPages bytes)) image
+  pub all-left : (image : List ℕ) → leftFrom 0 image ≡ writePages geometry (clusterWrites (pagesOf clusters) (dataPages bytes)) image
   unfolding dataPages
   all-left image = let e : 2 * clustersFor (length bytes) - 0 ≡ 2 * clustersFor (length bytes) = omega arith in rw e
 
@@ -125,13 +127,13 @@ module _ (offset : ℕ) (clusters bytes : List ℕ) where
   none-left k image h = rw (drop-of-length-le (pagesOf clusters) {i = k} (omega (arith, length-pages clusters)))
 
   step : (k : ℕ) (image : List ℕ) → length clusters ≡ clustersFor (length bytes) → k < 2 * length clusters
-      → leftFrom k image ≡ leftFrom (k + 1) (put true (2 * offset + (2 * getD clusters (k / 2) 0 + k % 2)) (dataPage bytes k) image)
+      → leftFrom k image ≡ leftFrom (k + 1) (put true (imagePage geometry (2 * getD clusters (k / 2) 0 + k % 2)) (dataPage bytes k) image)
   step k image size h =
       let left : 2 * clustersFor (length bytes) - k ≡ suc (2 * clustersFor (length bytes) - suc k) = omega arith in
       let next : 512 * suc k ≡ 512 * k + 512 = omega arith in
       rw (add-one k, drop-cons (pagesOf clusters) k 0 (omega (arith, length-pages clusters)), left, next, ← drop-drop 512 (512 * k) bytes, getD-pages clusters k h)
 
-  pub one-less : (k : ℕ) (image : List ℕ) {page after : List ℕ} → length clusters ≡ clustersFor (length bytes) → k < 2 * length clusters → page ≡ dataPage bytes k
-      → after ≡ put true (2 * offset + (2 * getD clusters (k / 2) 0 + k % 2)) page image → leftFrom (k + 1) after ≡ leftFrom k image
-  one-less k image size h e f =
-      ap (leftFrom (k + 1)) (f ∙ ap (λ (d : List ℕ). put true (2 * offset + (2 * getD clusters (k / 2) 0 + k % 2)) d image) e) ∙ sym (step k image size h)
+  pub one-less : (k : ℕ) (image : List ℕ) {at : ℕ} {page after : List ℕ} → length clusters ≡ clustersFor (length bytes) → k < 2 * length clusters → page ≡ dataPage bytes k
+      → at ≡ imagePage geometry (2 * getD clusters (k / 2) 0 + k % 2) → after ≡ put true at page image → leftFrom (k + 1) after ≡ leftFrom k image
+  one-less k image size h e p f =
+      ap (leftFrom (k + 1)) (f ∙ ap₂ (λ (q : ℕ) (d : List ℕ). put true q d image) p e) ∙ sym (step k image size h)

@@ -1,4 +1,6 @@
 -- Pages written in two parts, and data whose pages are plain to see: none, and a cluster of zeros.
+use Rattle.layout.specs.See.{imagePage}
+use Rattle.layout.specs.declared.Geometry.{Geometry}
 use Prim.Native.Nat.{ℕ, _*_, _+_}
 use mathlib.Core.List.{List, [], _++_, _∷_}
 use mathlib.Core.Option.{some}
@@ -11,9 +13,9 @@ use Rattle.model.proofs.PageBytes.{length-zero}
 use Rattle.change.specs.Image.{writePages}
 use Rattle.change.proofs.SiteFacts.{two-pages}
 
-pub written-append : (offset : ℕ) (xs ys : List PageWrite) (image : List ℕ) → writePages offset (xs ++ ys) image ≡ writePages offset ys (writePages offset xs image)
-written-append offset [] ys image = refl
-written-append offset (w ∷ xs) ys image = written-append offset xs ys (put (w .always) (2 * offset + w .page) (w .bytes) image)
+pub written-append : (geometry : Geometry) (xs ys : List PageWrite) (image : List ℕ) → writePages geometry (xs ++ ys) image ≡ writePages geometry ys (writePages geometry xs image)
+written-append geometry [] ys image = refl
+written-append geometry (w ∷ xs) ys image = written-append geometry xs ys (put (w .always) (imagePage geometry (w .page)) (w .bytes) image)
 
 pub no-data : dataPages [] ≡ []
 unfolding dataPages

@@ -51,7 +51,7 @@ deadOf v table first page = scan (dying v) (slotsOf table first page) 0
 
 module _ (s : Superblock) (image table : List ℕ) where
   abbrev v : View
-  v = viewBy (s .offset) table image
+  v = viewBy (s .geometry) table image
 
   -- ---- a new entry: 12 where there are fewer free clusters than needed
   abbrev pub enough : List ℕ → Place → List ℕ → Bool
@@ -80,8 +80,8 @@ module _ (s : Superblock) (image table : List ℕ) where
   unfoldable pub createdIn : ℕ → ℕ → List ℕ → Name → List ℕ → List ℕ → Outcome
   createdIn at first page name time bytes =
       pickOutcome (isDirectory (entryOf page))
-      (unlessThere (placeOf (viewBy (s .offset) table image) table first page name)
-      (added at first page (deadOf (viewBy (s .offset) table image) table first page) fileMode (length bytes) time name bytes))
+      (unlessThere (placeOf (viewBy (s .geometry) table image) table first page name)
+      (added at first page (deadOf (viewBy (s .geometry) table image) table first page) fileMode (length bytes) time name bytes))
       (refusedBy 10 image)
 
   -- the first two entries of a new directory
@@ -90,9 +90,9 @@ module _ (s : Superblock) (image table : List ℕ) where
 
   unfoldable pub madeIn : ℕ → ℕ → List ℕ → Name → List ℕ → Outcome
   madeIn at first page name time =
-      let dead = deadOf (viewBy (s .offset) table image) table first page in
+      let dead = deadOf (viewBy (s .geometry) table image) table first page in
       pickOutcome (isDirectory (entryOf page))
-      (unlessThere (placeOf (viewBy (s .offset) table image) table first page name)
+      (unlessThere (placeOf (viewBy (s .geometry) table image) table first page name)
       (added at first page dead directoryMode 2 time name (dotsOf first (numberBy dead (word page 4)) time)))
       (refusedBy 10 image)
 
@@ -123,11 +123,11 @@ module _ (s : Superblock) (image table : List ℕ) where
 
   abbrev pub CanRemove : ℕ → List ℕ → ℕ → List ℕ → Type 0
   CanRemove at page slot entry =
-      isDirectory (entryOf entry) ≡ true → scan (livingFrom (viewBy (s .offset) table image) 0) (slotsOf table (word entry 0x10) entry) 0 ≡ place.Nowhere
+      isDirectory (entryOf entry) ≡ true → scan (livingFrom (viewBy (s .geometry) table image) 0) (slotsOf table (word entry 0x10) entry) 0 ≡ place.Nowhere
       → Lands (s .end) (removedWrites page at slot entry)
 
   unfoldable pub replacedIn : ℕ → ℕ → List ℕ → Name → List ℕ → List ℕ → Outcome
-  replacedIn at first page name time bytes = onEntry (entered (viewBy (s .offset) table image) table first page name) (replacedEntry at page time bytes)
+  replacedIn at first page name time bytes = onEntry (entered (viewBy (s .geometry) table image) table first page name) (replacedEntry at page time bytes)
 
   abbrev pub gone : ℕ → List ℕ → ℕ → List ℕ → ℕ → Outcome
   gone at page slot entry count = doneWith (imageBy s image (removedWrites page at slot entry) (removedTable table entry count))
@@ -137,7 +137,7 @@ module _ (s : Superblock) (image table : List ℕ) where
       pickOutcome (isDirectory (entryOf entry)) (refusedBy 10 image) (gone at page slot entry (clustersFor (word entry 4)))
 
   unfoldable pub deletedIn : ℕ → ℕ → List ℕ → Name → Outcome
-  deletedIn at first page name = onEntry (entered (viewBy (s .offset) table image) table first page name) (deleted at page)
+  deletedIn at first page name = onEntry (entered (viewBy (s .geometry) table image) table first page name) (deleted at page)
 
   -- 10 where a file stands there, 13 where a live entry is in the directory
   abbrev pub unlessLive : Place → Outcome → Outcome
@@ -147,8 +147,8 @@ module _ (s : Superblock) (image table : List ℕ) where
   abbrev pub removed : ℕ → List ℕ → ℕ → List ℕ → Outcome
   removed at page slot entry =
       pickOutcome (isDirectory (entryOf entry))
-      (unlessLive (scan (livingFrom (viewBy (s .offset) table image) 0) (slotsOf table (word entry 0x10) entry) 0) (gone at page slot entry ((word entry 4 + 1) / 2)))
+      (unlessLive (scan (livingFrom (viewBy (s .geometry) table image) 0) (slotsOf table (word entry 0x10) entry) 0) (gone at page slot entry ((word entry 4 + 1) / 2)))
       (refusedBy 10 image)
 
   unfoldable pub removedIn : ℕ → ℕ → List ℕ → Name → Outcome
-  removedIn at first page name = onEntry (entered (viewBy (s .offset) table image) table first page name) (removed at page)
+  removedIn at first page name = onEntry (entered (viewBy (s .geometry) table image) table first page name) (removed at page)

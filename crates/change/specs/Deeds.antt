@@ -41,7 +41,7 @@ writesOf growth taken bytes at directory new slot entry =
 -- the image after pages are written and then the table
 abbrev pub imageBy : Superblock → List ℕ → List PageWrite → List ℕ → List ℕ
 imageBy s image writes table =
-    storeTable (namesOf image s) (s .end) (λ c. getD table c 0) (2 * tableClusters (s .end)) (writePages (s .offset) writes image)
+    storeTable (namesOf image s) (s .end) (λ c. getD table c 0) (2 * tableClusters (s .end)) (writePages (s .geometry) writes image)
 
 -- ---- the slot of a new entry, by the lowest dead one and the directory's length
 

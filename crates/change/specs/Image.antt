@@ -12,13 +12,14 @@ use Rattle.model.specs.Bytes.{littleBytes}
 use Rattle.model.specs.Plan.{Plan}
 use Rattle.model.specs.Writes.{PageWrite, pageWrites, wordsAfter}
 use Rattle.layout.specs.declared.Superblock.{Superblock}
-use Rattle.layout.specs.See.{see}
+use Rattle.layout.specs.declared.Geometry.{Geometry}
+use Rattle.layout.specs.See.{imagePage, see}
 use Rattle.layout.specs.Table.{namesOf, tableClusters, tableOf, tablePage}
 
--- pages of the allocatable clusters, which begin at cluster `offset` of the image, written in turn
-abbrev pub writePages : ℕ → List PageWrite → List ℕ → List ℕ
-writePages offset [] image = image
-writePages offset (w ∷ ws) image = writePages offset ws (put (w .always) (2 * offset + w .page) (w .bytes) image)
+-- pages of the allocatable clusters, written in turn
+abbrev pub writePages : Geometry → List PageWrite → List ℕ → List ℕ
+writePages geometry [] image = image
+writePages geometry (w ∷ ws) image = writePages geometry ws (put (w .always) (imagePage geometry (w .page)) (w .bytes) image)
 
 -- each a write of 512 bytes to a page of the allocatable clusters
 abbrev pub Lands : ℕ → List PageWrite → Type 0
@@ -51,4 +52,4 @@ storeTable names end words (suc t) image =
 unfoldable pub imageAfter : Superblock → List ℕ → Plan → List ℕ
 imageAfter s image plan =
     storeTable (namesOf image s) (s .end) (wordsAfter plan (λ c. getD (tableOf image s) c 0)) (2 * tableClusters (s .end))
-    (writePages (s .offset) (pageWrites (see s image) plan) image)
+    (writePages (s .geometry) (pageWrites (see s image) plan) image)

@@ -61,21 +61,21 @@ module _ (s : Superblock) (image table : List ℕ) (at first : ℕ) (page : List
   -- what the code needs to know before it begins
   abbrev pub Can : Kind → Type 0
   Can kind.Create =
-      isDirectory (entryOf page) ≡ true → placeOf (viewBy (s .offset) table image) table first page name ≡ place.Nowhere
-      → CanAdd s image table at first page (deadOf (viewBy (s .offset) table image) table first page) fileMode (length bytes) time name bytes
+      isDirectory (entryOf page) ≡ true → placeOf (viewBy (s .geometry) table image) table first page name ≡ place.Nowhere
+      → CanAdd s image table at first page (deadOf (viewBy (s .geometry) table image) table first page) fileMode (length bytes) time name bytes
   Can kind.Make =
-      isDirectory (entryOf page) ≡ true → placeOf (viewBy (s .offset) table image) table first page name ≡ place.Nowhere
-      → CanAdd s image table at first page (deadOf (viewBy (s .offset) table image) table first page) directoryMode 2 time name
-      (dotsOf s image table first (numberBy (deadOf (viewBy (s .offset) table image) table first page) (word page 4)) time)
+      isDirectory (entryOf page) ≡ true → placeOf (viewBy (s .geometry) table image) table first page name ≡ place.Nowhere
+      → CanAdd s image table at first page (deadOf (viewBy (s .geometry) table image) table first page) directoryMode 2 time name
+      (dotsOf s image table first (numberBy (deadOf (viewBy (s .geometry) table image) table first page) (word page 4)) time)
   Can kind.Replace =
-      (next : ℕ) → (entered (viewBy (s .offset) table image) table first page name) .arrival ≡ arrival.At next
-      → CanReplace s image table at page time bytes ((entered (viewBy (s .offset) table image) table first page name) .at) ((entered (viewBy (s .offset) table image) table first page name) .page)
+      (next : ℕ) → (entered (viewBy (s .geometry) table image) table first page name) .arrival ≡ arrival.At next
+      → CanReplace s image table at page time bytes ((entered (viewBy (s .geometry) table image) table first page name) .at) ((entered (viewBy (s .geometry) table image) table first page name) .page)
   Can kind.Delete =
-      (next : ℕ) → (entered (viewBy (s .offset) table image) table first page name) .arrival ≡ arrival.At next
-      → CanDelete s image table at page ((entered (viewBy (s .offset) table image) table first page name) .at) ((entered (viewBy (s .offset) table image) table first page name) .page)
+      (next : ℕ) → (entered (viewBy (s .geometry) table image) table first page name) .arrival ≡ arrival.At next
+      → CanDelete s image table at page ((entered (viewBy (s .geometry) table image) table first page name) .at) ((entered (viewBy (s .geometry) table image) table first page name) .page)
   Can kind.Remove =
-      (next : ℕ) → (entered (viewBy (s .offset) table image) table first page name) .arrival ≡ arrival.At next
-      → CanRemove s image table at page ((entered (viewBy (s .offset) table image) table first page name) .at) ((entered (viewBy (s .offset) table image) table first page name) .page)
+      (next : ℕ) → (entered (viewBy (s .geometry) table image) table first page name) .arrival ≡ arrival.At next
+      → CanRemove s image table at page ((entered (viewBy (s .geometry) table image) table first page name) .at) ((entered (viewBy (s .geometry) table image) table first page name) .page)
 
 -- ---- what stands fast at each step of a call
 

@@ -211,7 +211,7 @@ pub(crate) fn create_in(
     time: &[u8],
     bytes: &[u8],
 ) -> Answer
-    requires { ⌜ (openCard (now image) ≡ ok s) × (length (now table) ≡ s .end) × (isDirectory (entryOf (now page)) ≡ true → placeOf (viewBy (s .offset) (now table) (now image)) (now table) first (now page) (now name) ≡ Nowhere → CanAdd s (now image) (now table) at first (now page) (deadOf (viewBy (s .offset) (now table) (now image)) (now table) first (now page)) fileMode (length (now bytes)) (now time) (now name) (now bytes)) ⌝ }
+    requires { ⌜ (openCard (now image) ≡ ok s) × (length (now table) ≡ s .end) × (isDirectory (entryOf (now page)) ≡ true → placeOf (viewBy (s .geometry) (now table) (now image)) (now table) first (now page) (now name) ≡ Nowhere → CanAdd s (now image) (now table) at first (now page) (deadOf (viewBy (s .geometry) (now table) (now image)) (now table) first (now page)) fileMode (length (now bytes)) (now time) (now name) (now bytes)) ⌝ }
     ensures answer { λ r. ⌜ toldAnswer r ≡ (createdIn s (now (image .entry)) (now (table .entry)) at first (now (page .entry)) (now (name .entry)) (now (time .entry)) (now (bytes .entry))) .answer ⌝ }
     ensures image { λ _. ⌜ now (image .exit) ≡ (createdIn s (now (image .entry)) (now (table .entry)) at first (now (page .entry)) (now (name .entry)) (now (time .entry)) (now (bytes .entry))) .image ⌝ }
 {
@@ -220,11 +220,11 @@ pub(crate) fn create_in(
     }
     let start = next_of(table, first);
     let count = slots_of(word_at(page, 0x04));
-    let place = find_name(image, table, s.offset, start, count, name);
+    let place = find_name(image, table, s.geometry, start, count, name);
     match place {
         Place::At { slot: _, page: _ } => Answer::Refused(Refusal::Exists),
         Place::Nowhere => {
-            let dead = first_dead(image, table, s.offset, start, count);
+            let dead = first_dead(image, table, s.geometry, start, count);
             add(
                 image,
                 table,
@@ -254,7 +254,7 @@ pub(crate) fn make_in(
     name: &[u8],
     time: &[u8],
 ) -> Answer
-    requires { ⌜ (openCard (now image) ≡ ok s) × (length (now table) ≡ s .end) × (isDirectory (entryOf (now page)) ≡ true → placeOf (viewBy (s .offset) (now table) (now image)) (now table) first (now page) (now name) ≡ Nowhere → CanAdd s (now image) (now table) at first (now page) (deadOf (viewBy (s .offset) (now table) (now image)) (now table) first (now page)) directoryMode 2 (now time) (now name) (dotsOf s (now image) (now table) first (numberBy (deadOf (viewBy (s .offset) (now table) (now image)) (now table) first (now page)) (word (now page) 4)) (now time))) ⌝ }
+    requires { ⌜ (openCard (now image) ≡ ok s) × (length (now table) ≡ s .end) × (isDirectory (entryOf (now page)) ≡ true → placeOf (viewBy (s .geometry) (now table) (now image)) (now table) first (now page) (now name) ≡ Nowhere → CanAdd s (now image) (now table) at first (now page) (deadOf (viewBy (s .geometry) (now table) (now image)) (now table) first (now page)) directoryMode 2 (now time) (now name) (dotsOf s (now image) (now table) first (numberBy (deadOf (viewBy (s .geometry) (now table) (now image)) (now table) first (now page)) (word (now page) 4)) (now time))) ⌝ }
     ensures answer { λ r. ⌜ toldAnswer r ≡ (madeIn s (now (image .entry)) (now (table .entry)) at first (now (page .entry)) (now (name .entry)) (now (time .entry))) .answer ⌝ }
     ensures image { λ _. ⌜ now (image .exit) ≡ (madeIn s (now (image .entry)) (now (table .entry)) at first (now (page .entry)) (now (name .entry)) (now (time .entry))) .image ⌝ }
 {
@@ -263,11 +263,11 @@ pub(crate) fn make_in(
     }
     let start = next_of(table, first);
     let count = slots_of(word_at(page, 0x04));
-    let place = find_name(image, table, s.offset, start, count, name);
+    let place = find_name(image, table, s.geometry, start, count, name);
     match place {
         Place::At { slot: _, page: _ } => Answer::Refused(Refusal::Exists),
         Place::Nowhere => {
-            let dead = first_dead(image, table, s.offset, start, count);
+            let dead = first_dead(image, table, s.geometry, start, count);
             let number = number_by(dead, word_at(page, 0x04));
             let dot = new_page(0x8427, 0, first, number, time, b".");
             let up = new_page(0x8427, 0, 0, 0, time, b"..");

@@ -102,7 +102,7 @@ fn change_at(
     ensures answer { λ r. ⌜ toldAnswer r ≡ (changed (changeOf kind (pathIn (now (path .entry))) (now (time .entry)) (now (bytes .entry))) (now (image .entry))) .answer ⌝ }
     ensures image { λ _. ⌜ now (image .exit) ≡ (changed (changeOf kind (pathIn (now (path .entry))) (now (time .entry)) (now (bytes .entry))) (now (image .entry))) .image ⌝ }
 {
-    let a = descend(image, table, s.offset, path, count - 1);
+    let a = descend(image, table, s.geometry, path, count - 1);
     let arrival = a.arrival;
     match arrival {
         Arrival::Absent => Answer::Refused(Refusal::Absent),

@@ -4,7 +4,9 @@ use crate::pages::zero_page;
 use crate::store::store_table;
 use crate::words::clear_chain;
 use crate::words::link_chain;
+use layout::Geometry;
 use layout::Superblock;
+use layout::image_page;
 use page::rewrite_page;
 use page::write_page;
 ghost use mathlib.Core.Path.{_≡_};
@@ -43,25 +45,25 @@ pub(crate) fn relink(
 }
 
 // Writes zeros to both pages of a directory's growth.
-fn write_zeros(image: &mut [u8], offset: u32, growth: &[u32])
+fn write_zeros(image: &mut [u8], geometry: Geometry, growth: &[u32])
     requires { ⌜ length (now growth) ≤ 1 ⌝ }
-    ensures { λ _. ⌜ now (image .exit) ≡ writePages offset (clusterWrites (pagesOf (now (growth .entry))) (some zeroPage ∷ some zeroPage ∷ [])) (now (image .entry)) ⌝ }
+    ensures { λ _. ⌜ now (image .exit) ≡ writePages geometry (clusterWrites (pagesOf (now (growth .entry))) (some zeroPage ∷ some zeroPage ∷ [])) (now (image .entry)) ⌝ }
 {
     if growth.len() == 0 {
         return;
     }
     let zeros = zero_page();
-    let at = 2 * (offset as usize) + 2 * (growth[0] as usize);
+    let at = image_page(geometry, 2 * (growth[0] as usize));
     write_page(image, at, &zeros);
     write_page(image, at + 1, &zeros);
 }
 
 // Writes the page of an entry: a new one always, another where its data changes.
-fn write_entry(image: &mut [u8], offset: u32, new: bool, slot: usize, entry: &[u8; 512])
+fn write_entry(image: &mut [u8], geometry: Geometry, new: bool, slot: usize, entry: &[u8; 512])
     requires { ⌜ slot < 8589934592 ⌝ }
-    ensures { λ _. ⌜ now (image .exit) ≡ writePages offset (record { always = new; page = slot; bytes = now (entry .entry) } ∷ []) (now (image .entry)) ⌝ }
+    ensures { λ _. ⌜ now (image .exit) ≡ writePages geometry (record { always = new; page = slot; bytes = now (entry .entry) } ∷ []) (now (image .entry)) ⌝ }
 {
-    let at = 2 * (offset as usize) + slot;
+    let at = image_page(geometry, slot);
     if new {
         write_page(image, at, entry);
     } else {
@@ -72,7 +74,7 @@ fn write_entry(image: &mut [u8], offset: u32, new: bool, slot: usize, entry: &[u
 // Writes the pages of a change, in this order: growth, data, the directory's entry, the change's own entry.
 fn write_pages(
     image: &mut [u8],
-    offset: u32,
+    geometry: Geometry,
     growth: &[u32],
     taken: &[u32],
     bytes: &[u8],
@@ -83,12 +85,12 @@ fn write_pages(
     entry: &[u8; 512],
 )
     requires { ⌜ (length (now growth) ≤ 1) × (length (now taken) ≡ clustersFor (length (now bytes))) × (at < 8589934592) × (slot < 8589934592) ⌝ }
-    ensures { λ _. ⌜ now (image .exit) ≡ writePages offset (writesOf (now (growth .entry)) (now (taken .entry)) (now (bytes .entry)) at (now (directory .entry)) new slot (now (entry .entry))) (now (image .entry)) ⌝ }
+    ensures { λ _. ⌜ now (image .exit) ≡ writePages geometry (writesOf (now (growth .entry)) (now (taken .entry)) (now (bytes .entry)) at (now (directory .entry)) new slot (now (entry .entry))) (now (image .entry)) ⌝ }
 {
-    write_zeros(image, offset, growth);
-    write_data(image, offset, taken, bytes);
-    write_entry(image, offset, false, at, directory);
-    write_entry(image, offset, new, slot, entry);
+    write_zeros(image, geometry, growth);
+    write_data(image, geometry, taken, bytes);
+    write_entry(image, geometry, false, at, directory);
+    write_entry(image, geometry, new, slot, entry);
 }
 
 // Writes the pages of a change and then the table.
@@ -110,7 +112,7 @@ pub(crate) fn put_down(
 {
     write_pages(
         image,
-        s.offset,
+        s.geometry,
         growth,
         taken,
         bytes,

@@ -164,11 +164,11 @@ pub(crate) fn replace_in(
     time: &[u8],
     bytes: &[u8],
 ) -> Answer
-    requires { ⌜ (openCard (now image) ≡ ok s) × (length (now table) ≡ s .end) × ((next : ℕ) → (entered (viewBy (s .offset) (now table) (now image)) (now table) first (now page) (now name)) .arrival ≡ At next → CanReplace s (now image) (now table) at (now page) (now time) (now bytes) ((entered (viewBy (s .offset) (now table) (now image)) (now table) first (now page) (now name)) .at) ((entered (viewBy (s .offset) (now table) (now image)) (now table) first (now page) (now name)) .page)) ⌝ }
+    requires { ⌜ (openCard (now image) ≡ ok s) × (length (now table) ≡ s .end) × ((next : ℕ) → (entered (viewBy (s .geometry) (now table) (now image)) (now table) first (now page) (now name)) .arrival ≡ At next → CanReplace s (now image) (now table) at (now page) (now time) (now bytes) ((entered (viewBy (s .geometry) (now table) (now image)) (now table) first (now page) (now name)) .at) ((entered (viewBy (s .geometry) (now table) (now image)) (now table) first (now page) (now name)) .page)) ⌝ }
     ensures answer { λ r. ⌜ toldAnswer r ≡ (replacedIn s (now (image .entry)) (now (table .entry)) at first (now (page .entry)) (now (name .entry)) (now (time .entry)) (now (bytes .entry))) .answer ⌝ }
     ensures image { λ _. ⌜ now (image .exit) ≡ (replacedIn s (now (image .entry)) (now (table .entry)) at first (now (page .entry)) (now (name .entry)) (now (time .entry)) (now (bytes .entry))) .image ⌝ }
 {
-    let a = enter(image, table, s.offset, first, page, name);
+    let a = enter(image, table, s.geometry, first, page, name);
     let arrival = a.arrival;
     match arrival {
         Arrival::Absent => Answer::Refused(Refusal::Absent),
@@ -223,11 +223,11 @@ pub(crate) fn delete_in(
     page: &[u8; 512],
     name: &[u8],
 ) -> Answer
-    requires { ⌜ (openCard (now image) ≡ ok s) × (length (now table) ≡ s .end) × ((next : ℕ) → (entered (viewBy (s .offset) (now table) (now image)) (now table) first (now page) (now name)) .arrival ≡ At next → CanDelete s (now image) (now table) at (now page) ((entered (viewBy (s .offset) (now table) (now image)) (now table) first (now page) (now name)) .at) ((entered (viewBy (s .offset) (now table) (now image)) (now table) first (now page) (now name)) .page)) ⌝ }
+    requires { ⌜ (openCard (now image) ≡ ok s) × (length (now table) ≡ s .end) × ((next : ℕ) → (entered (viewBy (s .geometry) (now table) (now image)) (now table) first (now page) (now name)) .arrival ≡ At next → CanDelete s (now image) (now table) at (now page) ((entered (viewBy (s .geometry) (now table) (now image)) (now table) first (now page) (now name)) .at) ((entered (viewBy (s .geometry) (now table) (now image)) (now table) first (now page) (now name)) .page)) ⌝ }
     ensures answer { λ r. ⌜ toldAnswer r ≡ (deletedIn s (now (image .entry)) (now (table .entry)) at first (now (page .entry)) (now (name .entry))) .answer ⌝ }
     ensures image { λ _. ⌜ now (image .exit) ≡ (deletedIn s (now (image .entry)) (now (table .entry)) at first (now (page .entry)) (now (name .entry))) .image ⌝ }
 {
-    let a = enter(image, table, s.offset, first, page, name);
+    let a = enter(image, table, s.geometry, first, page, name);
     let arrival = a.arrival;
     match arrival {
         Arrival::Absent => Answer::Refused(Refusal::Absent),
@@ -254,11 +254,11 @@ pub(crate) fn remove_in(
     page: &[u8; 512],
     name: &[u8],
 ) -> Answer
-    requires { ⌜ (openCard (now image) ≡ ok s) × (length (now table) ≡ s .end) × ((next : ℕ) → (entered (viewBy (s .offset) (now table) (now image)) (now table) first (now page) (now name)) .arrival ≡ At next → CanRemove s (now image) (now table) at (now page) ((entered (viewBy (s .offset) (now table) (now image)) (now table) first (now page) (now name)) .at) ((entered (viewBy (s .offset) (now table) (now image)) (now table) first (now page) (now name)) .page)) ⌝ }
+    requires { ⌜ (openCard (now image) ≡ ok s) × (length (now table) ≡ s .end) × ((next : ℕ) → (entered (viewBy (s .geometry) (now table) (now image)) (now table) first (now page) (now name)) .arrival ≡ At next → CanRemove s (now image) (now table) at (now page) ((entered (viewBy (s .geometry) (now table) (now image)) (now table) first (now page) (now name)) .at) ((entered (viewBy (s .geometry) (now table) (now image)) (now table) first (now page) (now name)) .page)) ⌝ }
     ensures answer { λ r. ⌜ toldAnswer r ≡ (removedIn s (now (image .entry)) (now (table .entry)) at first (now (page .entry)) (now (name .entry))) .answer ⌝ }
     ensures image { λ _. ⌜ now (image .exit) ≡ (removedIn s (now (image .entry)) (now (table .entry)) at first (now (page .entry)) (now (name .entry))) .image ⌝ }
 {
-    let a = enter(image, table, s.offset, first, page, name);
+    let a = enter(image, table, s.geometry, first, page, name);
     let arrival = a.arrival;
     match arrival {
         Arrival::Absent => Answer::Refused(Refusal::Absent),
@@ -272,7 +272,7 @@ pub(crate) fn remove_in(
             let live = first_live(
                 image,
                 table,
-                s.offset,
+                s.geometry,
                 next_of(table, word_at(&entry, 0x10)),
                 slots_of(length),
                 0,

@@ -4,6 +4,8 @@ use fields::numbers::word_at;
 use fields::writes::put_bytes;
 use fields::writes::put_half;
 use fields::writes::put_word;
+use layout::Geometry;
+use layout::image_page;
 use page::write_page;
 ghost use mathlib.Core.Path.{_≡_};
 ghost use mathlib.Core.List.{_++_};
@@ -42,16 +44,16 @@ fn data_page(bytes: &[u8], k: usize) -> [u8; 512]
 }
 
 // Writes all pages of newly taken clusters: the data, and zeros after its end.
-pub(crate) fn write_data(image: &mut [u8], offset: u32, clusters: &[u32], bytes: &[u8])
+pub(crate) fn write_data(image: &mut [u8], geometry: Geometry, clusters: &[u32], bytes: &[u8])
     requires { ⌜ length (now clusters) ≡ clustersFor (length (now bytes)) ⌝ }
-    ensures { λ _. ⌜ now (image .exit) ≡ writePages offset (clusterWrites (pagesOf (now (clusters .entry))) (dataPages (now (bytes .entry)))) (now (image .entry)) ⌝ }
+    ensures { λ _. ⌜ now (image .exit) ≡ writePages geometry (clusterWrites (pagesOf (now (clusters .entry))) (dataPages (now (bytes .entry)))) (now (image .entry)) ⌝ }
 {
     let count = 2 * clusters.len();
     let mut k: usize = 0;
     while k < count {
         let cluster = clusters[k / 2] as usize;
         let page = data_page(bytes, k);
-        write_page(image, 2 * (offset as usize) + (2 * cluster + k % 2), &page);
+        write_page(image, image_page(geometry, 2 * cluster + k % 2), &page);
         k += 1;
     }
 }

@@ -11,7 +11,7 @@ use Rattle.change.specs.Changed as change
 use Rattle.change.specs.Changed.{changed, changedBy, decided, outcomeWith, rulesOf}
 use Rattle.layout.specs.declared.Superblock.{Superblock}
 use Rattle.layout.specs.See.{checkImage, see}
-use Rattle.layout.proofs.Geometry.{open-facts}
+use Rattle.layout.proofs.OpenFacts.{open-facts}
 use Rattle.layout.proofs.Stages.{not-ok}
 use Rattle.model.proofs.CheckHolds.{check-holds}
 use Rattle.model.proofs.ClaimsHold.{change-keeps, demand-3-holds}

@@ -5,4 +5,4 @@ pub mod Names
 pub mod Stages
 pub mod TablePages
 pub mod TableLaws
-pub mod Geometry
+pub mod OpenFacts

@@ -11,34 +11,39 @@ use Rattle.model.specs.Pages.{decoded}
 use Rattle.model.specs.Tree.{Root}
 use Rattle.model.specs.View.{View}
 use Rattle.model.specs.Writes.{linksOf}
+use Rattle.layout.specs.declared.Geometry.{Geometry}
 use Rattle.layout.specs.declared.Superblock.{Superblock}
 use Rattle.layout.specs.Table.{openCard, tableOf}
 
--- a page of the allocatable clusters, which begin at cluster `offset` of the image and are `count` many
-unfoldable pub pageIn : ℕ → ℕ → List ℕ → ℕ → Option (List ℕ)
-pageIn offset count image a = cond (ltb a (2 * count)) (pageAt image (2 * offset + a)) none
+-- The image's page that is page `a` of the allocatable clusters: they begin at cluster alloc_offset, two pages to a cluster.
+abbrev pub imagePage : Geometry → ℕ → ℕ
+imagePage geometry a = 2 * geometry .offset + a
 
--- The view by alloc_offset and the table's words: an entry is what its page says, a link what its word says.
-abbrev pub viewBy : ℕ → List ℕ → List ℕ → View
-viewBy offset table image =
+-- a page of the allocatable clusters, which are `count` many
+unfoldable pub pageIn : Geometry → ℕ → List ℕ → ℕ → Option (List ℕ)
+pageIn geometry count image a = cond (ltb a (2 * count)) (pageAt image (imagePage geometry a)) none
+
+-- The view by where the pages lie and the table's words: an entry is what its page says, a link what its word says.
+abbrev pub viewBy : Geometry → List ℕ → List ℕ → View
+viewBy geometry table image =
     record {
-      page = pageIn offset (length table) image;
-      entry = λ a. decoded (pageIn offset (length table) image a);
+      page = pageIn geometry (length table) image;
+      entry = λ a. decoded (pageIn geometry (length table) image a);
       link = linksOf (length table) (λ c. getD table c 0);
     }
 
 abbrev pub see : Superblock → List ℕ → View
-see s image = viewBy (s .offset) (tableOf image s) image
+see s image = viewBy (s .geometry) (tableOf image s) image
 
 module _ {A : Type 0} where
   -- a fault of the view, with the image's page number
-  abbrev pub onImage : ℕ → Result A → Result A
-  onImage offset (fault n p) = fault n (cond (eqb n 2) (2 * offset + p) p)
-  onImage offset (ok a) = ok a
+  abbrev pub onImage : Geometry → Result A → Result A
+  onImage geometry (fault n p) = fault n (cond (eqb n 2) (imagePage geometry p) p)
+  onImage geometry (ok a) = ok a
 
 -- The whole check of an image: refusals 1 to 7 in order; the superblock, the tree and what was reached.
 abbrev pub checkedBy : List ℕ → Superblock → Result (Superblock × Root × Marks)
-checkedBy image s = andThen (onImage (s .offset) (checkTree (see s image))) (λ x. ok (s, x .0, x .1))
+checkedBy image s = andThen (onImage (s .geometry) (checkTree (see s image))) (λ x. ok (s, x .0, x .1))
 
 unfoldable pub checkImage : List ℕ → Result (Superblock × Root × Marks)
 checkImage image = andThen (openCard image) (checkedBy image)

@@ -46,7 +46,7 @@ abbrev pub superblockOf : List ℕ → Superblock
 superblockOf page =
     record {
       clusters = word page 0x30;
-      offset = word page 0x34;
+      geometry = record { offset = word page 0x34 };
       end = word page 0x38;
       backup1 = word page 0x40;
       backup2 = word page 0x44;
@@ -59,12 +59,12 @@ abbrev pub goodNumbers : ℕ → Superblock → Bool
 goodNumbers n s =
     eqb (s .clusters) n
     && (leb 1 (s .end)
-    && (leb (s .offset + s .end) n
+    && (leb (s .geometry .offset + s .end) n
     && (not (eqb (s .backup1) (s .backup2))
     && (ltb (s .backup1) (n / 8)
     && (ltb (s .backup2) (n / 8)
-    && (leb (s .offset + s .end) (8 * s .backup1)
-    && leb (s .offset + s .end) (8 * s .backup2)))))))
+    && (leb (s .geometry .offset + s .end) (8 * s .backup1)
+    && leb (s .geometry .offset + s .end) (8 * s .backup2)))))))
 
 -- every rule of number 4
 abbrev pub goodSuperblock : ℕ → List ℕ → Bool

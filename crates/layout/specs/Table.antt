@@ -61,10 +61,10 @@ module _ {A : Type 0} where
 -- The indirect cluster's name is judged before its pages are read; both its pages, all its names, then both pages of each table cluster in turn.
 unfoldable pub openTable : List ℕ → Superblock → Result Superblock
 openTable image s =
-    unless (inRange (s .offset) (s .indirect)) 5
+    unless (inRange (s .geometry .offset) (s .indirect)) 5
     (needPage image (2 * s .indirect) (λ first.
     needPage image (2 * s .indirect + 1) (λ second.
-    unless (goodTableNames (s .offset) (s .indirect ∷ []) (tableNames (first ++ second) (tableClusters (s .end)))) 5
+    unless (goodTableNames (s .geometry .offset) (s .indirect ∷ []) (tableNames (first ++ second) (tableClusters (s .end)))) 5
     (needPages image (pagesOf (tableNames (first ++ second) (tableClusters (s .end)))) (ok s)))))
 
 -- Length, page 0, format text, the other superblock rules, the table.

@@ -11,6 +11,8 @@ use page0::superblock_of;
 use table::judge_table;
 use table::load_table;
 ghost use mathlib.Core.Path.{_≡_};
+ghost use Prim.Native.Nat.{_%_, _^_};
+ghost use Rattle.layout.specs.See.{imagePage};
 ghost use Rattle.layout.specs.Table.{openCard, toldOpened, tableAfter};
 
 // Why a call is refused: a case for each row of the paper's table.
@@ -32,10 +34,15 @@ pub enum Refusal {
     NoRoom,
 }
 
+// Where the pages of a card's allocatable clusters lie in its image: from cluster alloc_offset on.
+pub struct Geometry {
+    pub offset: u32,
+}
+
 // The numbers of a superblock: N, alloc_offset, alloc_end, the backup blocks and the indirect cluster.
 pub struct Superblock {
     pub clusters: u32,
-    pub offset: u32,
+    pub geometry: Geometry,
     pub end: u32,
     pub backup1: u32,
     pub backup2: u32,
@@ -46,6 +53,13 @@ pub struct Superblock {
 pub enum Opened {
     Card(Superblock),
     Refused(Refusal),
+}
+
+// The image's page that is a page of the allocatable clusters, which are counted from 0. A sum past 64 bits wraps.
+pub fn image_page(geometry: Geometry, page: usize) -> usize
+    ensures { λ r. ⌜ r ≡ imagePage geometry page % 2 ^ 64 ⌝ }
+{
+    std::num::wrapping_add_usize(2 * (geometry.offset as usize), page)
 }
 
 // The check up to the table: length, page 0, format text, the other superblock rules, the table.

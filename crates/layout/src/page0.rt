@@ -1,4 +1,5 @@
 // Page 0 of a card: the format text, the version, the fixed numbers and the superblock's numbers.
+use crate::Geometry;
 use crate::Superblock;
 use fields::numbers::half_at;
 use fields::numbers::word_at;
@@ -53,7 +54,9 @@ pub fn superblock_of(page: &[u8; 512]) -> Superblock
 {
     Superblock {
         clusters: word_at(page, 0x30),
-        offset: word_at(page, 0x34),
+        geometry: Geometry {
+            offset: word_at(page, 0x34),
+        },
         end: word_at(page, 0x38),
         backup1: word_at(page, 0x40),
         backup2: word_at(page, 0x44),
@@ -65,7 +68,7 @@ pub fn superblock_of(page: &[u8; 512]) -> Superblock
 pub fn good_numbers(n: usize, s: Superblock) -> bool
     ensures { λ r. ⌜ r ≡ goodNumbers n s ⌝ }
 {
-    let top = s.offset as usize + s.end as usize;
+    let top = s.geometry.offset as usize + s.end as usize;
     (s.clusters as usize == n)
         & ((1 <= s.end)
             & ((top <= n)

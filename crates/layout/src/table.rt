@@ -121,7 +121,7 @@ pub(crate) fn judge_table(image: &[u8], s: Superblock) -> Opened
     requires { ⌜ s .end ≤ mostClusters ⌝ }
     ensures { λ r. ⌜ toldOpened r ≡ openTable (now (image .entry)) s ⌝ }
 {
-    let offset = s.offset;
+    let offset = s.geometry.offset;
     let indirect = s.indirect;
     let end = s.end as usize;
     if !in_range(offset, indirect) {

@@ -37,8 +37,8 @@ module _ (image : List ℕ) where
       unfolding checkImage checkOf andThen
       passes = rw (← opened) (go (checkTree (see s image)) (rw (← opened) at passed))
         where
-          go : (r : Result (Root × Marks)) → ok counts ≡ andThen (andThen (onImage (s .offset) r) (λ x. ok (s, x .0, x .1))) told-all
-              → ok s ≡ superblockIn (andThen (onImage (s .offset) r) (λ x. ok (s, x .0, x .1)))
+          go : (r : Result (Root × Marks)) → ok counts ≡ andThen (andThen (onImage (s .geometry) r) (λ x. ok (s, x .0, x .1))) told-all
+              → ok s ≡ superblockIn (andThen (onImage (s .geometry) r) (λ x. ok (s, x .0, x .1)))
           go (fault n p) e = fault-ok _ _ counts (sym e)
           go (ok x) e = refl
 

@@ -7,6 +7,7 @@ use fields::kinds::is_directory;
 use fields::kinds::is_live;
 use fields::names::entry_name;
 use fields::numbers::word_at;
+use layout::Geometry;
 use model::DEEPEST;
 use tree::slots::next_of;
 use tree::slots::read_slot;
@@ -35,18 +36,18 @@ pub(crate) struct Listed {
 fn list_entry(
     image: &[u8],
     table: &[u32],
-    offset: u32,
+    geometry: Geometry,
     out: &mut [u8],
     at: usize,
     path: Path,
     page: usize,
 ) -> Listed
     requires { ⌜ (page < 8589934592) × (path .len + nameRoom ≤ pathRoom) ⌝ }
-    ensures line { λ r. ⌜ Wrote (now (out .entry)) at (lineAt (pathBytes path) ((viewBy offset (now (table .entry)) (now (image .entry))) .entry page)) (now (out .exit)) (r .at) ⌝ }
-    ensures leads { λ r. ⌜ Leads (now (table .entry)) (pathBytes path) ((viewBy offset (now (table .entry)) (now (image .entry))) .entry page) (path .len) r ⌝ }
+    ensures line { λ r. ⌜ Wrote (now (out .entry)) at (lineAt (pathBytes path) ((viewBy geometry (now (table .entry)) (now (image .entry))) .entry page)) (now (out .exit)) (r .at) ⌝ }
+    ensures leads { λ r. ⌜ Leads (now (table .entry)) (pathBytes path) ((viewBy geometry (now (table .entry)) (now (image .entry))) .entry page) (path .len) r ⌝ }
 {
     let mut d = [0u8; 512];
-    if !read_slot(image, offset, table.len(), page, &mut d) {
+    if !read_slot(image, geometry, table.len(), page, &mut d) {
         return Listed {
             at: at,
             path: path,
@@ -84,7 +85,7 @@ fn list_entry(
 fn list_slots(
     image: &[u8],
     table: &[u32],
-    offset: u32,
+    geometry: Geometry,
     out: &mut [u8],
     at: usize,
     path: Path,
@@ -93,20 +94,20 @@ fn list_slots(
     below: u32,
 ) -> usize
     requires { ⌜ path .len + nameRoom * (below + 1) ≤ pathRoom ⌝ }
-    ensures { λ r. ⌜ Wrote (now (out .entry)) at (slotsText (viewBy offset (now (table .entry)) (now (image .entry))) (now (table .entry)) below (pathBytes path) (slotPages (now (table .entry)) start 0 count)) (now (out .exit)) r ⌝ }
+    ensures { λ r. ⌜ Wrote (now (out .entry)) at (slotsText (viewBy geometry (now (table .entry)) (now (image .entry))) (now (table .entry)) below (pathBytes path) (slotPages (now (table .entry)) start 0 count)) (now (out .exit)) r ⌝ }
 {
     let mut next = at;
     let mut c = start;
     let mut k: u32 = 0;
     while k < count {
-        let entry = list_entry(image, table, offset, out, next, path, slot_page(c, k));
+        let entry = list_entry(image, table, geometry, out, next, path, slot_page(c, k));
         next = entry.at;
         if 0 < below {
             let own = entry.path;
             next = list_slots(
                 image,
                 table,
-                offset,
+                geometry,
                 out,
                 next,
                 own,
@@ -127,20 +128,20 @@ fn list_slots(
 pub(crate) fn list_tree(
     image: &[u8],
     table: &[u32],
-    offset: u32,
+    geometry: Geometry,
     out: &mut [u8],
     at: usize,
 ) -> usize
-    ensures { λ r. ⌜ ((root : Root) → HoldsCard (viewBy offset (now (table .entry)) (now (image .entry))) root → Wrote (now (out .entry)) at (treeText [] (root .slots)) (now (out .exit)) r) ⌝ }
+    ensures { λ r. ⌜ ((root : Root) → HoldsCard (viewBy geometry (now (table .entry)) (now (image .entry))) root → Wrote (now (out .entry)) at (treeText [] (root .slots)) (now (out .exit)) r) ⌝ }
 {
     let mut d = [0u8; 512];
-    if !read_slot(image, offset, table.len(), 0, &mut d) {
+    if !read_slot(image, geometry, table.len(), 0, &mut d) {
         return at;
     }
     list_slots(
         image,
         table,
-        offset,
+        geometry,
         out,
         at,
         root_path(),

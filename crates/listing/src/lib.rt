@@ -5,6 +5,7 @@ mod lines;
 mod path;
 
 use entries::list_tree;
+use layout::Geometry;
 use layout::Opened;
 use layout::open_card;
 use lines::put_counts;
@@ -30,14 +31,14 @@ fn list_words(
     image: &[u8],
     table: &[u32],
     end: usize,
-    offset: u32,
+    geometry: Geometry,
     out: &mut [u8],
     at: usize,
 ) -> usize
     requires { ⌜ end ≤ length (now table) ⌝ }
-    ensures { λ r. ⌜ ((root : Root) → HoldsCard (viewBy offset (take end (now (table .entry))) (now (image .entry))) root → Wrote (now (out .entry)) at (treeText [] (root .slots)) (now (out .exit)) r) ⌝ }
+    ensures { λ r. ⌜ ((root : Root) → HoldsCard (viewBy geometry (take end (now (table .entry))) (now (image .entry))) root → Wrote (now (out .entry)) at (treeText [] (root .slots)) (now (out .exit)) r) ⌝ }
 {
-    list_tree(image, &table[..end], offset, out, at)
+    list_tree(image, &table[..end], geometry, out, at)
 }
 
 // A card that the check accepts, with room for its table. It opens, since the check opened it.
@@ -54,7 +55,7 @@ fn list_card(
     let opened = open_card(image, table);
     match opened {
         Opened::Refused(_) => at,
-        Opened::Card(s) => list_words(image, table, s.end as usize, s.offset, out, at),
+        Opened::Card(s) => list_words(image, table, s.end as usize, s.geometry, out, at),
     }
 }
 

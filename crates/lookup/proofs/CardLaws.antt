@@ -1,4 +1,5 @@
 -- A card that the check accepts, by what the open call told: the tree that the view of the loaded table holds.
+use Rattle.layout.specs.declared.Geometry.{Geometry}
 use Prim.Native.Nat.{_≤_, ℕ}
 use mathlib.Core.List.{List}
 use mathlib.Core.Option.{Option, none, some}
@@ -50,7 +51,7 @@ module _ (image : List ℕ) where
   accepted s h = go (openCard image) refl h
     where
       inner : (t : Superblock) → openCard image ≡ ok t → (c : Result (Root × Marks)) → checkTree (see t image) ≡ c
-          → ok s ≡ superblockIn (andThen (onImage (t .offset) c) (λ x. ok (t, x .0, x .1))) → Accepted s
+          → ok s ≡ superblockIn (andThen (onImage (t .geometry) c) (λ x. ok (t, x .0, x .1))) → Accepted s
       inner t e (fault n p) f k = fault-ok _ _ s (sym k)
       inner t e (ok x) f k =
           rw (ok-inj s t k)
@@ -64,20 +65,20 @@ module _ (image : List ℕ) where
     pub words-fit : s .end ≤ length after
     words-fit = table-room image s ((accepted s h) .opened) before after l
 
-    pub words-hold : HoldsCard (viewBy (s .offset) (take (s .end) after) image) ((accepted s h) .root)
+    pub words-hold : HoldsCard (viewBy (s .geometry) (take (s .end) after) image) ((accepted s h) .root)
     words-hold =
         let e = table-loaded image s ((accepted s h) .opened) before after l in
         rw e ((accepted s h) .holds)
 
   -- a read's page is the image's, whatever the path
-  page-after : (offset : ℕ) (o : Option Path) (f : Path → Result (List ℕ)) → withPath o (λ q. onImage offset (f q)) ≡ onImage offset (withPath o f)
-  page-after offset none f = refl
-  page-after offset (some q) f = refl
+  page-after : (geometry : Geometry) (o : Option Path) (f : Path → Result (List ℕ)) → withPath o (λ q. onImage geometry (f q)) ≡ onImage geometry (withPath o f)
+  page-after geometry none f = refl
+  page-after geometry (some q) f = refl
 
   pub read-accepted : (bytes : List ℕ) (from room : ℕ) (s : Superblock) (root : Root) (m : Marks) → checkImage image ≡ ok (s, root, m)
-      → readOf image bytes from room ≡ onImage (s .offset) (withPath (pathOf bytes) (λ q. readIn root q from room))
+      → readOf image bytes from room ≡ onImage (s .geometry) (withPath (pathOf bytes) (λ q. readIn root q from room))
   read-accepted bytes from room s root m e =
-      call-accepted bytes (λ t r q. onImage (t .offset) (readIn r q from room)) s root m e ∙ page-after (s .offset) (pathOf bytes) (λ q. readIn root q from room)
+      call-accepted bytes (λ t r q. onImage (t .geometry) (readIn r q from room)) s root m e ∙ page-after (s .geometry) (pathOf bytes) (λ q. readIn root q from room)
 
 pub read-unopened : (x : Result (List ℕ)) (f : Refusal) (before : List ℕ) → x ≡ fault (numberOf f) (pageOf f) → TellsRead x (reading.Refused f) before before
 unfolding andThen

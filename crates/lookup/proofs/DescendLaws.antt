@@ -1,4 +1,5 @@
 -- The names of a path one after the other: the code arrives where they lead in the tree.
+use Rattle.layout.specs.declared.Geometry.{Geometry}
 use Prim.Native.Nat.{_+_, _<_, suc, ℕ}
 use mathlib.Core.List.{List, [], _∷_}
 use mathlib.Core.Option.{Option, none, some}
@@ -106,8 +107,8 @@ abbrev pub Leads : View → List ℕ → ℕ → Arrival → List ℕ → Type 0
 Leads v path count a page =
     (root : Root) → HoldsCard v root → (names : Path) → pathOf path ≡ some names → length names ≡ count → Arrives v (arrive (rootSlot root) (root .slots) names) a page
 
-pub leads : (offset : ℕ) (table image path : List ℕ) (count : ℕ) (r : Arrived) → r ≡ descended (viewBy offset table image) table (namesFrom path 0 count)
-    → Leads (viewBy offset table image) path count (r .arrival) (r .page)
-leads offset table image path count r e root card names p l =
+pub leads : (geometry : Geometry) (table image path : List ℕ) (count : ℕ) (r : Arrived) → r ≡ descended (viewBy geometry table image) table (namesFrom path 0 count)
+    → Leads (viewBy geometry table image) path count (r .arrival) (r .page)
+leads geometry table image path count r e root card names p l =
     let same : namesFrom path 0 count ≡ names = ap (namesFrom path 0) (sym l) ∙ names-of-path path names p in
-    rw (e, same) (descended-arrives (viewBy offset table image) table (λ c. refl) (λ a. refl) root card names)
+    rw (e, same) (descended-arrives (viewBy geometry table image) table (λ c. refl) (λ a. refl) root card names)

@@ -1,4 +1,5 @@
 -- What the code reads of a page is the view's.
+use Rattle.layout.specs.declared.Geometry.{Geometry}
 use mathlib.Core.Bool.{Bool, _&&_, cond, false, not, true}
 use mathlib.Core.List.{List}
 use mathlib.Core.Option.{Option, none, some}
@@ -10,7 +11,7 @@ use Rattle.model.specs.Names.{Name, sameName}
 use Rattle.model.specs.Pages.{decoded}
 use Rattle.page.specs.Page.{Read, isSome, pageAt}
 use Rattle.page.proofs.Laws.{page-length}
-use Rattle.layout.specs.See.{pageIn}
+use Rattle.layout.specs.See.{imagePage, pageIn}
 use lib.Dec.{ltb}
 use lib.ListN.{length}
 use Rattle.lookup.specs.Descend.{bears, dies, lives}
@@ -40,10 +41,10 @@ pub none-lives : {o : Option Entry} → o ≡ none → false ≡ lives o
 none-lives e = rw e
 
 -- a page that the view reads has 512 bytes
-pub view-sized : (offset count : ℕ) (image : List ℕ) (p : ℕ) (d : List ℕ) → pageIn offset count image p ≡ some d → length d ≡ 512
+pub view-sized : (geometry : Geometry) (count : ℕ) (image : List ℕ) (p : ℕ) (d : List ℕ) → pageIn geometry count image p ≡ some d → length d ≡ 512
 unfolding pageIn
-view-sized offset count image p d e = go (ltb p (2 * count)) e
+view-sized geometry count image p d e = go (ltb p (2 * count)) e
   where
-    go : (b : Bool) → cond b (pageAt image (2 * offset + p)) none ≡ some d → length d ≡ 512
-    go true h = page-length image (2 * offset + p) d h
+    go : (b : Bool) → cond b (pageAt image (imagePage geometry p)) none ≡ some d → length d ≡ 512
+    go true h = page-length image (imagePage geometry p) d h
     go false h = absurd (let z : _≡_ {A = ℕ} 0 1 = cc in omega arith)

@@ -1,4 +1,5 @@
 -- What a read answers: the refusals, and the bytes of the pages that the code steps through.
+use Rattle.layout.specs.declared.Geometry.{Geometry}
 use Prim.Native.Nat.{_%_, _+_, _-_, _/_, _<_, _≤_, suc, zero, ℕ}
 use mathlib.Core.Bool.{Bool, cond, false, true}
 use mathlib.Core.List.{List, [], _∷_, map}
@@ -134,13 +135,13 @@ module _ (v : View) (t : List ℕ) (links : (c : ℕ) → v .link c ≡ tableLin
 
 -- ---- the answers
 
-pub read-refused : (offset : ℕ) (x : Result (List ℕ)) (n p : ℕ) (f : Refusal) (before after : List ℕ) → x ≡ fault n p → onImage {A = List ℕ} offset (fault n p) ≡ fault (numberOf f) (pageOf f) → after ≡ before
-    → TellsRead (onImage offset x) (reading.Refused f) before after
+pub read-refused : (geometry : Geometry) (x : Result (List ℕ)) (n p : ℕ) (f : Refusal) (before after : List ℕ) → x ≡ fault n p → onImage {A = List ℕ} geometry (fault n p) ≡ fault (numberOf f) (pageOf f) → after ≡ before
+    → TellsRead (onImage geometry x) (reading.Refused f) before after
 unfolding andThen
-read-refused offset x n p f before after e g b = let z : onImage offset x ≡ fault (numberOf f) (pageOf f) = ap (onImage offset) e ∙ g in rw z (record { count = refl; buffer = b })
+read-refused geometry x n p f before after e g b = let z : onImage geometry x ≡ fault (numberOf f) (pageOf f) = ap (onImage geometry) e ∙ g in rw z (record { count = refl; buffer = b })
 
-pub read-told : (offset : ℕ) (x : Result (List ℕ)) (bytes before after : List ℕ) (n : ℕ) → x ≡ ok bytes → length bytes ≡ n → n ≤ length before → after ≡ sets before 0 bytes
-    → TellsRead (onImage offset x) (reading.Bytes n) before after
+pub read-told : (geometry : Geometry) (x : Result (List ℕ)) (bytes before after : List ℕ) (n : ℕ) → x ≡ ok bytes → length bytes ≡ n → n ≤ length before → after ≡ sets before 0 bytes
+    → TellsRead (onImage geometry x) (reading.Bytes n) before after
 unfolding andThen
-read-told offset x bytes before after n e l h b =
+read-told geometry x bytes before after n e l h b =
     rw e (record { count = ap {B = Result ℕ} ok (sym l); buffer = b ∙ sets-eq bytes before 0 (omega arith) ∙ (let z : 0 + length bytes ≡ length bytes = omega arith in rw z) })

@@ -1,4 +1,5 @@
 -- What the code computes on the way of a read, as the definitions have it.
+use Rattle.layout.specs.declared.Geometry.{Geometry}
 use Prim.Native.Nat.{_%_, _*_, _+_, _-_, _/_, _≤_, ℕ}
 use mathlib.Core.Bool.{Bool, cond, false, true}
 use mathlib.Core.List.{List, []}
@@ -9,7 +10,7 @@ use borrow.Author.Tests.{leb-false, leb-true}
 use lib.Dec.{leb}
 use lib.ListN.{length}
 use lib.Seq.{sets}
-use Rattle.layout.specs.See.{onImage}
+use Rattle.layout.specs.See.{imagePage, onImage}
 use Rattle.layout.specs.declared.Refusal.the-variants.{UnreadablePage}
 use Rattle.model.specs.Bytes.{slice}
 use Rattle.model.specs.Check.{Result, fault, ok}
@@ -37,13 +38,13 @@ least-within n a b e = go (leb a b) refl e
     go false q e = (omega (arith, leb-false a b q), omega arith)
 
 module _ (v : View) (t : List ℕ) (links : (c : ℕ) → v .link c ≡ tableLinks t c) (sized : (p : ℕ) (d : List ℕ) → v .page p ≡ some d → length d ≡ 512)
-    (offset first from room size n : ℕ) (e : Entry) (isSize : size ≡ e .length) (isLeast : n ≡ cond (leb room (size - from)) room (size - from)) where
+    (geometry : Geometry) (first from room size n : ℕ) (e : Entry) (isSize : size ≡ e .length) (isLeast : n ≡ cond (leb room (size - from)) room (size - from)) where
   count-is : n ≡ bytesToCopy (e .length) from room
   count-is = rw isSize at isLeast
 
   pub tells-none : (h : Slot) (s : Tree) → Stands v first e h s → isDirectory e ≡ false → from ≤ size → n ≡ 0 → (before : List ℕ)
-      → TellsRead (onImage offset (readFrom from room h s)) (reading.Bytes 0) before before
-  tells-none h s x f a z before = read-told offset (readFrom from room h s) [] before before 0 (read-none v t links first from room e h s x f (omega arith) (sym count-is ∙ z)) refl (omega arith) refl
+      → TellsRead (onImage geometry (readFrom from room h s)) (reading.Bytes 0) before before
+  tells-none h s x f a z before = read-told geometry (readFrom from room h s) [] before before 0 (read-none v t links first from room e h s x f (omega arith) (sym count-is ∙ z)) refl (omega arith) refl
 
   module _ (start : ℕ) (at : start ≡ clusterAt t first (from / 512)) (r : Place)
       (scanned : r ≡ scan (unread v) (slotPages t start (from / 512) ((from + n + 511) / 512 - from / 512)) (from / 512)) where
@@ -57,27 +58,27 @@ module _ (v : View) (t : List ℕ) (links : (c : ℕ) → v .link c ≡ tableLin
     copy-ready q = sym (rw pages-are at scanned) ∙ q
 
     module _ (h : Slot) (s : Tree) (x : Stands v first e h s) (f : isDirectory e ≡ false) (a : from ≤ size) (b : n ≡ 0 → ⊥) where
-      pub tells-unreadable : (k p q : ℕ) → r ≡ place.At k p → q ≡ 2 * offset + p → (before : List ℕ)
-          → TellsRead (onImage offset (readFrom from room h s)) (reading.Refused (UnreadablePage q)) before before
+      pub tells-unreadable : (k p q : ℕ) → r ≡ place.At k p → q ≡ imagePage geometry p → (before : List ℕ)
+          → TellsRead (onImage geometry (readFrom from room h s)) (reading.Refused (UnreadablePage q)) before before
       tells-unreadable k p q i j before =
-          read-refused offset (readFrom from room h s) 2 p (UnreadablePage q) before before
+          read-refused geometry (readFrom from room h s) 2 p (UnreadablePage q) before before
           (read-unreadable v t links first from room e h s x f (omega arith) (omega (arith, count-is, b)) k p (same-scan ∙ i)) (ap {B = Result (List ℕ)} (fault 2) (sym j)) refl
 
       pub tells-bytes : r ≡ place.Nowhere → (before after : List ℕ) → length before ≡ room
           → after ≡ sets before 0 (slice (dataAlong v (slotPages t start (from / 512) (pagesFor (from % 512) n))) (from % 512) n)
-          → TellsRead (onImage offset (readFrom from room h s)) (reading.Bytes n) before after
+          → TellsRead (onImage geometry (readFrom from room h s)) (reading.Bytes n) before after
       tells-bytes i before after l c =
           let g : readFrom from room h s ≡ ok (slice (dataAlong v (dataPages v t links first from room e)) (from % 512) (bytesToCopy (e .length) from room)) =
           read-bytes v t links first from room e h s x f (omega arith) (omega (arith, count-is, b)) (same-scan ∙ i) in
           let j : length (dataAlong v (slotPages t start (from / 512) (pagesFor (from % 512) n))) ≡ 512 * pagesFor (from % 512) n =
           joined-length v sized (slotPages t start (from / 512) (pagesFor (from % 512) n)) (from / 512) (copy-ready i)
           ∙ ap (λ (m : ℕ). 512 * m) (pages-count v sized t start (from / 512) (pagesFor (from % 512) n)) in
-          read-told offset (readFrom from room h s) (slice (dataAlong v (slotPages t start (from / 512) (pagesFor (from % 512) n))) (from % 512) n) before after n
+          read-told geometry (readFrom from room h s) (slice (dataAlong v (slotPages t start (from / 512) (pagesFor (from % 512) n))) (from % 512) n) before after n
           (rw (at, count-is) g) (slice-length (dataAlong v (slotPages t start (from / 512) (pagesFor (from % 512) n))) (from % 512) n (omega arith))
           (omega (arith, (least-within n room (size - from) isLeast) .0)) c
 
 -- the read at a path is the one from the slot there
-pub read-at : (offset from room : ℕ) (x : Result (List ℕ)) (v : View) (first : ℕ) (e : Entry) (r : ReadOutcome) (before after : List ℕ)
+pub read-at : (geometry : Geometry) (from room : ℕ) (x : Result (List ℕ)) (v : View) (first : ℕ) (e : Entry) (r : ReadOutcome) (before after : List ℕ)
     → ((h : Slot) × (s : Tree) × Stands v first e h s × (x ≡ readFrom from room h s))
-    → ((h : Slot) (s : Tree) → Stands v first e h s → TellsRead (onImage offset (readFrom from room h s)) r before after) → TellsRead (onImage offset x) r before after
-read-at offset from room x v first e r before after y f = rw (y .3) (f (y .0) (y .1) (y .2))
+    → ((h : Slot) (s : Tree) → Stands v first e h s → TellsRead (onImage geometry (readFrom from room h s)) r before after) → TellsRead (onImage geometry x) r before after
+read-at geometry from room x v first e r before after y f = rw (y .3) (f (y .0) (y .1) (y .2))

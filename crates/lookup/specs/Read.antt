@@ -46,4 +46,4 @@ readIn root path offset count = atPath root path (readFrom offset count)
 
 -- the page that goes with number 2 is the image's
 abbrev pub readOf : List ℕ → List ℕ → ℕ → ℕ → Result (List ℕ)
-readOf image bytes offset count = onCard image bytes (λ s root path. onImage (s .offset) (readIn root path offset count))
+readOf image bytes offset count = onCard image bytes (λ s root path. onImage (s .geometry) (readIn root path offset count))

@@ -1,6 +1,7 @@
 // Along the pages of a directory or a file: the first one that a test takes.
 use fields::kinds::is_live;
 use fields::names::is_named;
+use layout::Geometry;
 use tree::slots::next_of;
 use tree::slots::read_slot;
 use tree::slots::slot_page;
@@ -18,12 +19,12 @@ pub enum Place {
 }
 
 // Whether a live entry with this name stands in the page.
-fn named_at(image: &[u8], table: &[u32], offset: u32, page: usize, name: &[u8]) -> bool
+fn named_at(image: &[u8], table: &[u32], geometry: Geometry, page: usize, name: &[u8]) -> bool
     requires { ⌜ page < 8589934592 ⌝ }
-    ensures { λ r. ⌜ r ≡ bears (now (name .entry)) ((viewBy offset (now (table .entry)) (now (image .entry))) .entry page) ⌝ }
+    ensures { λ r. ⌜ r ≡ bears (now (name .entry)) ((viewBy geometry (now (table .entry)) (now (image .entry))) .entry page) ⌝ }
 {
     let mut d = [0u8; 512];
-    if !read_slot(image, offset, table.len(), page, &mut d) {
+    if !read_slot(image, geometry, table.len(), page, &mut d) {
         return false;
     }
     is_live(&d) & is_named(&d, name)
@@ -33,18 +34,18 @@ fn named_at(image: &[u8], table: &[u32], offset: u32, page: usize, name: &[u8]) 
 pub fn find_name(
     image: &[u8],
     table: &[u32],
-    offset: u32,
+    geometry: Geometry,
     start: u32,
     count: u32,
     name: &[u8],
 ) -> Place
-    ensures { λ r. ⌜ (r ≡ scan (bearing (viewBy offset (now (table .entry)) (now (image .entry))) (now (name .entry))) (slotPages (now (table .entry)) start 0 count) 0) × Within count r ⌝ }
+    ensures { λ r. ⌜ (r ≡ scan (bearing (viewBy geometry (now (table .entry)) (now (image .entry))) (now (name .entry))) (slotPages (now (table .entry)) start 0 count) 0) × Within count r ⌝ }
 {
     let mut c = start;
     let mut k: u32 = 0;
     while k < count {
         let page = slot_page(c, k);
-        if named_at(image, table, offset, page, name) {
+        if named_at(image, table, geometry, page, name) {
             return Place::At {
                 slot: k,
                 page: page,
@@ -59,15 +60,15 @@ pub fn find_name(
 }
 
 // Whether slot k is `from` or a later one and a live entry stands in its page.
-fn live_at(image: &[u8], table: &[u32], offset: u32, from: u32, k: u32, page: usize) -> bool
+fn live_at(image: &[u8], table: &[u32], geometry: Geometry, from: u32, k: u32, page: usize) -> bool
     requires { ⌜ page < 8589934592 ⌝ }
-    ensures { λ r. ⌜ r ≡ livingFrom (viewBy offset (now (table .entry)) (now (image .entry))) from k page ⌝ }
+    ensures { λ r. ⌜ r ≡ livingFrom (viewBy geometry (now (table .entry)) (now (image .entry))) from k page ⌝ }
 {
     if k < from {
         return false;
     }
     let mut d = [0u8; 512];
-    if !read_slot(image, offset, table.len(), page, &mut d) {
+    if !read_slot(image, geometry, table.len(), page, &mut d) {
         return false;
     }
     is_live(&d)
@@ -77,18 +78,18 @@ fn live_at(image: &[u8], table: &[u32], offset: u32, from: u32, k: u32, page: us
 pub fn first_live(
     image: &[u8],
     table: &[u32],
-    offset: u32,
+    geometry: Geometry,
     start: u32,
     count: u32,
     from: u32,
 ) -> Place
-    ensures { λ r. ⌜ (r ≡ scan (livingFrom (viewBy offset (now (table .entry)) (now (image .entry))) from) (slotPages (now (table .entry)) start 0 count) 0) × Within count r ⌝ }
+    ensures { λ r. ⌜ (r ≡ scan (livingFrom (viewBy geometry (now (table .entry)) (now (image .entry))) from) (slotPages (now (table .entry)) start 0 count) 0) × Within count r ⌝ }
 {
     let mut c = start;
     let mut k: u32 = 0;
     while k < count {
         let page = slot_page(c, k);
-        if live_at(image, table, offset, from, k, page) {
+        if live_at(image, table, geometry, from, k, page) {
             return Place::At {
                 slot: k,
                 page: page,
@@ -103,26 +104,26 @@ pub fn first_live(
 }
 
 // Whether a dead entry stands in the page.
-fn dead_at(image: &[u8], table: &[u32], offset: u32, page: usize) -> bool
+fn dead_at(image: &[u8], table: &[u32], geometry: Geometry, page: usize) -> bool
     requires { ⌜ page < 8589934592 ⌝ }
-    ensures { λ r. ⌜ r ≡ dies ((viewBy offset (now (table .entry)) (now (image .entry))) .entry page) ⌝ }
+    ensures { λ r. ⌜ r ≡ dies ((viewBy geometry (now (table .entry)) (now (image .entry))) .entry page) ⌝ }
 {
     let mut d = [0u8; 512];
-    if !read_slot(image, offset, table.len(), page, &mut d) {
+    if !read_slot(image, geometry, table.len(), page, &mut d) {
         return false;
     }
     !is_live(&d)
 }
 
 // The first of `count` slots, which begin in cluster `start`, whose entry is dead.
-pub fn first_dead(image: &[u8], table: &[u32], offset: u32, start: u32, count: u32) -> Place
-    ensures { λ r. ⌜ (r ≡ scan (dying (viewBy offset (now (table .entry)) (now (image .entry)))) (slotPages (now (table .entry)) start 0 count) 0) × Within count r ⌝ }
+pub fn first_dead(image: &[u8], table: &[u32], geometry: Geometry, start: u32, count: u32) -> Place
+    ensures { λ r. ⌜ (r ≡ scan (dying (viewBy geometry (now (table .entry)) (now (image .entry)))) (slotPages (now (table .entry)) start 0 count) 0) × Within count r ⌝ }
 {
     let mut c = start;
     let mut k: u32 = 0;
     while k < count {
         let page = slot_page(c, k);
-        if dead_at(image, table, offset, page) {
+        if dead_at(image, table, geometry, page) {
             return Place::At {
                 slot: k,
                 page: page,
@@ -152,30 +153,30 @@ pub fn cluster_at(table: &[u32], first: u32, count: u32) -> u32
 }
 
 // Whether the page is unreadable.
-fn unreadable_at(image: &[u8], table: &[u32], offset: u32, k: u32, page: usize) -> bool
+fn unreadable_at(image: &[u8], table: &[u32], geometry: Geometry, k: u32, page: usize) -> bool
     requires { ⌜ page < 8589934592 ⌝ }
-    ensures { λ r. ⌜ r ≡ unread (viewBy offset (now (table .entry)) (now (image .entry))) k page ⌝ }
+    ensures { λ r. ⌜ r ≡ unread (viewBy geometry (now (table .entry)) (now (image .entry))) k page ⌝ }
 {
     let mut d = [0u8; 512];
-    !read_slot(image, offset, table.len(), page, &mut d)
+    !read_slot(image, geometry, table.len(), page, &mut d)
 }
 
 // The first unreadable one of the pages `low` to `high` - 1 of a file; page `low` lies in cluster `start`.
 pub fn first_unreadable(
     image: &[u8],
     table: &[u32],
-    offset: u32,
+    geometry: Geometry,
     start: u32,
     low: u32,
     high: u32,
 ) -> Place
-    ensures { λ r. ⌜ (r ≡ scan (unread (viewBy offset (now (table .entry)) (now (image .entry)))) (slotPages (now (table .entry)) start low (high - low)) low) × Within high r ⌝ }
+    ensures { λ r. ⌜ (r ≡ scan (unread (viewBy geometry (now (table .entry)) (now (image .entry)))) (slotPages (now (table .entry)) start low (high - low)) low) × Within high r ⌝ }
 {
     let mut c = start;
     let mut k = low;
     while k < high {
         let page = slot_page(c, k);
-        if unreadable_at(image, table, offset, k, page) {
+        if unreadable_at(image, table, geometry, k, page) {
             return Place::At {
                 slot: k,
                 page: page,

@@ -5,6 +5,7 @@ use fields::entries::Entry;
 use fields::entries::entry_of;
 use fields::paths::Parsed;
 use fields::paths::parse_path;
+use layout::Geometry;
 use layout::Opened;
 use layout::Refusal;
 use model::MOST_CLUSTERS;
@@ -52,8 +53,8 @@ pub(crate) fn no_entry() -> Entry
 }
 
 // The entry at a path of a card that the check accepts.
-fn find_card(image: &[u8], table: &[u32], offset: u32, path: &[u8]) -> FoundEntry
-    ensures { λ r. ⌜ ((root : Root) → HoldsCard (viewBy offset (now (table .entry)) (now (image .entry))) root → TellsEntry (withPath (pathOf (now (path .entry))) (findIn root)) r) ⌝ }
+fn find_card(image: &[u8], table: &[u32], geometry: Geometry, path: &[u8]) -> FoundEntry
+    ensures { λ r. ⌜ ((root : Root) → HoldsCard (viewBy geometry (now (table .entry)) (now (image .entry))) root → TellsEntry (withPath (pathOf (now (path .entry))) (findIn root)) r) ⌝ }
 {
     let parsed = parse_path(path);
     match parsed {
@@ -62,7 +63,7 @@ fn find_card(image: &[u8], table: &[u32], offset: u32, path: &[u8]) -> FoundEntr
             entry: no_entry(),
         },
         Parsed::Names(count) => {
-            let a = descend(image, table, offset, path, count);
+            let a = descend(image, table, geometry, path, count);
             let arrival = a.arrival;
             match arrival {
                 Arrival::Absent => FoundEntry {
@@ -86,11 +87,17 @@ fn find_card(image: &[u8], table: &[u32], offset: u32, path: &[u8]) -> FoundEntr
 }
 
 // The same by the first `end` words of a table.
-fn find_words(image: &[u8], table: &[u32], end: usize, offset: u32, path: &[u8]) -> FoundEntry
+fn find_words(
+    image: &[u8],
+    table: &[u32],
+    end: usize,
+    geometry: Geometry,
+    path: &[u8],
+) -> FoundEntry
     requires { ⌜ end ≤ length (now table) ⌝ }
-    ensures { λ r. ⌜ ((root : Root) → HoldsCard (viewBy offset (take end (now (table .entry))) (now (image .entry))) root → TellsEntry (withPath (pathOf (now (path .entry))) (findIn root)) r) ⌝ }
+    ensures { λ r. ⌜ ((root : Root) → HoldsCard (viewBy geometry (take end (now (table .entry))) (now (image .entry))) root → TellsEntry (withPath (pathOf (now (path .entry))) (findIn root)) r) ⌝ }
 {
-    find_card(image, &table[..end], offset, path)
+    find_card(image, &table[..end], geometry, path)
 }
 
 // The same of any image, with room for its table.
@@ -103,7 +110,7 @@ fn find_with(image: &[u8], table: &mut [u32; MOST_CLUSTERS], path: &[u8]) -> Fou
             outcome: Outcome::Refused(refusal),
             entry: no_entry(),
         },
-        Opened::Card(s) => find_words(image, table, s.end as usize, s.offset, path),
+        Opened::Card(s) => find_words(image, table, s.end as usize, s.geometry, path),
     }
 }
 

@@ -8,8 +8,10 @@ use fields::kinds::is_directory;
 use fields::numbers::word_at;
 use fields::paths::Parsed;
 use fields::paths::parse_path;
+use layout::Geometry;
 use layout::Opened;
 use layout::Refusal;
+use layout::image_page;
 use model::MOST_CLUSTERS;
 use tree::open_checked;
 use tree::slots::next_of;
@@ -75,15 +77,15 @@ fn piece_of(skip: usize, left: usize) -> usize
 fn copy_pages(
     image: &[u8],
     table: &[u32],
-    offset: u32,
+    geometry: Geometry,
     start: u32,
     low: u32,
     skip: usize,
     count: usize,
     out: &mut [u8],
 )
-    requires { ⌜ (skip < 512) × (count ≤ length (now out)) × (low + pagesFor skip count < 4294967296) × (scan (unread (viewBy offset (now table) (now image))) (slotPages (now table) start low (pagesFor skip count)) low ≡ Nowhere) ⌝ }
-    ensures { λ _. ⌜ now (out .exit) ≡ sets (now (out .entry)) 0 (slice (dataAlong (viewBy offset (now (table .entry)) (now (image .entry))) (slotPages (now (table .entry)) start low (pagesFor skip count))) skip count) ⌝ }
+    requires { ⌜ (skip < 512) × (count ≤ length (now out)) × (low + pagesFor skip count < 4294967296) × (scan (unread (viewBy geometry (now table) (now image))) (slotPages (now table) start low (pagesFor skip count)) low ≡ Nowhere) ⌝ }
+    ensures { λ _. ⌜ now (out .exit) ≡ sets (now (out .entry)) 0 (slice (dataAlong (viewBy geometry (now (table .entry)) (now (image .entry))) (slotPages (now (table .entry)) start low (pagesFor skip count))) skip count) ⌝ }
 {
     let mut c = start;
     let mut k = low;
@@ -91,7 +93,7 @@ fn copy_pages(
     let mut done: usize = 0;
     while done < count {
         let mut d = [0u8; 512];
-        read_slot(image, offset, table.len(), slot_page(c, k), &mut d);
+        read_slot(image, geometry, table.len(), slot_page(c, k), &mut d);
         let n = piece_of(from, count - done);
         put_page_part(out, done, &d, from, n);
         done += n;
@@ -116,13 +118,13 @@ fn least(a: usize, b: usize) -> usize
 fn read_in(
     image: &[u8],
     table: &[u32],
-    offset: u32,
+    geometry: Geometry,
     first: u32,
     page: &[u8; 512],
     from: usize,
     out: &mut [u8],
 ) -> ReadOutcome
-    ensures { λ r. ⌜ ((h : Slot) (s : Tree) → Stands (viewBy offset (now (table .entry)) (now (image .entry))) first (entryOf (now (page .entry))) h s → TellsRead (onImage offset (readFrom from (length (now (out .entry))) h s)) r (now (out .entry)) (now (out .exit))) ⌝ }
+    ensures { λ r. ⌜ ((h : Slot) (s : Tree) → Stands (viewBy geometry (now (table .entry)) (now (image .entry))) first (entryOf (now (page .entry))) h s → TellsRead (onImage geometry (readFrom from (length (now (out .entry))) h s)) r (now (out .entry)) (now (out .exit))) ⌝ }
 {
     if is_directory(page) {
         return ReadOutcome::Refused(Refusal::WrongKind);
@@ -138,13 +140,14 @@ fn read_in(
     let low = (from / 512) as u32;
     let high = ((from + count + 511) / 512) as u32;
     let start = cluster_at(table, first, low);
-    let bad = first_unreadable(image, table, offset, start, low, high);
+    let bad = first_unreadable(image, table, geometry, start, low, high);
     match bad {
-        Place::At { slot: _, page: at } => ReadOutcome::Refused(Refusal::UnreadablePage(
-            offset as usize * 2 + at,
-        )),
+        Place::At { slot: _, page: at } => ReadOutcome::Refused(Refusal::UnreadablePage(image_page(
+            geometry,
+            at,
+        ))),
         Place::Nowhere => {
-            copy_pages(image, table, offset, start, low, from % 512, count, out);
+            copy_pages(image, table, geometry, start, low, from % 512, count, out);
             ReadOutcome::Bytes(count)
         }
     }
@@ -154,25 +157,25 @@ fn read_in(
 fn read_card(
     image: &[u8],
     table: &[u32],
-    offset: u32,
+    geometry: Geometry,
     path: &[u8],
     from: usize,
     out: &mut [u8],
 ) -> ReadOutcome
-    ensures { λ r. ⌜ ((root : Root) → HoldsCard (viewBy offset (now (table .entry)) (now (image .entry))) root → TellsRead (onImage offset (withPath (pathOf (now (path .entry))) (λ q. readIn root q from (length (now (out .entry)))))) r (now (out .entry)) (now (out .exit))) ⌝ }
+    ensures { λ r. ⌜ ((root : Root) → HoldsCard (viewBy geometry (now (table .entry)) (now (image .entry))) root → TellsRead (onImage geometry (withPath (pathOf (now (path .entry))) (λ q. readIn root q from (length (now (out .entry)))))) r (now (out .entry)) (now (out .exit))) ⌝ }
 {
     let parsed = parse_path(path);
     match parsed {
         Parsed::Malformed => ReadOutcome::Refused(Refusal::BadPath),
         Parsed::Names(count) => {
-            let a = descend(image, table, offset, path, count);
+            let a = descend(image, table, geometry, path, count);
             let arrival = a.arrival;
             match arrival {
                 Arrival::Absent => ReadOutcome::Refused(Refusal::Absent),
                 Arrival::WrongKind => ReadOutcome::Refused(Refusal::WrongKind),
                 Arrival::At(first) => {
                     let page = a.page;
-                    read_in(image, table, offset, first, &page, from, out)
+                    read_in(image, table, geometry, first, &page, from, out)
                 }
             }
         }
@@ -184,15 +187,15 @@ fn read_words(
     image: &[u8],
     table: &[u32],
     end: usize,
-    offset: u32,
+    geometry: Geometry,
     path: &[u8],
     from: usize,
     out: &mut [u8],
 ) -> ReadOutcome
     requires { ⌜ end ≤ length (now table) ⌝ }
-    ensures { λ r. ⌜ ((root : Root) → HoldsCard (viewBy offset (take end (now (table .entry))) (now (image .entry))) root → TellsRead (onImage offset (withPath (pathOf (now (path .entry))) (λ q. readIn root q from (length (now (out .entry)))))) r (now (out .entry)) (now (out .exit))) ⌝ }
+    ensures { λ r. ⌜ ((root : Root) → HoldsCard (viewBy geometry (take end (now (table .entry))) (now (image .entry))) root → TellsRead (onImage geometry (withPath (pathOf (now (path .entry))) (λ q. readIn root q from (length (now (out .entry)))))) r (now (out .entry)) (now (out .exit))) ⌝ }
 {
-    read_card(image, &table[..end], offset, path, from, out)
+    read_card(image, &table[..end], geometry, path, from, out)
 }
 
 // The same of any image, with room for its table.
@@ -208,7 +211,7 @@ fn read_with(
     let opened = open_checked(image, table);
     match opened {
         Opened::Refused(refusal) => ReadOutcome::Refused(refusal),
-        Opened::Card(s) => read_words(image, table, s.end as usize, s.offset, path, from, out),
+        Opened::Card(s) => read_words(image, table, s.end as usize, s.geometry, path, from, out),
     }
 }
 

@@ -10,6 +10,7 @@ use fields::kinds::is_directory;
 use fields::numbers::word_at;
 use fields::paths::Parsed;
 use fields::paths::parse_path;
+use layout::Geometry;
 use layout::Opened;
 use layout::Refusal;
 use model::MOST_CLUSTERS;
@@ -46,12 +47,12 @@ pub struct SteppedEntry {
 fn step_in(
     image: &[u8],
     table: &[u32],
-    offset: u32,
+    geometry: Geometry,
     first: u32,
     page: &[u8; 512],
     slot: u32,
 ) -> SteppedEntry
-    ensures { λ r. ⌜ ((h : Slot) (s : Tree) → Stands (viewBy offset (now (table .entry)) (now (image .entry))) first (entryOf (now (page .entry))) h s → TellsStep (stepFrom slot h s) r) ⌝ }
+    ensures { λ r. ⌜ ((h : Slot) (s : Tree) → Stands (viewBy geometry (now (table .entry)) (now (image .entry))) first (entryOf (now (page .entry))) h s → TellsStep (stepFrom slot h s) r) ⌝ }
 {
     if !is_directory(page) {
         return SteppedEntry {
@@ -62,7 +63,7 @@ fn step_in(
     let found = first_live(
         image,
         table,
-        offset,
+        geometry,
         next_of(table, first),
         slots_of(word_at(page, 0x04)),
         slots_of(slot),
@@ -74,7 +75,7 @@ fn step_in(
         },
         Place::At { slot: k, page: at } => {
             let mut d = [0u8; 512];
-            if !read_slot(image, offset, table.len(), at, &mut d) {
+            if !read_slot(image, geometry, table.len(), at, &mut d) {
                 return SteppedEntry {
                     place: Stepped::End,
                     entry: no_entry(),
@@ -89,8 +90,14 @@ fn step_in(
 }
 
 // A step through the directory at a path of a card that the check accepts.
-fn step_card(image: &[u8], table: &[u32], offset: u32, path: &[u8], slot: u32) -> SteppedEntry
-    ensures { λ r. ⌜ ((root : Root) → HoldsCard (viewBy offset (now (table .entry)) (now (image .entry))) root → TellsStep (withPath (pathOf (now (path .entry))) (λ q. stepIn root q slot)) r) ⌝ }
+fn step_card(
+    image: &[u8],
+    table: &[u32],
+    geometry: Geometry,
+    path: &[u8],
+    slot: u32,
+) -> SteppedEntry
+    ensures { λ r. ⌜ ((root : Root) → HoldsCard (viewBy geometry (now (table .entry)) (now (image .entry))) root → TellsStep (withPath (pathOf (now (path .entry))) (λ q. stepIn root q slot)) r) ⌝ }
 {
     let parsed = parse_path(path);
     match parsed {
@@ -99,7 +106,7 @@ fn step_card(image: &[u8], table: &[u32], offset: u32, path: &[u8], slot: u32) -
             entry: no_entry(),
         },
         Parsed::Names(count) => {
-            let a = descend(image, table, offset, path, count);
+            let a = descend(image, table, geometry, path, count);
             let arrival = a.arrival;
             match arrival {
                 Arrival::Absent => SteppedEntry {
@@ -112,7 +119,7 @@ fn step_card(image: &[u8], table: &[u32], offset: u32, path: &[u8], slot: u32) -
                 },
                 Arrival::At(first) => {
                     let page = a.page;
-                    step_in(image, table, offset, first, &page, slot)
+                    step_in(image, table, geometry, first, &page, slot)
                 }
             }
         }
@@ -124,14 +131,14 @@ fn step_words(
     image: &[u8],
     table: &[u32],
     end: usize,
-    offset: u32,
+    geometry: Geometry,
     path: &[u8],
     slot: u32,
 ) -> SteppedEntry
     requires { ⌜ end ≤ length (now table) ⌝ }
-    ensures { λ r. ⌜ ((root : Root) → HoldsCard (viewBy offset (take end (now (table .entry))) (now (image .entry))) root → TellsStep (withPath (pathOf (now (path .entry))) (λ q. stepIn root q slot)) r) ⌝ }
+    ensures { λ r. ⌜ ((root : Root) → HoldsCard (viewBy geometry (take end (now (table .entry))) (now (image .entry))) root → TellsStep (withPath (pathOf (now (path .entry))) (λ q. stepIn root q slot)) r) ⌝ }
 {
-    step_card(image, &table[..end], offset, path, slot)
+    step_card(image, &table[..end], geometry, path, slot)
 }
 
 // The same of any image, with room for its table.
@@ -144,7 +151,7 @@ fn step_with(image: &[u8], table: &mut [u32; MOST_CLUSTERS], path: &[u8], slot: 
             place: Stepped::Refused(refusal),
             entry: no_entry(),
         },
-        Opened::Card(s) => step_words(image, table, s.end as usize, s.offset, path, slot),
+        Opened::Card(s) => step_words(image, table, s.end as usize, s.geometry, path, slot),
     }
 }
 

@@ -4,6 +4,7 @@ use crate::along::find_name;
 use fields::kinds::is_directory;
 use fields::numbers::word_at;
 use fields::paths::name_at;
+use layout::Geometry;
 use tree::slots::next_of;
 use tree::slots::read_slot;
 use tree::slots::slots_of;
@@ -30,12 +31,12 @@ pub struct Arrived {
 pub fn enter(
     image: &[u8],
     table: &[u32],
-    offset: u32,
+    geometry: Geometry,
     first: u32,
     page: &[u8; 512],
     name: &[u8],
 ) -> Arrived
-    ensures { λ r. ⌜ r ≡ entered (viewBy offset (now (table .entry)) (now (image .entry))) (now (table .entry)) first (now (page .entry)) (now (name .entry)) ⌝ }
+    ensures { λ r. ⌜ r ≡ entered (viewBy geometry (now (table .entry)) (now (image .entry))) (now (table .entry)) first (now (page .entry)) (now (name .entry)) ⌝ }
 {
     let mut d = [0u8; 512];
     if !is_directory(page) {
@@ -48,7 +49,7 @@ pub fn enter(
     let place = find_name(
         image,
         table,
-        offset,
+        geometry,
         next_of(table, first),
         slots_of(word_at(page, 0x04)),
         name,
@@ -60,7 +61,7 @@ pub fn enter(
             page: d,
         },
         Place::At { slot: _, page: at } => {
-            if !read_slot(image, offset, table.len(), at, &mut d) {
+            if !read_slot(image, geometry, table.len(), at, &mut d) {
                 return Arrived {
                     arrival: Arrival::Absent,
                     at: 0,
@@ -78,11 +79,17 @@ pub fn enter(
 }
 
 // Where the first `count` names of a path lead from the root.
-pub fn descend(image: &[u8], table: &[u32], offset: u32, path: &[u8], count: usize) -> Arrived
-    ensures { λ r. ⌜ r ≡ descended (viewBy offset (now (table .entry)) (now (image .entry))) (now (table .entry)) (namesFrom (now (path .entry)) 0 count) ⌝ }
+pub fn descend(
+    image: &[u8],
+    table: &[u32],
+    geometry: Geometry,
+    path: &[u8],
+    count: usize,
+) -> Arrived
+    ensures { λ r. ⌜ r ≡ descended (viewBy geometry (now (table .entry)) (now (image .entry))) (now (table .entry)) (namesFrom (now (path .entry)) 0 count) ⌝ }
 {
     let mut page = [0u8; 512];
-    if !read_slot(image, offset, table.len(), 0, &mut page) {
+    if !read_slot(image, geometry, table.len(), 0, &mut page) {
         return Arrived {
             arrival: Arrival::Absent,
             at: 0,
@@ -93,7 +100,7 @@ pub fn descend(image: &[u8], table: &[u32], offset: u32, path: &[u8], count: usi
     let mut at: usize = 0;
     let mut i: usize = 0;
     while i < count {
-        let a = enter(image, table, offset, first, &page, name_at(path, i));
+        let a = enter(image, table, geometry, first, &page, name_at(path, i));
         let arrival = a.arrival;
         match arrival {
             Arrival::Absent => {

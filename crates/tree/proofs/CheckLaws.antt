@@ -1,4 +1,5 @@
 -- The counts that the code tells are the check's, by the table that was loaded.
+use Rattle.layout.specs.declared.Geometry.{Geometry}
 use Prim.Native.Nat.{_≤_, ℕ}
 use mathlib.Core.List.{List}
 use mathlib.Core.Path.{_∙_, _≡_, ap, fun-ext, refl, sym}
@@ -6,7 +7,7 @@ use native.Mathlib.Omega.{arith}
 use borrow.Author.Tests.{le-ltb}
 use lib.ListN.{drop, length, length-append, take}
 use lib.Seq.{take-at}
-use Rattle.layout.proofs.Geometry.{open-facts}
+use Rattle.layout.proofs.OpenFacts.{open-facts}
 use Rattle.layout.proofs.TableLaws.{length-table}
 use Rattle.layout.specs.declared.Refusal.{Refusal}
 use Rattle.layout.specs.declared.Superblock.{Superblock}
@@ -27,42 +28,42 @@ use Rattle.tree.specs.declared.Counts.{Counts}
 use Rattle.tree.specs.declared.walk.Verdict.the-variants as verdict
 use Rattle.tree.specs.Walk.{Passes, Tells, rootMarks}
 
-module _ (clusters offset : ℕ) (t image : List ℕ) (q : Reached) where
+module _ (clusters : ℕ) (geometry : Geometry) (t image : List ℕ) (q : Reached) where
   abbrev v : View
-  v = viewBy offset t image
+  v = viewBy geometry t image
 
-  pub counted-bad : (f : Refusal) → Tells (onImage offset (rootMarks (checkTree (viewBy offset t image)))) (verdict.Refused f) q
-      → fault (numberOf f) (pageOf f) ≡ countsBy clusters offset t image
+  pub counted-bad : (f : Refusal) → Tells (onImage geometry (rootMarks (checkTree (viewBy geometry t image)))) (verdict.Refused f) q
+      → fault (numberOf f) (pageOf f) ≡ countsBy clusters geometry t image
   unfolding countsBy andThen
-  counted-bad f h = go (checkTree (viewBy offset t image)) h
+  counted-bad f h = go (checkTree (viewBy geometry t image)) h
     where
-      go : (r : Result (Root × Marks)) → Tells (onImage offset (rootMarks r)) (verdict.Refused f) q
-          → fault (numberOf f) (pageOf f) ≡ andThen (onImage offset r) (λ x. ok (countsIn clusters (length t) (viewBy offset t image) (x .0)))
+      go : (r : Result (Root × Marks)) → Tells (onImage geometry (rootMarks r)) (verdict.Refused f) q
+          → fault (numberOf f) (pageOf f) ≡ andThen (onImage geometry r) (λ x. ok (countsIn clusters (length t) (viewBy geometry t image) (x .0)))
       go (fault n p) h = rw (h .0, h .1)
       go (ok x) h = absurd h
 
   same-counts : (a b : Counts) → a .clusters ≡ b .clusters → a .free ≡ b .free → a .reached ≡ b .reached → a .orphaned ≡ b .orphaned → a ≡ b
   same-counts a b c d e f = λ i. record { clusters = c i; free = d i; reached = e i; orphaned = f i }
 
-  pub counted-good : (free orphaned : ℕ) → Tells (onImage offset (rootMarks (checkTree (viewBy offset t image)))) verdict.Sound q
+  pub counted-good : (free orphaned : ℕ) → Tells (onImage geometry (rootMarks (checkTree (viewBy geometry t image)))) verdict.Sound q
       → free ≡ freeWords t → orphaned ≡ orphansIn t q
-      → ok (record { clusters = clusters; free = free; reached = q .count; orphaned = orphaned }) ≡ countsBy clusters offset t image
+      → ok (record { clusters = clusters; free = free; reached = q .count; orphaned = orphaned }) ≡ countsBy clusters geometry t image
   unfolding countsBy andThen
-  counted-good free orphaned h f o = go (checkTree (viewBy offset t image)) refl h
+  counted-good free orphaned h f o = go (checkTree (viewBy geometry t image)) refl h
     where
-      go : (r : Result (Root × Marks)) → checkTree (viewBy offset t image) ≡ r → Tells (onImage offset (rootMarks r)) verdict.Sound q
+      go : (r : Result (Root × Marks)) → checkTree (viewBy geometry t image) ≡ r → Tells (onImage geometry (rootMarks r)) verdict.Sound q
           → ok (record { clusters = clusters; free = free; reached = q .count; orphaned = orphaned })
-          ≡ andThen (onImage offset r) (λ x. ok (countsIn clusters (length t) (viewBy offset t image) (x .0)))
+          ≡ andThen (onImage geometry r) (λ x. ok (countsIn clusters (length t) (viewBy geometry t image) (x .0)))
       go (fault n p) e h = absurd h
       go (ok x) e h =
-          let c = check-holds (viewBy offset t image) (x .0) (x .1) e in
+          let c = check-holds (viewBy geometry t image) (x .0) (x .1) e in
           let m : x .1 ≡ reached (x .0) = fun-ext (c .1) in
-          let high : (d : ℕ) → length t ≤ d → x .1 d ≡ 0 = λ d l. c .1 d ∙ card-used (viewBy offset t image) (x .0) (c .0) d (rw (le-ltb d (length t) l)) in
+          let high : (d : ℕ) → length t ≤ d → x .1 d ≡ 0 = λ d l. c .1 d ∙ card-used (viewBy geometry t image) (x .0) (c .0) d (rw (le-ltb d (length t) l)) in
           ap {B = Result Counts} ok
-          (same-counts (record { clusters = clusters; free = free; reached = q .count; orphaned = orphaned }) (countsIn clusters (length t) (viewBy offset t image) (x .0))
-          refl (f ∙ free-count t (viewBy offset t image) (λ d. refl))
+          (same-counts (record { clusters = clusters; free = free; reached = q .count; orphaned = orphaned }) (countsIn clusters (length t) (viewBy geometry t image) (x .0))
+          refl (f ∙ free-count t (viewBy geometry t image) (λ d. refl))
           (reached-count q (x .1) h (length t) high ∙ ap (λ (k : Marks). totalBelow k (length t)) m)
-          (o ∙ orphan-count t (viewBy offset t image) (λ d. refl) q (x .1) h ∙ ap (λ (k : Marks). totalBelow (λ d. isOrphan ((viewBy offset t image) .link d) (k d)) (length t)) m))
+          (o ∙ orphan-count t (viewBy geometry t image) (λ d. refl) q (x .1) h ∙ ap (λ (k : Marks). totalBelow (λ d. isOrphan ((viewBy geometry t image) .link d) (k d)) (length t)) m))
 
 -- ---- the card that was opened
 
@@ -83,35 +84,35 @@ module _ (image : List ℕ) where
     pub end-fits : s .end ≤ 8192
     end-fits = let g = open-facts image s (sym e) in omega (arith, g .room, g .most)
 
-    pub check-card : (t : List ℕ) → t ≡ tableOf image s → countsBy (s .clusters) (s .offset) t image ≡ checkOf image
+    pub check-card : (t : List ℕ) → t ≡ tableOf image s → countsBy (s .clusters) (s .geometry) t image ≡ checkOf image
     unfolding checkOf checkImage countsBy andThen
     check-card t f =
-        ap (λ (w : List ℕ). countsBy (s .clusters) (s .offset) w image) f
+        ap (λ (w : List ℕ). countsBy (s .clusters) (s .geometry) w image) f
         ∙ rw (← e) (go (checkTree (see s image)))
       where
-        go : (r : Result (Root × Marks)) → andThen (onImage (s .offset) r) (λ x. ok (countsIn (s .clusters) (length (tableOf image s)) (see s image) (x .0)))
-            ≡ andThen {A = Superblock × Root × Marks} (andThen (onImage (s .offset) r) (λ x. ok (s, x .0, x .1))) (λ x. ok (countsIn (x .0 .clusters) (x .0 .end) (see (x .0) image) (x .1)))
+        go : (r : Result (Root × Marks)) → andThen (onImage (s .geometry) r) (λ x. ok (countsIn (s .clusters) (length (tableOf image s)) (see s image) (x .0)))
+            ≡ andThen {A = Superblock × Root × Marks} (andThen (onImage (s .geometry) r) (λ x. ok (s, x .0, x .1))) (λ x. ok (countsIn (x .0 .clusters) (x .0 .end) (see (x .0) image) (x .1)))
         go (fault n p) = refl
         go (ok x) = rw (length-table image s)
 
     module _ (t : List ℕ) (f : t ≡ tableOf image s) where
-      opened-is : superblockIn (checkImage image) ≡ superblockIn (andThen (onImage (s .offset) (checkTree (viewBy (s .offset) t image))) (λ x. ok (s, x .0, x .1)))
+      opened-is : superblockIn (checkImage image) ≡ superblockIn (andThen (onImage (s .geometry) (checkTree (viewBy (s .geometry) t image))) (λ x. ok (s, x .0, x .1)))
       unfolding checkImage andThen
       opened-is = rw (← e, f)
 
-      pub opened-bad : (r : Refusal) → Passes (onImage (s .offset) (checkTree (viewBy (s .offset) t image))) (verdict.Refused r) → fault (numberOf r) (pageOf r) ≡ superblockIn (checkImage image)
+      pub opened-bad : (r : Refusal) → Passes (onImage (s .geometry) (checkTree (viewBy (s .geometry) t image))) (verdict.Refused r) → fault (numberOf r) (pageOf r) ≡ superblockIn (checkImage image)
       unfolding andThen
-      opened-bad r h = go (checkTree (viewBy (s .offset) t image)) h ∙ sym opened-is
+      opened-bad r h = go (checkTree (viewBy (s .geometry) t image)) h ∙ sym opened-is
         where
-          go : (x : Result (Root × Marks)) → Passes (onImage (s .offset) x) (verdict.Refused r) → fault (numberOf r) (pageOf r) ≡ superblockIn (andThen (onImage (s .offset) x) (λ y. ok (s, y .0, y .1)))
+          go : (x : Result (Root × Marks)) → Passes (onImage (s .geometry) x) (verdict.Refused r) → fault (numberOf r) (pageOf r) ≡ superblockIn (andThen (onImage (s .geometry) x) (λ y. ok (s, y .0, y .1)))
           go (fault n p) h = rw (h .0, h .1)
           go (ok y) h = absurd h
 
-      pub opened-good : Passes (onImage (s .offset) (checkTree (viewBy (s .offset) t image))) verdict.Sound → ok s ≡ superblockIn (checkImage image)
+      pub opened-good : Passes (onImage (s .geometry) (checkTree (viewBy (s .geometry) t image))) verdict.Sound → ok s ≡ superblockIn (checkImage image)
       unfolding andThen
-      opened-good h = go (checkTree (viewBy (s .offset) t image)) h ∙ sym opened-is
+      opened-good h = go (checkTree (viewBy (s .geometry) t image)) h ∙ sym opened-is
         where
-          go : (x : Result (Root × Marks)) → Passes (onImage (s .offset) x) verdict.Sound → ok s ≡ superblockIn (andThen (onImage (s .offset) x) (λ y. ok (s, y .0, y .1)))
+          go : (x : Result (Root × Marks)) → Passes (onImage (s .geometry) x) verdict.Sound → ok s ≡ superblockIn (andThen (onImage (s .geometry) x) (λ y. ok (s, y .0, y .1)))
           go (fault n p) h = absurd h
           go (ok y) h = refl
 

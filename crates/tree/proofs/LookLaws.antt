@@ -1,4 +1,6 @@
 -- What the code reads of a slot, and the names before it, are the view's.
+use Rattle.layout.specs.See.{imagePage}
+use Rattle.layout.specs.declared.Geometry.{Geometry}
 use Prim.Native.Nat.{_%_, _*_, _+_, _-_, _<_, _≤_, suc, zero, ℕ}
 use mathlib.Core.Bool.{Bool, _&&_, cond, false, true}
 use mathlib.Core.List.{List}
@@ -116,13 +118,13 @@ module _ (v : View) (t : List ℕ) (start k : ℕ) (bits : List ℕ) (kn : Knows
   skip : ((n : Name) → liveHit (v .entry page) n ≡ 0) → Knows v t start (k + 1) bits
   skip z = rw (add-one k) (knows-skip v t start k bits kn (λ n. rw (at, here) at (z n)))
 
-  pub look-unread : (offset p : ℕ) → v .entry page ≡ none → p ≡ 2 * offset + page
-      → (look.Unreadable p ≡ lookedAt (liveBefore v t start k) (2 * offset + slotPage c k) (v .entry (slotPage c k))) × Knows v t start (k + 1) bits
-  look-unread offset p e q = (rw (← at, e, q), skip (λ n. rw e))
+  pub look-unread : (geometry : Geometry) (p : ℕ) → v .entry page ≡ none → p ≡ imagePage geometry page
+      → (look.Unreadable p ≡ lookedAt (liveBefore v t start k) (imagePage geometry (slotPage c k)) (v .entry (slotPage c k))) × Knows v t start (k + 1) bits
+  look-unread geometry p e q = (rw (← at, e, q), skip (λ n. rw e))
 
-  module _ (offset : ℕ) (e : Entry) (i : v .entry page ≡ some e) where
+  module _ (geometry : Geometry) (e : Entry) (i : v .entry page ≡ some e) where
     pub look-dead : isLive e ≡ false
-        → (look.Dead ≡ lookedAt (liveBefore v t start k) (2 * offset + slotPage c k) (v .entry (slotPage c k))) × Knows v t start (k + 1) bits
+        → (look.Dead ≡ lookedAt (liveBefore v t start k) (imagePage geometry (slotPage c k)) (v .entry (slotPage c k))) × Knows v t start (k + 1) bits
     look-dead l = (rw (← at, i, l), skip (λ n. rw (i, l)))
 
     module _ (l : isLive e ≡ true) (after : List ℕ) (h : after ≡ hold bits (hashOf 0 (e .name))) where
@@ -130,26 +132,26 @@ module _ (v : View) (t : List ℕ) (start k : ℕ) (bits : List ℕ) (kn : Knows
       met = rw (add-one k, h) (knows-hold v t start k bits kn e (own-page (some e) i))
 
       pub look-new : (x : Look) → x ≡ lookBy (kindOf e) → liveBefore v t start k (e .name) ≡ 0
-          → (x ≡ lookedAt (liveBefore v t start k) (2 * offset + slotPage c k) (v .entry (slotPage c k))) × Knows v t start (k + 1) after
+          → (x ≡ lookedAt (liveBefore v t start k) (imagePage geometry (slotPage c k)) (v .entry (slotPage c k))) × Knows v t start (k + 1) after
       look-new x q z = (q ∙ sym (look-kind e l) ∙ shown-new, met)
         where
           shown-new : pickLook (isFile e) (look.File (e .length) (e .firstCluster)) (pickLook (isSubdirectory e) (look.Directory (e .length) (e .firstCluster)) look.Bad)
-              ≡ lookedAt (liveBefore v t start k) (2 * offset + slotPage c k) (v .entry (slotPage c k))
+              ≡ lookedAt (liveBefore v t start k) (imagePage geometry (slotPage c k)) (v .entry (slotPage c k))
           shown-new =
-              sym (ap (lookedAt (liveBefore v t start k) (2 * offset + slotPage c k)) (ap (v .entry) (sym at) ∙ i)
+              sym (ap (lookedAt (liveBefore v t start k) (imagePage geometry (slotPage c k))) (ap (v .entry) (sym at) ∙ i)
               ∙ ap (λ (b : Bool). pickLook b (pickLook (eqb (liveBefore v t start k (e .name)) 0)
               (pickLook (isFile e) (look.File (e .length) (e .firstCluster)) (pickLook (isSubdirectory e) (look.Directory (e .length) (e .firstCluster)) look.Bad)) look.Bad) look.Dead) l
               ∙ ap (λ (n : ℕ). pickLook (eqb n 0) (pickLook (isFile e) (look.File (e .length) (e .firstCluster)) (pickLook (isSubdirectory e) (look.Directory (e .length) (e .firstCluster)) look.Bad)) look.Bad) z)
 
       pub look-met : (x : Look) → x ≡ lookBy (kindOf e) → (b : Bool) → b ≡ held bits (hashOf 0 (e .name)) → b ≡ false
-          → (x ≡ lookedAt (liveBefore v t start k) (2 * offset + slotPage c k) (v .entry (slotPage c k))) × Knows v t start (k + 1) after
+          → (x ≡ lookedAt (liveBefore v t start k) (imagePage geometry (slotPage c k)) (v .entry (slotPage c k))) × Knows v t start (k + 1) after
       look-met x q b f g = look-new x q (knows-new v t start k bits kn (e .name) (sym f ∙ g))
 
       pub look-taken : (b : Bool) → b ≡ ltb 0 (liveBefore v t start k (e .name)) → b ≡ true
-          → (look.Bad ≡ lookedAt (liveBefore v t start k) (2 * offset + slotPage c k) (v .entry (slotPage c k))) × Knows v t start (k + 1) after
+          → (look.Bad ≡ lookedAt (liveBefore v t start k) (imagePage geometry (slotPage c k)) (v .entry (slotPage c k))) × Knows v t start (k + 1) after
       look-taken b f g =
           let z : 0 < liveBefore v t start k (e .name) = ltb-true _ _ (sym f ∙ g) in (
-            sym (ap (lookedAt (liveBefore v t start k) (2 * offset + slotPage c k)) (ap (v .entry) (sym at) ∙ i)
+            sym (ap (lookedAt (liveBefore v t start k) (imagePage geometry (slotPage c k))) (ap (v .entry) (sym at) ∙ i)
                 ∙ ap (λ (b : Bool). pickLook b (pickLook (eqb (liveBefore v t start k (e .name)) 0)
                 (pickLook (isFile e) (look.File (e .length) (e .firstCluster)) (pickLook (isSubdirectory e) (look.Directory (e .length) (e .firstCluster)) look.Bad)) look.Bad) look.Dead) l
                 ∙ ap (λ (b : Bool). pickLook b (pickLook (isFile e) (look.File (e .length) (e .firstCluster)) (pickLook (isSubdirectory e) (look.Directory (e .length) (e .firstCluster)) look.Bad)) look.Bad)
@@ -158,5 +160,5 @@ module _ (v : View) (t : List ℕ) (start k : ℕ) (bits : List ℕ) (kn : Knows
           )
 
       pub look-free : (x : Look) → x ≡ lookBy (kindOf e) → (b : Bool) → b ≡ ltb 0 (liveBefore v t start k (e .name)) → b ≡ false
-          → (x ≡ lookedAt (liveBefore v t start k) (2 * offset + slotPage c k) (v .entry (slotPage c k))) × Knows v t start (k + 1) after
+          → (x ≡ lookedAt (liveBefore v t start k) (imagePage geometry (slotPage c k)) (v .entry (slotPage c k))) × Knows v t start (k + 1) after
       look-free x q b f g = let z : liveBefore v t start k (e .name) ≤ 0 = ltb-false _ _ (sym f ∙ g) in look-new x q (omega arith)

@@ -1,4 +1,5 @@
 -- The root, and what the whole walk tells of the check.
+use Rattle.layout.specs.declared.Geometry.{Geometry}
 use Prim.Native.Nat.{_*_, _-_, _≤_, ℕ}
 use mathlib.Core.Bool.{_&&_, false, true}
 use mathlib.Core.List.{List, [], _∷_}
@@ -8,7 +9,7 @@ use native.Mathlib.Omega.{arith}
 use lib.Dec.{leb, leb→le}
 use lib.ListN.{length}
 use Rattle.layout.specs.declared.Refusal.the-variants as is
-use Rattle.layout.specs.See.{onImage}
+use Rattle.layout.specs.See.{imagePage, onImage}
 use Rattle.model.proofs.Equality.{and-r, to-T}
 use Rattle.model.specs.Check.{Marks, Result, andThen, checkTree, fault, followChain, judgeDots, marks, ok, sound, walkDirectory}
 use Rattle.model.specs.Entry.{Entry, directoryClusters, isDirectory, isRoot}
@@ -42,13 +43,13 @@ chain-step : {B : Type 0} (o : Option (List ℕ)) (cs : List ℕ) (f : List ℕ 
 unfolding andThen
 chain-step o cs f e = rw e
 
-module _ (v : View) (offset : ℕ) where
-  pub root-unread : (p : ℕ) (r : Reached) → v .entry 0 ≡ none → p ≡ 2 * offset → Tells (onImage offset (rootMarks (checkTree v))) (verdict.Refused (is.UnreadablePage p)) r
+module _ (v : View) (geometry : Geometry) where
+  pub root-unread : (p : ℕ) (r : Reached) → v .entry 0 ≡ none → p ≡ imagePage geometry 0 → Tells (onImage geometry (rootMarks (checkTree v))) (verdict.Refused (is.UnreadablePage p)) r
   unfolding checkTree andThen
   root-unread p r e q = rw e (refl, omega arith)
 
   module _ (e : Entry) (i : v .entry 0 ≡ some e) where
-    pub root-bad : (r : Reached) → isRoot e ≡ false → Tells (onImage offset (rootMarks (checkTree v))) (verdict.Refused is.BadEntry) r
+    pub root-bad : (r : Reached) → isRoot e ≡ false → Tells (onImage geometry (rootMarks (checkTree v))) (verdict.Refused is.BadEntry) r
     unfolding checkTree andThen
     root-bad r b = rw (i, b) (refl, refl)
 
@@ -68,7 +69,7 @@ module _ (v : View) (offset : ℕ) where
         walked-so : x ≡ chainBehind t noMarks 0 k
         walked-so = walked ∙ ap (λ r. chainBehind t r 0 k) fresh
 
-        pub root-broken : x .sound ≡ false → Tells (onImage offset (rootMarks (checkTree v))) (verdict.Refused is.BadChain) (x .reached)
+        pub root-broken : x .sound ≡ false → Tells (onImage geometry (rootMarks (checkTree v))) (verdict.Refused is.BadChain) (x .reached)
         unfolding andThen
         root-broken b =
             let f : followChain v k (Link.next 0) (λ c. 0) ≡ none = broken-none t small v links k 0 noMarks (λ c. 0) keeps-none (rw walked-so at b) in
@@ -77,8 +78,8 @@ module _ (v : View) (offset : ℕ) where
         pub root-sound : x .sound ≡ true → Sound (x .reached)
         root-sound b = let g = sound-some t small v links k 0 noMarks (λ c. 0) keeps-none (rw walked-so at b) in rw walked-so (g .2 .keeps .sound)
 
-        pub root-good : x .sound ≡ true → (w : Verdict) (z : Reached) → Tells (onImage offset (insideOf v deepest t 0 (e .length) (marksOf (x .reached)))) w z
-            → Tells (onImage offset (rootMarks (checkTree v))) w z
+        pub root-good : x .sound ≡ true → (w : Verdict) (z : Reached) → Tells (onImage geometry (insideOf v deepest t 0 (e .length) (marksOf (x .reached)))) w z
+            → Tells (onImage geometry (rootMarks (checkTree v))) w z
         unfolding insideOf
         root-good b w z h =
             let g = sound-some t small v links k 0 noMarks (λ c. 0) keeps-none (rw walked-so at b) in
@@ -87,17 +88,17 @@ module _ (v : View) (offset : ℕ) where
             let q = follow-chain v (directoryClusters e) (Link.next 0) (λ c. 0) cs f in
             let d = directory-pages v t links 0 cs (q .1) (e .length) two (q .0) in
             let m : marksOf (x .reached) ≡ times cs = ap (λ (y : Chain). marksOf (y .reached)) walked-so ∙ fun-ext (λ c. g .2 .keeps .marks c ∙ omega arith) in
-            let same : onImage offset (rootMarks (checkTree v)) ≡ onImage offset (marksOnly (andThen (judgeDots v (0 ∷ [])) (λ y. walkDirectory v deepest (slotPages t (nextOf t 0) 0 (e .length - 2)) (λ n. 0) (marksOf (x .reached))))) =
-            ap (λ r. onImage offset (rootMarks r)) (opened ∙ chain-step (followChain v (directoryClusters e) (Link.next 0) (λ c. 0)) cs _ f)
-            ∙ ap (onImage offset) (root-only (judgeDots v cs) (λ y. walkDirectory v deepest (entryPages (Slot.directory e cs)) (λ n. 0) (times cs)) (λ s. record { rootEntry = e; chain = cs; slots = s .0 }))
-            ∙ ap (λ (ps : List ℕ). onImage offset (marksOnly (andThen (judgeDots v cs) (λ y. walkDirectory v deepest ps (λ n. 0) (times cs))))) (d .2)
-            ∙ ap (λ (xs : List ℕ). onImage offset (marksOnly (andThen (judgeDots v xs) (λ y. walkDirectory v deepest (slotPages t (nextOf t 0) 0 (e .length - 2)) (λ n. 0) (times cs))))) (d .1)
-            ∙ ap (λ (s : Marks). onImage offset (marksOnly (andThen (judgeDots v (0 ∷ [])) (λ y. walkDirectory v deepest (slotPages t (nextOf t 0) 0 (e .length - 2)) (λ n. 0) s)))) (sym m) in
+            let same : onImage geometry (rootMarks (checkTree v)) ≡ onImage geometry (marksOnly (andThen (judgeDots v (0 ∷ [])) (λ y. walkDirectory v deepest (slotPages t (nextOf t 0) 0 (e .length - 2)) (λ n. 0) (marksOf (x .reached))))) =
+            ap (λ r. onImage geometry (rootMarks r)) (opened ∙ chain-step (followChain v (directoryClusters e) (Link.next 0) (λ c. 0)) cs _ f)
+            ∙ ap (onImage geometry) (root-only (judgeDots v cs) (λ y. walkDirectory v deepest (entryPages (Slot.directory e cs)) (λ n. 0) (times cs)) (λ s. record { rootEntry = e; chain = cs; slots = s .0 }))
+            ∙ ap (λ (ps : List ℕ). onImage geometry (marksOnly (andThen (judgeDots v cs) (λ y. walkDirectory v deepest ps (λ n. 0) (times cs))))) (d .2)
+            ∙ ap (λ (xs : List ℕ). onImage geometry (marksOnly (andThen (judgeDots v xs) (λ y. walkDirectory v deepest (slotPages t (nextOf t 0) 0 (e .length - 2)) (λ n. 0) (times cs))))) (d .1)
+            ∙ ap (λ (s : Marks). onImage geometry (marksOnly (andThen (judgeDots v (0 ∷ [])) (λ y. walkDirectory v deepest (slotPages t (nextOf t 0) 0 (e .length - 2)) (λ n. 0) s)))) (sym m) in
             rw same h
 
 -- the verdict of the whole tree, and its marks
-pub tells-passes : (offset : ℕ) (r : Result (Root × Marks)) (x : Verdict) (q : Reached) → Tells (onImage offset (rootMarks r)) x q → Passes (onImage offset r) x
-tells-passes offset (fault n p) verdict.Sound q h = absurd h
-tells-passes offset (fault n p) (verdict.Refused f) q h = h
-tells-passes offset (ok m) verdict.Sound q h = tt
-tells-passes offset (ok m) (verdict.Refused f) q h = absurd h
+pub tells-passes : (geometry : Geometry) (r : Result (Root × Marks)) (x : Verdict) (q : Reached) → Tells (onImage geometry (rootMarks r)) x q → Passes (onImage geometry r) x
+tells-passes geometry (fault n p) verdict.Sound q h = absurd h
+tells-passes geometry (fault n p) (verdict.Refused f) q h = h
+tells-passes geometry (ok m) verdict.Sound q h = tt
+tells-passes geometry (ok m) (verdict.Refused f) q h = absurd h

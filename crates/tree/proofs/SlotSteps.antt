@@ -7,7 +7,8 @@ use mathlib.Core.Path.{_∙_, _≡_, ap, fun-ext, refl, sym}
 use native.Mathlib.Omega.{arith}
 use lib.Dec.{eqb, leb, leb→le, ltb, lt→ltb}
 use lib.ListN.{length}
-use Rattle.layout.specs.See.{onImage}
+use Rattle.layout.specs.declared.Geometry.{Geometry}
+use Rattle.layout.specs.See.{imagePage, onImage}
 use Rattle.model.proofs.Equality.{and-r, of-T, to-T}
 use Rattle.model.specs.Check.{Deeper, Marks, Result, andThen, dots, fault, followChain, judgeDots, judgeEntry, marks, ok, sound, walkDirectory, walkSlots}
 use Rattle.model.specs.Entry.{Entry, directoryClusters, fileClusters, isDirectory, isFile, isLive, isSubdirectory}
@@ -121,40 +122,40 @@ and-false false = refl
 marks-none : (m : Marks) → marks m [] ≡ m
 marks-none m = fun-ext (λ c. omega arith)
 
-module _ (v : View) (t : List ℕ) (links : (c : ℕ) → v .link c ≡ tableLinks t c) (off : ℕ) (m : Marks) where
+module _ (v : View) (t : List ℕ) (links : (c : ℕ) → v .link c ≡ tableLinks t c) (geometry : Geometry) (m : Marks) where
   -- a directory with a sound chain: its inside
   into : (b : ℕ) (e : Entry) (cs : List ℕ) → 2 ≤ e .length → followChain v (directoryClusters e) (firstLink e) m ≡ some cs
-      → onImage off (andThen (judgeDots v cs) (λ x. andThen (walkDirectory v b (entryPages (Slot.directory e cs)) (λ n. 0) (marks m cs)) (λ s. ok (s .1))))
-      ≡ onImage off (insideOf v b t (e .firstCluster) (e .length) (marks m cs))
+      → onImage geometry (andThen (judgeDots v cs) (λ x. andThen (walkDirectory v b (entryPages (Slot.directory e cs)) (λ n. 0) (marks m cs)) (λ s. ok (s .1))))
+      ≡ onImage geometry (insideOf v b t (e .firstCluster) (e .length) (marks m cs))
   unfolding insideOf
   into b e cs two f =
       let h = follow-chain v (directoryClusters e) (firstLink e) m cs f in
       let d = directory-pages v t links (e .firstCluster) cs (h .1) (e .length) two (h .0) in
-      ap (onImage off) (only-step (judgeDots v cs) (λ x. walkDirectory v b (entryPages (Slot.directory e cs)) (λ n. 0) (marks m cs)))
-      ∙ ap (λ (ps : List ℕ). onImage off (marksOnly (andThen (judgeDots v cs) (λ x. walkDirectory v b ps (λ n. 0) (marks m cs))))) (d .2)
-      ∙ ap (λ (xs : List ℕ). onImage off (marksOnly (andThen (judgeDots v xs) (λ x. walkDirectory v b (slotPages t (nextOf t (e .firstCluster)) 0 (e .length - 2)) (λ n. 0) (marks m cs))))) (d .1)
+      ap (onImage geometry) (only-step (judgeDots v cs) (λ x. walkDirectory v b (entryPages (Slot.directory e cs)) (λ n. 0) (marks m cs)))
+      ∙ ap (λ (ps : List ℕ). onImage geometry (marksOnly (andThen (judgeDots v cs) (λ x. walkDirectory v b ps (λ n. 0) (marks m cs))))) (d .2)
+      ∙ ap (λ (xs : List ℕ). onImage geometry (marksOnly (andThen (judgeDots v xs) (λ x. walkDirectory v b (slotPages t (nextOf t (e .firstCluster)) 0 (e .length - 2)) (λ n. 0) (marks m cs))))) (d .1)
 
   file-in : (b : ℕ) (e : Entry) (o : Option (List ℕ))
-      → onImage off (andThen (sound o (λ cs. Slot.file e cs (map (v .page) (pagesOf cs)))) (λ h. afterEntry v b m h)) ≡ onChain o (λ cs. ok (marks m cs))
+      → onImage geometry (andThen (sound o (λ cs. Slot.file e cs (map (v .page) (pagesOf cs)))) (λ h. afterEntry v b m h)) ≡ onChain o (λ cs. ok (marks m cs))
   unfolding andThen
   file-in b e none = refl
-  file-in b e (some cs) = ap (λ (r : Result (Tree × Marks)). onImage off (andThen r (λ s. ok (s .1)))) (deeper-none v b (marks m cs))
+  file-in b e (some cs) = ap (λ (r : Result (Tree × Marks)). onImage geometry (andThen r (λ s. ok (s .1)))) (deeper-none v b (marks m cs))
 
-  dead-in : (b : ℕ) → onImage off (afterEntry v b m Slot.dead) ≡ ok m
+  dead-in : (b : ℕ) → onImage geometry (afterEntry v b m Slot.dead) ≡ ok m
   unfolding andThen
-  dead-in b = ap (λ (r : Result (Tree × Marks)). onImage off (andThen r (λ s. ok (s .1)))) (deeper-none v b (marks m [])) ∙ ap {B = Result Marks} ok (marks-none m)
+  dead-in b = ap (λ (r : Result (Tree × Marks)). onImage geometry (andThen r (λ s. ok (s .1)))) (deeper-none v b (marks m [])) ∙ ap {B = Result Marks} ok (marks-none m)
 
   directory-in : (b : ℕ) (e : Entry) → 2 ≤ e .length → (o : Option (List ℕ)) → followChain v (directoryClusters e) (firstLink e) m ≡ o
-      → onImage off (andThen (sound o (λ cs. Slot.directory e cs)) (λ h. afterEntry v (suc b) m h)) ≡ onChain o (λ cs. onImage off (insideOf v b t (e .firstCluster) (e .length) (marks m cs)))
+      → onImage geometry (andThen (sound o (λ cs. Slot.directory e cs)) (λ h. afterEntry v (suc b) m h)) ≡ onChain o (λ cs. onImage geometry (insideOf v b t (e .firstCluster) (e .length) (marks m cs)))
   unfolding andThen
   directory-in b e two none f = refl
   directory-in b e two (some cs) f = into b e cs two f
 
   -- a live entry, by the tests on it
   live-in : (b : ℕ) (e : Entry) (file sub new : Bool) → isSubdirectory e ≡ sub
-      → onImage off (andThen (cond (file && new) (sound (followChain v (fileClusters e) (firstLink e) m) (λ cs. Slot.file e cs (map (v .page) (pagesOf cs))))
+      → onImage geometry (andThen (cond (file && new) (sound (followChain v (fileClusters e) (firstLink e) m) (λ cs. Slot.file e cs (map (v .page) (pagesOf cs))))
       (cond (sub && ltb 0 b && new) (sound (followChain v (directoryClusters e) (firstLink e) m) (λ cs. Slot.directory e cs)) (fault 7 0))) (λ h. afterEntry v b m h))
-      ≡ enteredLook v off b t m (pickLook new (pickLook file (look.File (e .length) (e .firstCluster)) (pickLook sub (look.Directory (e .length) (e .firstCluster)) look.Bad)) look.Bad)
+      ≡ enteredLook v geometry b t m (pickLook new (pickLook file (look.File (e .length) (e .firstCluster)) (pickLook sub (look.Directory (e .length) (e .firstCluster)) look.Bad)) look.Bad)
   unfolding andThen
   live-in b e true sub true s = file-in b e (followChain v (fileClusters e) (firstLink e) m)
   live-in zero e false true true s = refl
@@ -171,17 +172,17 @@ module _ (v : View) (t : List ℕ) (links : (c : ℕ) → v .link c ≡ tableLin
   live-in b e false false false s = refl
 
   -- The slot in page p gives what its look leads to.
-  pub enters : (b : ℕ) (seen : Name → ℕ) (p : ℕ) → onImage off (slotMarks v b seen m p) ≡ enteredLook v off b t m (lookedAt seen (2 * off + p) (v .entry p))
+  pub enters : (b : ℕ) (seen : Name → ℕ) (p : ℕ) → onImage geometry (slotMarks v b seen m p) ≡ enteredLook v geometry b t m (lookedAt seen (imagePage geometry p) (v .entry p))
   unfolding andThen
   enters b seen p = go (v .entry p)
     where
       kind : (e : Entry) (l : Bool) → isLive e ≡ l
-          → onImage off (andThen (cond l (cond (isFile e && eqb (seen (e .name)) 0) (sound (followChain v (fileClusters e) (firstLink e) m) (λ cs. Slot.file e cs (map (v .page) (pagesOf cs))))
+          → onImage geometry (andThen (cond l (cond (isFile e && eqb (seen (e .name)) 0) (sound (followChain v (fileClusters e) (firstLink e) m) (λ cs. Slot.file e cs (map (v .page) (pagesOf cs))))
           (cond (isSubdirectory e && ltb 0 b && eqb (seen (e .name)) 0) (sound (followChain v (directoryClusters e) (firstLink e) m) (λ cs. Slot.directory e cs)) (fault 7 0))) (ok Slot.dead)) (λ h. afterEntry v b m h))
-          ≡ enteredLook v off b t m (pickLook l (pickLook (eqb (seen (e .name)) 0) (pickLook (isFile e) (look.File (e .length) (e .firstCluster)) (pickLook (isSubdirectory e) (look.Directory (e .length) (e .firstCluster)) look.Bad)) look.Bad) look.Dead)
+          ≡ enteredLook v geometry b t m (pickLook l (pickLook (eqb (seen (e .name)) 0) (pickLook (isFile e) (look.File (e .length) (e .firstCluster)) (pickLook (isSubdirectory e) (look.Directory (e .length) (e .firstCluster)) look.Bad)) look.Bad) look.Dead)
       kind e true i = live-in b e (isFile e) (isSubdirectory e) (eqb (seen (e .name)) 0) refl
       kind e false i = dead-in b
 
-      go : (o : Option Entry) → onImage off (andThen (judgeEntry v b seen m p o) (λ h. afterEntry v b m h)) ≡ enteredLook v off b t m (lookedAt seen (2 * off + p) o)
+      go : (o : Option Entry) → onImage geometry (andThen (judgeEntry v b seen m p o) (λ h. afterEntry v b m h)) ≡ enteredLook v geometry b t m (lookedAt seen (imagePage geometry p) o)
       go none = refl
       go (some e) = kind e (isLive e) refl

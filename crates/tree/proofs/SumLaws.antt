@@ -21,8 +21,8 @@ module _ (image : List ℕ) (s : Superblock) (c : Counts) where
   told-all x = ok (countsIn (x .0 .clusters) (x .0 .end) (see (x .0) image) (x .1))
 
   opened-adds : (t : Superblock) (r : Result (Root × Marks)) → checkTree (see t image) ≡ r
-      → superblockIn (andThen (onImage (t .offset) r) (λ x. ok (t, x .0, x .1))) ≡ ok s
-      → andThen (andThen (onImage (t .offset) r) (λ x. ok (t, x .0, x .1))) told-all ≡ ok c → Total
+      → superblockIn (andThen (onImage (t .geometry) r) (λ x. ok (t, x .0, x .1))) ≡ ok s
+      → andThen (andThen (onImage (t .geometry) r) (λ x. ok (t, x .0, x .1))) told-all ≡ ok c → Total
   unfolding andThen told-all
   opened-adds t (fault n p) h e f = fault-ok _ _ _ e
   opened-adds t (ok x) h e f =

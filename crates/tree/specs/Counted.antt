@@ -3,6 +3,7 @@ use Prim.Native.Nat.{ℕ, _+_}
 use mathlib.Core.List.{List}
 use mathlib.Core.Path.{_≡_}
 use lib.ListN.{length}
+use Rattle.layout.specs.declared.Geometry.{Geometry}
 use Rattle.layout.specs.declared.Superblock.{Superblock}
 use Rattle.layout.specs.Refusal.{numberOf, pageOf}
 use Rattle.layout.specs.See.{checkImage, onImage, see, viewBy}
@@ -28,9 +29,9 @@ unfoldable pub checkOf : List ℕ → Result Counts
 checkOf image = andThen (checkImage image) (λ x. ok (countsIn (x .0 .clusters) (x .0 .end) (see (x .0) image) (x .1)))
 
 -- the same of a card that is open, by its table
-unfoldable pub countsBy : ℕ → ℕ → List ℕ → List ℕ → Result Counts
-countsBy clusters offset table image =
-    andThen (onImage offset (checkTree (viewBy offset table image))) (λ x. ok (countsIn clusters (length table) (viewBy offset table image) (x .0)))
+unfoldable pub countsBy : ℕ → Geometry → List ℕ → List ℕ → Result Counts
+countsBy clusters geometry table image =
+    andThen (onImage geometry (checkTree (viewBy geometry table image))) (λ x. ok (countsIn clusters (length table) (viewBy geometry table image) (x .0)))
 
 -- the superblock of a card that passes the check
 abbrev pub superblockIn : Result (Superblock × Root × Marks) → Result Superblock

@@ -7,6 +7,7 @@ use mathlib.Core.Path.{_≡_}
 use lib.Dec.{eqb, ltb}
 use Rattle.fields.specs.declared.kinds.Kind.{Kind}
 use Rattle.fields.specs.declared.kinds.Kind.the-variants as kind
+use Rattle.layout.specs.declared.Geometry.{Geometry}
 use Rattle.layout.specs.Refusal.{numberOf, pageOf}
 use Rattle.layout.specs.See.{onImage}
 use Rattle.model.specs.Check.{Marks, Result, andThen, fault, followChain, judgeDots, marks, ok, walkDirectory}
@@ -69,14 +70,14 @@ unfoldable pub insideOf : View → ℕ → List ℕ → ℕ → ℕ → Marks �
 insideOf v below table first length m =
     marksOnly (andThen (judgeDots v (first ∷ [])) (λ x. walkDirectory v below (slotPages table (nextOf table first) 0 (length - 2)) (λ n. 0) m))
 
-abbrev pub enteredLook : View → ℕ → ℕ → List ℕ → Marks → Look → Result Marks
-enteredLook v offset below table m (look.Unreadable page) = fault 2 page
-enteredLook v offset below table m look.Bad = fault 7 0
-enteredLook v offset below table m look.Dead = ok m
-enteredLook v offset below table m (look.File length first) = onChain (followChain v (clustersFor length) (firstLinkOf first) m) (λ cs. ok (marks m cs))
-enteredLook v offset below table m (look.Directory length first) =
+abbrev pub enteredLook : View → Geometry → ℕ → List ℕ → Marks → Look → Result Marks
+enteredLook v geometry below table m (look.Unreadable page) = fault 2 page
+enteredLook v geometry below table m look.Bad = fault 7 0
+enteredLook v geometry below table m look.Dead = ok m
+enteredLook v geometry below table m (look.File length first) = onChain (followChain v (clustersFor length) (firstLinkOf first) m) (λ cs. ok (marks m cs))
+enteredLook v geometry below table m (look.Directory length first) =
     cond (ltb 0 below)
-    (onChain (followChain v ((length + 1) / 2) (firstLinkOf first) m) (λ cs. onImage offset (insideOf v (pred below) table first length (marks m cs))))
+    (onChain (followChain v ((length + 1) / 2) (firstLinkOf first) m) (λ cs. onImage geometry (insideOf v (pred below) table first length (marks m cs))))
     (fault 7 0)
 
 -- ---- what the code's answer says

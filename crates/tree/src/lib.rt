@@ -3,6 +3,7 @@ mod filter;
 pub mod slots;
 mod walk;
 
+use layout::Geometry;
 use layout::Opened;
 use layout::Refusal;
 use layout::open_card;
@@ -36,12 +37,12 @@ pub enum Checked {
 }
 
 // The counts of a card by the first `end` words of its table, each by its own definition.
-fn count_card(image: &[u8], table: &[u32], end: usize, offset: u32, clusters: u32) -> Checked
+fn count_card(image: &[u8], table: &[u32], end: usize, geometry: Geometry, clusters: u32) -> Checked
     requires { ⌜ (end ≤ length (now table)) × (end ≤ mostClusters) ⌝ }
-    ensures { λ r. ⌜ toldCounts r ≡ countsBy clusters offset (take end (now (table .entry))) (now (image .entry)) ⌝ }
+    ensures { λ r. ⌜ toldCounts r ≡ countsBy clusters geometry (take end (now (table .entry))) (now (image .entry)) ⌝ }
 {
     let words = &table[..end];
-    let walked = walk_root(image, words, offset);
+    let walked = walk_root(image, words, geometry);
     let verdict = walked.verdict;
     let r = walked.reached;
     match verdict {
@@ -62,7 +63,7 @@ fn check_in(image: &[u8], table: &mut [u32; MOST_CLUSTERS]) -> Checked
     let opened = open_card(image, table);
     match opened {
         Opened::Refused(refusal) => Checked::Refused(refusal),
-        Opened::Card(s) => count_card(image, table, s.end as usize, s.offset, s.clusters),
+        Opened::Card(s) => count_card(image, table, s.end as usize, s.geometry, s.clusters),
     }
 }
 
@@ -80,11 +81,11 @@ pub fn counts_add_up()
 {}
 
 // The tree of a card by the first `end` words of its table.
-fn judge_tree(image: &[u8], table: &[u32], end: usize, offset: u32) -> Verdict
+fn judge_tree(image: &[u8], table: &[u32], end: usize, geometry: Geometry) -> Verdict
     requires { ⌜ (end ≤ length (now table)) × (end ≤ mostClusters) ⌝ }
-    ensures { λ r. ⌜ Passes (onImage offset (checkTree (viewBy offset (take end (now (table .entry))) (now (image .entry))))) r ⌝ }
+    ensures { λ r. ⌜ Passes (onImage geometry (checkTree (viewBy geometry (take end (now (table .entry))) (now (image .entry))))) r ⌝ }
 {
-    let walked = walk_root(image, &table[..end], offset);
+    let walked = walk_root(image, &table[..end], geometry);
     walked.verdict
 }
 
@@ -97,7 +98,7 @@ pub fn open_checked(image: &[u8], table: &mut [u32; MOST_CLUSTERS]) -> Opened
     match opened {
         Opened::Refused(refusal) => Opened::Refused(refusal),
         Opened::Card(s) => {
-            let verdict = judge_tree(image, table, s.end as usize, s.offset);
+            let verdict = judge_tree(image, table, s.end as usize, s.geometry);
             match verdict {
                 Verdict::Refused(refusal) => Opened::Refused(refusal),
                 Verdict::Sound => Opened::Card(s),

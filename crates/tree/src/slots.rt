@@ -1,6 +1,8 @@
 // The slots of a directory: their pages, and the live names in them.
 use fields::kinds::is_live;
 use fields::names::same_entry_name;
+use layout::Geometry;
+use layout::image_page;
 use page::read_page;
 ghost use mathlib.Core.Path.{_≡_};
 ghost use Prim.Native.Nat.{_+_, _-_, _*_, _<_};
@@ -43,9 +45,15 @@ pub fn slots_of(length: u32) -> u32
     length - 2
 }
 
-// A page of the allocatable clusters, `count` of them from cluster `offset` of the image on.
-pub fn read_slot(image: &[u8], offset: u32, count: usize, page: usize, out: &mut [u8; 512]) -> bool
-    ensures { λ r. ⌜ Read (pageIn offset count (now (image .entry)) page) (now (out .entry)) r (now (out .exit)) ⌝ }
+// A page of the allocatable clusters, of which there are `count`.
+pub fn read_slot(
+    image: &[u8],
+    geometry: Geometry,
+    count: usize,
+    page: usize,
+    out: &mut [u8; 512],
+) -> bool
+    ensures { λ r. ⌜ Read (pageIn geometry count (now (image .entry)) page) (now (out .entry)) r (now (out .exit)) ⌝ }
 {
     if count <= page / 2 {
         return false;
@@ -53,16 +61,16 @@ pub fn read_slot(image: &[u8], offset: u32, count: usize, page: usize, out: &mut
     if image.len() / 528 <= page {
         return false;
     }
-    read_page(image, offset as usize * 2 + page, out)
+    read_page(image, image_page(geometry, page), out)
 }
 
 // Whether a live entry with the name of the entry d stands in the page.
-fn named_at(image: &[u8], table: &[u32], offset: u32, page: usize, d: &[u8; 512]) -> bool
+fn named_at(image: &[u8], table: &[u32], geometry: Geometry, page: usize, d: &[u8; 512]) -> bool
     requires { ⌜ page < 8589934592 ⌝ }
-    ensures { λ r. ⌜ r ≡ ltb 0 (liveHit ((viewBy offset (now (table .entry)) (now (image .entry))) .entry page) ((entryOf (now (d .entry))) .name)) ⌝ }
+    ensures { λ r. ⌜ r ≡ ltb 0 (liveHit ((viewBy geometry (now (table .entry)) (now (image .entry))) .entry page) ((entryOf (now (d .entry))) .name)) ⌝ }
 {
     let mut e = [0u8; 512];
-    if !read_slot(image, offset, table.len(), page, &mut e) {
+    if !read_slot(image, geometry, table.len(), page, &mut e) {
         return false;
     }
     is_live(&e) & same_entry_name(&e, d)
@@ -72,17 +80,17 @@ fn named_at(image: &[u8], table: &[u32], offset: u32, page: usize, d: &[u8; 512]
 pub(crate) fn name_taken(
     image: &[u8],
     table: &[u32],
-    offset: u32,
+    geometry: Geometry,
     start: u32,
     k: u32,
     d: &[u8; 512],
 ) -> bool
-    ensures { λ r. ⌜ r ≡ ltb 0 (liveBefore (viewBy offset (now (table .entry)) (now (image .entry))) (now (table .entry)) start k ((entryOf (now (d .entry))) .name)) ⌝ }
+    ensures { λ r. ⌜ r ≡ ltb 0 (liveBefore (viewBy geometry (now (table .entry)) (now (image .entry))) (now (table .entry)) start k ((entryOf (now (d .entry))) .name)) ⌝ }
 {
     let mut c = start;
     let mut j: u32 = 0;
     while j < k {
-        if named_at(image, table, offset, slot_page(c, j), d) {
+        if named_at(image, table, geometry, slot_page(c, j), d) {
             return true;
         }
         if j % 2 == 1 {

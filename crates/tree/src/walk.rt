@@ -13,14 +13,16 @@ use fields::kinds::kind_of;
 use fields::names::entry_name;
 use fields::names::is_named;
 use fields::numbers::word_at;
+use layout::Geometry;
 use layout::Refusal;
+use layout::image_page;
 use model::DEEPEST;
 use reached::Reached;
 use reached::walk_chain;
 ghost use mathlib.Core.Path.{_≡_};
 ghost use Prim.Native.Nat.{_+_, _-_, _*_, _<_, _≤_};
 ghost use lib.ListN.{length};
-ghost use Rattle.layout.specs.See.{onImage, viewBy};
+ghost use Rattle.layout.specs.See.{imagePage, onImage, viewBy};
 ghost use mathlib.Core.List.{_∷_, []};
 ghost use Rattle.model.specs.Check.{checkTree, judgeDot, judgeDots};
 ghost use Rattle.model.specs.View.{mostClusters};
@@ -74,20 +76,20 @@ fn look_by(kind: Kind) -> Look
 fn look_at(
     image: &[u8],
     table: &[u32],
-    offset: u32,
+    geometry: Geometry,
     start: u32,
     c: u32,
     k: u32,
     bits: &mut [u64; 4096],
 ) -> Look
-    requires { ⌜ (c ≡ clusterAt (now table) start k) × Knows (viewBy offset (now table) (now image)) (now table) start k (now bits) ⌝ }
-    ensures { λ r. ⌜ r ≡ lookedAt (liveBefore (viewBy offset (now (table .entry)) (now (image .entry))) (now (table .entry)) start k) (2 * offset + slotPage c k) ((viewBy offset (now (table .entry)) (now (image .entry))) .entry (slotPage c k)) ⌝ }
-    ensures { λ r. ⌜ Knows (viewBy offset (now (table .entry)) (now (image .entry))) (now (table .entry)) start (k + 1) (now (bits .exit)) ⌝ }
+    requires { ⌜ (c ≡ clusterAt (now table) start k) × Knows (viewBy geometry (now table) (now image)) (now table) start k (now bits) ⌝ }
+    ensures { λ r. ⌜ r ≡ lookedAt (liveBefore (viewBy geometry (now (table .entry)) (now (image .entry))) (now (table .entry)) start k) (imagePage geometry (slotPage c k)) ((viewBy geometry (now (table .entry)) (now (image .entry))) .entry (slotPage c k)) ⌝ }
+    ensures { λ r. ⌜ Knows (viewBy geometry (now (table .entry)) (now (image .entry))) (now (table .entry)) start (k + 1) (now (bits .exit)) ⌝ }
 {
     let page = slot_page(c, k);
     let mut d = [0u8; 512];
-    if !read_slot(image, offset, table.len(), page, &mut d) {
-        return Look::Unreadable(offset as usize * 2 + page);
+    if !read_slot(image, geometry, table.len(), page, &mut d) {
+        return Look::Unreadable(image_page(geometry, page));
     }
     if !is_live(&d) {
         return Look::Dead;
@@ -95,20 +97,20 @@ fn look_at(
     if !meet(bits, entry_name(&d)) {
         return look_by(kind_of(&d));
     }
-    if name_taken(image, table, offset, start, k, &d) {
+    if name_taken(image, table, geometry, start, k, &d) {
         return Look::Bad;
     }
     look_by(kind_of(&d))
 }
 
 // One of a directory's first two entries.
-fn judge_dot(image: &[u8], table: &[u32], offset: u32, page: usize, name: &[u8]) -> Verdict
+fn judge_dot(image: &[u8], table: &[u32], geometry: Geometry, page: usize, name: &[u8]) -> Verdict
     requires { ⌜ page < 8589934592 ⌝ }
-    ensures { λ r. ⌜ Judges (onImage offset (judgeDot (viewBy offset (now (table .entry)) (now (image .entry))) (now (name .entry)) page ((viewBy offset (now (table .entry)) (now (image .entry))) .entry page))) r ⌝ }
+    ensures { λ r. ⌜ Judges (onImage geometry (judgeDot (viewBy geometry (now (table .entry)) (now (image .entry))) (now (name .entry)) page ((viewBy geometry (now (table .entry)) (now (image .entry))) .entry page))) r ⌝ }
 {
     let mut d = [0u8; 512];
-    if !read_slot(image, offset, table.len(), page, &mut d) {
-        return Verdict::Refused(Refusal::UnreadablePage(offset as usize * 2 + page));
+    if !read_slot(image, geometry, table.len(), page, &mut d) {
+        return Verdict::Refused(Refusal::UnreadablePage(image_page(geometry, page)));
     }
     if is_directory(&d) & is_named(&d, name) {
         return Verdict::Sound;
@@ -116,29 +118,29 @@ fn judge_dot(image: &[u8], table: &[u32], offset: u32, page: usize, name: &[u8])
     Verdict::Refused(Refusal::BadEntry)
 }
 
-fn judge_dots(image: &[u8], table: &[u32], offset: u32, first: u32) -> Verdict
-    ensures { λ r. ⌜ Judges (onImage offset (judgeDots (viewBy offset (now (table .entry)) (now (image .entry))) (first ∷ []))) r ⌝ }
+fn judge_dots(image: &[u8], table: &[u32], geometry: Geometry, first: u32) -> Verdict
+    ensures { λ r. ⌜ Judges (onImage geometry (judgeDots (viewBy geometry (now (table .entry)) (now (image .entry))) (first ∷ []))) r ⌝ }
 {
     let page = first as usize * 2;
-    let a = judge_dot(image, table, offset, page, b".");
+    let a = judge_dot(image, table, geometry, page, b".");
     if !is_sound(a) {
         return a;
     }
-    judge_dot(image, table, offset, page + 1, b"..")
+    judge_dot(image, table, geometry, page + 1, b"..")
 }
 
 // What a slot leads to, with `left` slots from it on; directories may lie `below` further down.
 fn walk_entry(
     image: &[u8],
     table: &[u32],
-    offset: u32,
+    geometry: Geometry,
     reached: Reached,
     look: Look,
     left: u32,
     below: u32,
 ) -> Walked
     requires { ⌜ (length (now table) ≤ mostClusters) × Sound reached ⌝ }
-    ensures { λ r. ⌜ Tells (enteredLook (viewBy offset (now (table .entry)) (now (image .entry))) offset below (now (table .entry)) (marksOf reached) look) (r .verdict) (r .reached) ⌝ }
+    ensures { λ r. ⌜ Tells (enteredLook (viewBy geometry (now (table .entry)) (now (image .entry))) geometry below (now (table .entry)) (marksOf reached) look) (r .verdict) (r .reached) ⌝ }
 {
     match look {
         Look::Unreadable(page) => Walked {
@@ -182,7 +184,7 @@ fn walk_entry(
             let a = walk_chain(table, reached, first, length / 2 + length % 2);
             let r = a.reached;
             if a.sound {
-                return walk_dir(image, table, offset, r, first, length, below - 1);
+                return walk_dir(image, table, geometry, r, first, length, below - 1);
             }
             Walked {
                 verdict: Verdict::Refused(Refusal::BadChain),
@@ -196,16 +198,16 @@ fn walk_entry(
 fn walk_dir(
     image: &[u8],
     table: &[u32],
-    offset: u32,
+    geometry: Geometry,
     reached: Reached,
     first: u32,
     entries: u32,
     below: u32,
 ) -> Walked
     requires { ⌜ (length (now table) ≤ mostClusters) × Sound reached ⌝ }
-    ensures { λ r. ⌜ Tells (onImage offset (insideOf (viewBy offset (now (table .entry)) (now (image .entry))) below (now (table .entry)) first entries (marksOf reached))) (r .verdict) (r .reached) ⌝ }
+    ensures { λ r. ⌜ Tells (onImage geometry (insideOf (viewBy geometry (now (table .entry)) (now (image .entry))) below (now (table .entry)) first entries (marksOf reached))) (r .verdict) (r .reached) ⌝ }
 {
-    let dots = judge_dots(image, table, offset, first);
+    let dots = judge_dots(image, table, geometry, first);
     if !is_sound(dots) {
         return Walked {
             verdict: dots,
@@ -219,8 +221,8 @@ fn walk_dir(
     let mut k: u32 = 0;
     let mut left = slots_of(entries);
     while 0 < left {
-        let e = look_at(image, table, offset, start, c, k, &mut bits);
-        let a = walk_entry(image, table, offset, r, e, left, below);
+        let e = look_at(image, table, geometry, start, c, k, &mut bits);
+        let a = walk_entry(image, table, geometry, r, e, left, below);
         let v = a.verdict;
         if !is_sound(v) {
             return a;
@@ -240,14 +242,14 @@ fn walk_dir(
 }
 
 // The whole tree: the root's first entry, its chain, its entries.
-pub(crate) fn walk_root(image: &[u8], table: &[u32], offset: u32) -> Walked
+pub(crate) fn walk_root(image: &[u8], table: &[u32], geometry: Geometry) -> Walked
     requires { ⌜ length (now table) ≤ mostClusters ⌝ }
-    ensures { λ r. ⌜ Tells (onImage offset (rootMarks (checkTree (viewBy offset (now (table .entry)) (now (image .entry)))))) (r .verdict) (r .reached) ⌝ }
+    ensures { λ r. ⌜ Tells (onImage geometry (rootMarks (checkTree (viewBy geometry (now (table .entry)) (now (image .entry)))))) (r .verdict) (r .reached) ⌝ }
 {
     let mut d = [0u8; 512];
-    if !read_slot(image, offset, table.len(), 0, &mut d) {
+    if !read_slot(image, geometry, table.len(), 0, &mut d) {
         return Walked {
-            verdict: Verdict::Refused(Refusal::UnreadablePage(offset as usize * 2)),
+            verdict: Verdict::Refused(Refusal::UnreadablePage(image_page(geometry, 0))),
             reached: Reached::new(),
         };
     }
@@ -266,5 +268,5 @@ pub(crate) fn walk_root(image: &[u8], table: &[u32], offset: u32) -> Walked
             reached: r,
         };
     }
-    walk_dir(image, table, offset, r, 0, n, DEEPEST)
+    walk_dir(image, table, geometry, r, 0, n, DEEPEST)
 }

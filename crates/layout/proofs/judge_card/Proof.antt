@@ -6,7 +6,7 @@ use lib.ListN.{length}
 use Rattle.page.specs.Page.{pageAt}
 use Rattle.page.proofs.Puts.{read-some, read-none}
 use Rattle.layout.specs.Table.{unless, withPage, openCard}
-use Rattle.layout.proofs.Geometry.{end-most}
+use Rattle.layout.proofs.OpenFacts.{end-most}
 use borrow.Author.Needs.{needs}
 use Rattle.layout.proofs.judge_card.Statement.{statement}
 use Rattle.layout.proofs.judge_card.Tie as tie

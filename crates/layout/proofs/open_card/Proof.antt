@@ -5,7 +5,7 @@ use denote.Ref.{now}
 use Rattle.model.specs.Check.{Result}
 use Rattle.layout.specs.declared.Superblock.{Superblock}
 use Rattle.layout.specs.Table.{toldOpened, tableAfter}
-use Rattle.layout.proofs.Geometry.{open-facts}
+use Rattle.layout.proofs.OpenFacts.{open-facts}
 use borrow.Author.Needs.{needs}
 use Rattle.layout.proofs.open_card.Statement.{statement}
 use Rattle.layout.proofs.open_card.Tie as tie

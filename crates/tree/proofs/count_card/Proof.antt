@@ -30,11 +30,11 @@ count-orphans-requires c κs = search needs
 
 returns : tie.Need-returns
 returns c =
-    counted-bad (c .before .before .before .before .before .before .before .before .args .clusters) (c .before .before .before .before .before .before .before .before .args .offset) (take (c .before .before .before .before .before .before .before .before .args .end) (c .before .before .before .before .before .before .before .before .args .table .now)) (c .before .before .before .before .before .before .before .before .args .image .now) (c .before .before .before .before .walk-root .result .reached) (c .before .verdict .given .0 .0) (rw (c .before .verdict .given .1) at (c .before .before .before .before .walk-root .ensures))
+    counted-bad (c .before .before .before .before .before .before .before .before .args .clusters) (c .before .before .before .before .before .before .before .before .args .geometry) (take (c .before .before .before .before .before .before .before .before .args .end) (c .before .before .before .before .before .before .before .before .args .table .now)) (c .before .before .before .before .before .before .before .before .args .image .now) (c .before .before .before .before .walk-root .result .reached) (c .before .verdict .given .0 .0) (rw (c .before .verdict .given .1) at (c .before .before .before .before .walk-root .ensures))
 
 returns-2 : tie.Need-returns-2
 returns-2 c =
-    counted-good (c .before .before .before .before .before .before .before .before .before .args .clusters) (c .before .before .before .before .before .before .before .before .before .args .offset) (take (c .before .before .before .before .before .before .before .before .before .args .end) (c .before .before .before .before .before .before .before .before .before .args .table .now)) (c .before .before .before .before .before .before .before .before .before .args .image .now) (c .before .before .before .before .before .walk-root .result .reached) (c .before .count-free .result) (c .count-orphans .result) (rw (c .before .before .enum-told .given .1) at (c .before .before .before .before .before .walk-root .ensures)) (c .before .count-free .ensures) (c .count-orphans .ensures)
+    counted-good (c .before .before .before .before .before .before .before .before .before .args .clusters) (c .before .before .before .before .before .before .before .before .before .args .geometry) (take (c .before .before .before .before .before .before .before .before .before .args .end) (c .before .before .before .before .before .before .before .before .before .args .table .now)) (c .before .before .before .before .before .before .before .before .before .args .image .now) (c .before .before .before .before .before .walk-root .result .reached) (c .before .count-free .result) (c .count-orphans .result) (rw (c .before .before .enum-told .given .1) at (c .before .before .before .before .before .walk-root .ensures)) (c .before .count-free .ensures) (c .count-orphans .ensures)
 
 pub count-card-spec : {M : Type 1} → statement M
 count-card-spec =

@@ -19,7 +19,7 @@ walk-root-requires c κs =
 
 returns : tie.Need-returns
 returns c =
-    tells-passes (c .before .before .before .before .args .offset) (checkTree (viewBy (c .before .before .before .before .args .offset) (take (c .before .before .before .before .args .end) (c .before .before .before .before .args .table .now)) (c .before .before .before .before .args .image .now))) (c .walk-root .result .verdict) (c .walk-root .result .reached) (c .walk-root .ensures)
+    tells-passes (c .before .before .before .before .args .geometry) (checkTree (viewBy (c .before .before .before .before .args .geometry) (take (c .before .before .before .before .args .end) (c .before .before .before .before .args .table .now)) (c .before .before .before .before .args .image .now))) (c .walk-root .result .verdict) (c .walk-root .result .reached) (c .walk-root .ensures)
 
 pub judge-tree-spec : {M : Type 1} → statement M
 judge-tree-spec = tie.close (tie.spec slice-aggregate-walk-root walk-root-requires returns)

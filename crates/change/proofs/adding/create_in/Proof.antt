@@ -46,7 +46,7 @@ add-requires : tie.Need-add-requires
 add-requires c κs =
     let start = c .before .before .before .before .before .before .before .before .before .before .before .before .before .before .before .before .before .before .before .before .before in
     let a = start .args in
-    let v = viewBy (a .s .offset) (a .table .now) (a .image .now) in
+    let v = viewBy (a .s .geometry) (a .table .now) (a .image .now) in
     let directory = sym (c .before .before .before .before .before .before .before .before .before .before .before .before .before .before .before .is-directory .ensures) ∙ not-false _ (c .before .before .before .before .before .before .before .before .before .before .before .before .before .before .if1 .left) in
     let missing = scan-so (a .table .now) (a .first) (a .page .now) (c .before .before .before .before .before .before .before .before .before .before .before .before .next-of .ensures) (c .before .before .before .before .before .before .before .before .before .before .slots-of .ensures) (c .before .before .before .before .before .before .before .before .before .before .before .word-at .ensures) (bearing v (a .name .now)) (c .before .before .before .before .before .before .before .find-name .ensures .0) ∙ c .before .before .before .before .before .enum-told2 .given .1 in
     let dead = scan-so (a .table .now) (a .first) (a .page .now) (c .before .before .before .before .before .before .before .before .before .before .before .before .next-of .ensures) (c .before .before .before .before .before .before .before .before .before .before .slots-of .ensures) (c .before .before .before .before .before .before .before .before .before .before .before .word-at .ensures) (dying v) (c .before .before .first-dead .ensures .0) in (
@@ -64,7 +64,7 @@ same-length-2 c = search needs
 returns-2 : tie.Need-returns-2
 returns-2 c =
     let a = c .before .before .before .before .before .before .before .before .before .before .before .before .before .before .before .before .args in
-    let v = viewBy (a .s .offset) (a .table .now) (a .image .now) in
+    let v = viewBy (a .s .geometry) (a .table .now) (a .image .now) in
     let directory = sym (c .before .before .before .before .before .before .before .before .before .before .is-directory .ensures) ∙ not-false _ (c .before .before .before .before .before .before .before .before .before .if1 .left) in
     let there = scan-so (a .table .now) (a .first) (a .page .now) (c .before .before .before .before .before .before .before .next-of .ensures) (c .before .before .before .before .before .slots-of .ensures) (c .before .before .before .before .before .before .word-at .ensures) (bearing v (a .name .now)) (c .before .before .find-name .ensures .0) ∙ c .enum-told .given .1 in
     created-there (a .s) (a .image .now) (a .table .now) (a .at) (a .first) (a .page .now) (a .name .now) (a .time .now) directory _ _ there (a .bytes .now)
@@ -78,7 +78,7 @@ same-length-4 c = search needs
 returns-3 : tie.Need-returns-3
 returns-3 c =
     let a = c .before .before .before .before .before .before .before .before .before .before .before .before .before .before .before .before .before .before .before .before .before .before .before .before .before .before .args in
-    let v = viewBy (a .s .offset) (a .table .now) (a .image .now) in
+    let v = viewBy (a .s .geometry) (a .table .now) (a .image .now) in
     let directory = sym (c .before .before .before .before .before .before .before .before .before .before .before .before .before .before .before .before .before .before .before .before .is-directory .ensures) ∙ not-false _ (c .before .before .before .before .before .before .before .before .before .before .before .before .before .before .before .before .before .before .before .if1 .left) in
     let missing = scan-so (a .table .now) (a .first) (a .page .now) (c .before .before .before .before .before .before .before .before .before .before .before .before .before .before .before .before .before .next-of .ensures) (c .before .before .before .before .before .before .before .before .before .before .before .before .before .before .before .slots-of .ensures) (c .before .before .before .before .before .before .before .before .before .before .before .before .before .before .before .before .word-at .ensures) (bearing v (a .name .now)) (c .before .before .before .before .before .before .before .before .before .before .before .before .find-name .ensures .0) ∙ c .before .before .before .before .before .before .before .before .before .before .enum-told2 .given .1 in
     let dead = scan-so (a .table .now) (a .first) (a .page .now) (c .before .before .before .before .before .before .before .before .before .before .before .before .before .before .before .before .before .next-of .ensures) (c .before .before .before .before .before .before .before .before .before .before .before .before .before .before .before .slots-of .ensures) (c .before .before .before .before .before .before .before .before .before .before .before .before .before .before .before .before .word-at .ensures) (dying v) (c .before .before .before .before .before .before .before .first-dead .ensures .0) in

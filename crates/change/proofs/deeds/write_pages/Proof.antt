@@ -22,7 +22,7 @@ same-length c = search needs
 returns : tie.Need-returns
 returns c =
     let a = c .before .before .before .before .before .before .before .before .before .before .before .before .before .before .before .before .before .before .before .before .args in
-    all-written (a .offset) (a .image .now) (a .growth .now) (a .taken .now) (a .bytes .now) (a .at) (a .directory .now) (a .new) (a .slot) (a .entry .now)
+    all-written (a .geometry) (a .image .now) (a .growth .now) (a .taken .now) (a .bytes .now) (a .at) (a .directory .now) (a .new) (a .slot) (a .entry .now)
     (c .before .before .before .before .before .before .before .before .before .before .before .before .before .before .write-zeros .ensures) (c .before .before .before .before .before .before .before .before .before .before .write-data .ensures) (c .before .before .before .before .before .before .write-entry .ensures) (c .before .before .write-entry2 .ensures)
 
 pub write-pages-spec : {M : Type 1} → statement M

@@ -68,7 +68,7 @@ remove-entry-requires : tie.Need-remove-entry-requires
 remove-entry-requires c κs =
     let start = c .before .before .before .before .before .before .before .before .before .before .before .before .before .before .before .before .before .before .before .before .before .before .before .before .before .before .before in
     let a = start .args in
-    let live = scan-so (a .table .now) (word (c .before .before .before .before .before .before .before .before .before .before .before .before .before .before .before .before .before .before .before .before .before .enter .result .page) 0x10) (c .before .before .before .before .before .before .before .before .before .before .before .before .before .before .before .before .before .before .before .before .before .enter .result .page) (c .before .before .before .before .before .before .before .before .next-of .ensures ∙ ap (nextOf (a .table .now)) (c .before .before .before .before .before .before .before .before .before .word-at2 .ensures)) (c .before .before .before .before .before .before .before .slots-of .ensures) (c .before .before .before .before .before .before .before .before .before .before .before .before .before .word-at .ensures) (livingFrom (viewBy (a .s .offset) (a .table .now) (a .image .now)) 0) (c .before .before .before .before .before .before .first-live .ensures .0) in
+    let live = scan-so (a .table .now) (word (c .before .before .before .before .before .before .before .before .before .before .before .before .before .before .before .before .before .before .before .before .before .enter .result .page) 0x10) (c .before .before .before .before .before .before .before .before .before .before .before .before .before .before .before .before .before .before .before .before .before .enter .result .page) (c .before .before .before .before .before .before .before .before .next-of .ensures ∙ ap (nextOf (a .table .now)) (c .before .before .before .before .before .before .before .before .before .word-at2 .ensures)) (c .before .before .before .before .before .before .before .slots-of .ensures) (c .before .before .before .before .before .before .before .before .before .before .before .before .before .word-at .ensures) (livingFrom (viewBy (a .s .geometry) (a .table .now) (a .image .now)) 0) (c .before .before .before .before .before .before .first-live .ensures .0) in
     (start .pre .0, start .pre .1, known-there (a .s) (a .image .now) (a .table .now) (a .first) (a .page .now) (a .name .now) (c .before .before .before .before .before .before .before .before .before .before .before .before .before .before .before .before .before .before .before .before .before .enter .ensures) (CanRemove (a .s) (a .image .now) (a .table .now) (a .at) (a .page .now)) (start .pre .2) _ (c .before .before .before .before .before .before .before .before .before .before .before .before .before .before .before .before .before .before .before .enum-told3 .given .1) (sym (c .before .before .before .before .before .before .before .before .before .before .before .before .before .before .before .before .is-directory .ensures) ∙ not-false _ (c .before .before .before .before .before .before .before .before .before .before .before .before .before .before .before .if1 .left)) (live ∙ c .before .before .before .before .enum-told5 .given .1))
 
 same-length-3 : tie.Need-same-length-3
@@ -108,7 +108,7 @@ unfolding removedIn
 returns-4 c =
     let start = c .before .before .before .before .before .before .before .before .before .before .before .before .before .before .before .before .before .before .before .before .before .before .before in
     let a = start .args in
-    let live = scan-so (a .table .now) (word (c .before .before .before .before .before .before .before .before .before .before .before .before .before .before .before .before .before .enter .result .page) 0x10) (c .before .before .before .before .before .before .before .before .before .before .before .before .before .before .before .before .before .enter .result .page) (c .before .before .before .before .next-of .ensures ∙ ap (nextOf (a .table .now)) (c .before .before .before .before .before .word-at2 .ensures)) (c .before .before .before .slots-of .ensures) (c .before .before .before .before .before .before .before .before .before .word-at .ensures) (livingFrom (viewBy (a .s .offset) (a .table .now) (a .image .now)) 0) (c .before .before .first-live .ensures .0) in
+    let live = scan-so (a .table .now) (word (c .before .before .before .before .before .before .before .before .before .before .before .before .before .before .before .before .before .enter .result .page) 0x10) (c .before .before .before .before .before .before .before .before .before .before .before .before .before .before .before .before .before .enter .result .page) (c .before .before .before .before .next-of .ensures ∙ ap (nextOf (a .table .now)) (c .before .before .before .before .before .word-at2 .ensures)) (c .before .before .before .slots-of .ensures) (c .before .before .before .before .before .before .before .before .before .word-at .ensures) (livingFrom (viewBy (a .s .geometry) (a .table .now) (a .image .now)) 0) (c .before .before .first-live .ensures .0) in
     says-as (on-there (a .s) (a .image .now) (a .table .now) (a .first) (a .page .now) (a .name .now) (c .before .before .before .before .before .before .before .before .before .before .before .before .before .before .before .before .before .enter .ensures) (removed (a .s) (a .image .now) (a .table .now) (a .at) (a .page .now)) _ (c .before .before .before .before .before .before .before .before .before .before .before .before .before .before .before .enum-told3 .given .1)) (removed-live (a .s) (a .image .now) (a .table .now) (a .at) (a .page .now) (c .before .before .before .before .before .before .before .before .before .before .before .before .before .before .before .before .before .enter .result .at) (c .before .before .before .before .before .before .before .before .before .before .before .before .before .before .before .before .before .enter .result .page) (c .before .before .before .before .before .before .before .before .before .word-at .ensures) (sym (c .before .before .before .before .before .before .before .before .before .before .before .before .is-directory .ensures) ∙ not-false _ (c .before .before .before .before .before .before .before .before .before .before .before .if1 .left)) _ _ (live ∙ c .enum-told4 .given .1))
 
 same-length-9 : tie.Need-same-length-9
@@ -122,7 +122,7 @@ unfolding removedIn
 returns-5 c =
     let start = c .before .before .before .before .before .before .before .before .before .before .before .before .before .before .before .before .before .before .before .before .before .before .before .before .before .before .before .before .before .before .before .before in
     let a = start .args in
-    let live = scan-so (a .table .now) (word (c .before .before .before .before .before .before .before .before .before .before .before .before .before .before .before .before .before .before .before .before .before .before .before .before .before .before .enter .result .page) 0x10) (c .before .before .before .before .before .before .before .before .before .before .before .before .before .before .before .before .before .before .before .before .before .before .before .before .before .before .enter .result .page) (c .before .before .before .before .before .before .before .before .before .before .before .before .before .next-of .ensures ∙ ap (nextOf (a .table .now)) (c .before .before .before .before .before .before .before .before .before .before .before .before .before .before .word-at2 .ensures)) (c .before .before .before .before .before .before .before .before .before .before .before .before .slots-of .ensures) (c .before .before .before .before .before .before .before .before .before .before .before .before .before .before .before .before .before .before .word-at .ensures) (livingFrom (viewBy (a .s .offset) (a .table .now) (a .image .now)) 0) (c .before .before .before .before .before .before .before .before .before .before .before .first-live .ensures .0) in
+    let live = scan-so (a .table .now) (word (c .before .before .before .before .before .before .before .before .before .before .before .before .before .before .before .before .before .before .before .before .before .before .before .before .before .before .enter .result .page) 0x10) (c .before .before .before .before .before .before .before .before .before .before .before .before .before .before .before .before .before .before .before .before .before .before .before .before .before .before .enter .result .page) (c .before .before .before .before .before .before .before .before .before .before .before .before .before .next-of .ensures ∙ ap (nextOf (a .table .now)) (c .before .before .before .before .before .before .before .before .before .before .before .before .before .before .word-at2 .ensures)) (c .before .before .before .before .before .before .before .before .before .before .before .before .slots-of .ensures) (c .before .before .before .before .before .before .before .before .before .before .before .before .before .before .before .before .before .before .word-at .ensures) (livingFrom (viewBy (a .s .geometry) (a .table .now) (a .image .now)) 0) (c .before .before .before .before .before .before .before .before .before .before .before .first-live .ensures .0) in
     says-as (on-there (a .s) (a .image .now) (a .table .now) (a .first) (a .page .now) (a .name .now) (c .before .before .before .before .before .before .before .before .before .before .before .before .before .before .before .before .before .before .before .before .before .before .before .before .before .before .enter .ensures) (removed (a .s) (a .image .now) (a .table .now) (a .at) (a .page .now)) _ (c .before .before .before .before .before .before .before .before .before .before .before .before .before .before .before .before .before .before .before .before .before .before .before .before .enum-told3 .given .1)) (removed-done (a .s) (a .image .now) (a .table .now) (a .at) (a .page .now) (c .before .before .before .before .before .before .before .before .before .before .before .before .before .before .before .before .before .before .before .before .before .before .before .before .before .before .enter .result .at) (c .before .before .before .before .before .before .before .before .before .before .before .before .before .before .before .before .before .before .before .before .before .before .before .before .before .before .enter .result .page) (c .before .before .before .before .before .before .before .before .before .before .before .before .before .before .before .before .before .before .word-at .ensures) (sym (c .before .before .before .before .before .before .before .before .before .before .before .before .before .before .before .before .before .before .before .before .before .is-directory .ensures) ∙ not-false _ (c .before .before .before .before .before .before .before .before .before .before .before .before .before .before .before .before .before .before .before .before .if1 .left)) (live ∙ c .before .before .before .before .before .before .before .before .before .enum-told5 .given .1) (c .before .before .before .before .before .directory-clusters .ensures) (c .before .before .before .before .remove-entry .ensures))
 
 pub remove-in-spec : {M : Type 1} → statement M

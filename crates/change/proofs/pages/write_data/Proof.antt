@@ -1,19 +1,20 @@
 -- The loop's invariant: what is left to write, written from here on, gives the whole.
-use Prim.Native.Nat.{_*_, _-_, _/_, _≤_}
+use Prim.Native.Nat.{_%_, _*_, _+_, _-_, _/_, _≤_}
 use mathlib.Core.Path.{_∙_, _≡_, refl, sym}
 use native.Mathlib.Omega.{arith}
 use borrow.Author.Needs.{needs}
-use lib.ListN.{length}
+use lib.ListN.{getD, length}
+use Rattle.layout.specs.See.{imagePage}
 use Rattle.change.proofs.PageSteps.{all-left, leftFrom, none-left, one-less}
 use Rattle.change.proofs.pages.write_data.Statement.{statement}
 use Rattle.change.proofs.pages.write_data.Tie as tie
 
 abbrev Inv-loop : tie.InvT-loop
-Inv-loop image₀ offset clusters bytes count k₀ image k =
-    (k ≤ 2 * length clusters) × (length image ≡ length image₀) × (leftFrom offset clusters bytes k image ≡ leftFrom offset clusters bytes 0 image₀)
+Inv-loop image₀ geometry clusters bytes count k₀ image k =
+    (k ≤ 2 * length clusters) × (length image ≡ length image₀) × (leftFrom geometry clusters bytes k image ≡ leftFrom geometry clusters bytes 0 image₀)
 
 abbrev μ-loop : tie.MeasureT-loop
-μ-loop image₀ offset clusters bytes count k₀ image k = 2 * length clusters - k
+μ-loop image₀ geometry clusters bytes count k₀ image k = 2 * length clusters - k
 
 mul-count : tie.Need-mul-count Inv-loop μ-loop
 mul-count c = search needs
@@ -33,20 +34,14 @@ cast-cluster c = omega (arith, c .shared-slice-known3 .given (c .before .before 
 data-page-requires : tie.Need-data-page-requires Inv-loop μ-loop
 data-page-requires c κs = search needs
 
-mul-write-page : tie.Need-mul-write-page Inv-loop μ-loop
-mul-write-page c = search needs
+mul-image-page : tie.Need-mul-image-page Inv-loop μ-loop
+mul-image-page c = omega (arith, c .before .before .shared-slice-known3 .given (c .before .before .before .before .loop .k / 2))
 
-mul-write-page-2 : tie.Need-mul-write-page-2 Inv-loop μ-loop
-mul-write-page-2 c =
-    omega (arith, c .before .before .shared-slice-known3 .given (c .before .before .before .before .loop .k / 2))
+add-image-page : tie.Need-add-image-page Inv-loop μ-loop
+add-image-page c = omega (arith, c .before .before .shared-slice-known3 .given (c .before .before .before .before .loop .k / 2))
 
-add-write-page : tie.Need-add-write-page Inv-loop μ-loop
-add-write-page c =
-    omega (arith, c .before .before .shared-slice-known3 .given (c .before .before .before .before .loop .k / 2))
-
-add-write-page-2 : tie.Need-add-write-page-2 Inv-loop μ-loop
-add-write-page-2 c =
-    omega (arith, c .before .before .shared-slice-known3 .given (c .before .before .before .before .loop .k / 2))
+image-page-requires : tie.Need-image-page-requires Inv-loop μ-loop
+image-page-requires c κs = search needs
 
 write-page-requires : tie.Need-write-page-requires Inv-loop μ-loop
 write-page-requires c κs = search needs
@@ -59,9 +54,14 @@ loop-less c = search needs
 
 loop-again : tie.Need-loop-again Inv-loop μ-loop
 loop-again c =
-    let a = c .before .before .before .before .before .before .before .before .before .before .before .before .args in
-    let l = c .before .before .before .before .before .before .before .before .loop in
-    (omega arith, search needs, one-less (a .offset) (a .clusters .now) (a .bytes .now) (l .k) (l .image) (c .before .before .before .before .before .before .before .before .before .before .before .before .pre) (omega arith) (c .before .before .before .before .before .data-page .ensures) (c .before .before .write-page .ensures) ∙ l .inv .2)
+    let written = c .before .before in
+    let place = written .before .before in
+    let page = place .before .before in
+    let l = page .before .before .before .loop in
+    let start = page .before .before .before .before .before .before .before in
+    let a = start .args in
+    let there : place .image-page .result ≡ imagePage (a .geometry) (2 * getD (a .clusters .now) (l .k / 2) 0 + l .k % 2) = omega (arith, place .image-page .ensures, page .before .shared-slice-known3 .given (l .k / 2)) in
+    (omega arith, search needs, one-less (a .geometry) (a .clusters .now) (a .bytes .now) (l .k) (l .image) (start .pre) (omega arith) (page .data-page .ensures) there (written .write-page .ensures) ∙ l .inv .2)
 
 same-length : tie.Need-same-length Inv-loop μ-loop
 same-length c = search needs
@@ -70,7 +70,7 @@ returns : tie.Need-returns Inv-loop μ-loop
 returns c =
     let a = c .before .before .before .before .before .args in
     let l = c .before .loop in
-    sym (none-left (a .offset) (a .clusters .now) (a .bytes .now) (l .k) (l .image) (omega arith)) ∙ l .inv .2 ∙ all-left (a .offset) (a .clusters .now) (a .bytes .now) (a .image .now)
+    sym (none-left (a .geometry) (a .clusters .now) (a .bytes .now) (l .k) (l .image) (omega arith)) ∙ l .inv .2 ∙ all-left (a .geometry) (a .clusters .now) (a .bytes .now) (a .image .now)
 
 pub write-data-spec : {M : Type 1} → statement M
 write-data-spec =
@@ -84,10 +84,9 @@ write-data-spec =
     shared-slice-read-cluster
     cast-cluster
     data-page-requires
-    mul-write-page
-    mul-write-page-2
-    add-write-page
-    add-write-page-2
+    mul-image-page
+    add-image-page
+    image-page-requires
     write-page-requires
     add-k
     loop-less

@@ -10,7 +10,7 @@ use Rattle.page.specs.Page.{pageAt, isSome}
 use Rattle.layout.specs.declared.Superblock.{Superblock}
 use Rattle.layout.specs.Table.{upTo, tableClusters, tableNames, dataOf, tablePage, tableWord, tableOf}
 use Rattle.layout.proofs.Stages.{read-data}
-use Rattle.layout.proofs.Geometry.{Geometry, open-facts}
+use Rattle.layout.proofs.OpenFacts.{Geometry, open-facts}
 use borrow.Author.Needs.{needs}
 use Rattle.layout.proofs.table.load_table.Statement.{statement}
 use Rattle.layout.proofs.table.load_table.Tie as tie

@@ -40,17 +40,17 @@ abbrev calls : ℕ → list-slots-lts.Claims
 calls t = (slot-page-reads.Asked, slot-page-reads.Learnt, list-entry-reads.Asked, list-entry-reads.Learnt, list-slots-below t, list-slots.Post, next-of-reads.Asked, next-of-reads.Learnt)
 
 abbrev list-slots-Inv-loop : list-slots-lts.InvT-loop
-list-slots-Inv-loop image table offset out₀ at path start count below next₀ c₀ k₀ out next c k =
+list-slots-Inv-loop image table geometry out₀ at path start count below next₀ c₀ k₀ out next c k =
     (k ≤ count) × (c < 2 ^ 32) × (next ≤ most) × (length out ≡ length out₀)
-    × Remains out₀ at (slotsText (viewBy offset table image) table below (pathBytes path) (slotPages table start 0 count)) out next (left (viewBy offset table image) table below (pathBytes path) c k count)
+    × Remains out₀ at (slotsText (viewBy geometry table image) table below (pathBytes path) (slotPages table start 0 count)) out next (left (viewBy geometry table image) table below (pathBytes path) c k count)
 
 abbrev list-slots-μ-loop : list-slots-lts.MeasureT-loop
-list-slots-μ-loop image table offset out₀ at path start count below next₀ c₀ k₀ out next c k = count - k
+list-slots-μ-loop image table geometry out₀ at path start count below next₀ c₀ k₀ out next c k = count - k
 
 list-slots-loop-holds : (t : ℕ) → list-slots-lts.Need-loop-holds (calls t) (list-slots-at t) list-slots.Post list-slots-Inv-loop list-slots-μ-loop
 list-slots-loop-holds t c =
     let a = c .before .before .before .args in
-    let v = viewBy (a .offset) (a .table .now) (a .image .now) in
+    let v = viewBy (a .geometry) (a .table .now) (a .image .now) in
     (omega arith, omega arith, omega arith, refl, λ after end w. wrote-as (left-all v (a .table .now) (a .below) (pathBytes (a .path)) (a .start) (a .count)) w)
 
 list-slots-slot-page-requires : (t : ℕ) → list-slots-lts.Need-slot-page-requires (calls t) (list-slots-at t) list-slots.Post list-slots-Inv-loop list-slots-μ-loop
@@ -80,7 +80,7 @@ list-slots-loop-again : (t : ℕ) → list-slots-lts.Need-loop-again (calls t) (
 list-slots-loop-again t c =
     let a = c .before .before .before .before .before .before .before .before .before .before .before .before .args in
     let t = a .table .now in
-    let v = viewBy (a .offset) t (a .image .now) in
+    let v = viewBy (a .geometry) t (a .image .now) in
     let w = c .before .before .before .before .before .before .before .before .loop in
     let line = c .before .before .before .before .list-entry .ensures .0 in
     let fits : length (w .out) ≤ most = omega arith in
@@ -103,7 +103,7 @@ list-slots-returns : (t : ℕ) → list-slots-lts.Need-returns (calls t) (list-s
 list-slots-returns t c =
     let a = c .before .before .before .before .before .args in
     let w = c .before .loop in
-    w .inv .4 (w .out) (w .next) (wrote-as (sym (left-none (viewBy (a .offset) (a .table .now) (a .image .now)) (a .table .now) (a .below) (pathBytes (a .path)) (w .c) (w .k) (a .count) (omega (arith, c .loop-test .left)))) (wrote-none _ _ (w .inv .2)))
+    w .inv .4 (w .out) (w .next) (wrote-as (sym (left-none (viewBy (a .geometry) (a .table .now) (a .image .now)) (a .table .now) (a .below) (pathBytes (a .path)) (w .c) (w .k) (a .count) (omega (arith, c .loop-test .left)))) (wrote-none _ _ (w .inv .2)))
 
 pub +list-slots-spec : {M : Type 1} → statement M
 +list-slots-spec = close μ-list-slots λ t. list-slots-lts.spec (calls t)

@@ -20,7 +20,7 @@ read-slot-requires c κs = search needs
 returns : tie.Need-returns
 returns c =
     let a = c .before .before .before .before .before .before .args in
-    let o = viewBy (a .offset) (a .table .now) (a .image .now) .entry (a .page) in
+    let o = viewBy (a .geometry) (a .table .now) (a .image .now) .entry (a .page) in
     let quiet : false ≡ lives o = none-lives (unread (c .before .read-slot .ensures) (not-true _ (c .if1 .taken))) in
     (wrote-as (no-line (pathBytes (a .path)) o quiet) (wrote-none _ _ (omega arith)), leads-nowhere (a .table .now) o (a .at) 0 (a .path) quiet)
 
@@ -30,7 +30,7 @@ is-live-requires c κs = search needs
 returns-2 : tie.Need-returns-2
 returns-2 c =
     let a = c .before .before .before .before .before .before .before .before .before .args in
-    let o = viewBy (a .offset) (a .table .now) (a .image .now) .entry (a .page) in
+    let o = viewBy (a .geometry) (a .table .now) (a .image .now) .entry (a .page) in
     let quiet : false ≡ lives o = sym (not-true _ (c .if2 .taken)) ∙ shown-live _ (c .before .before .before .before .read-slot .ensures) (not-false _ (c .before .before .before .if1 .left)) (c .before .is-live .ensures) in
     (wrote-as (no-line (pathBytes (a .path)) o quiet) (wrote-none _ _ (omega arith)), leads-nowhere (a .table .now) o (a .at) 0 (a .path) quiet)
 
@@ -58,7 +58,7 @@ returns-3 : tie.Need-returns-3
 returns-3 c =
     let a = c .before .before .before .before .before .before .before .before .before .before .before .before .before .before .before .before .before .before .before .before .before .args in
     let seen =
-    seen-by (pathBytes (a .path)) (a .path .len) (viewBy (a .offset) (a .table .now) (a .image .now) .entry (a .page)) (c .before .before .before .before .before .before .before .before .before .before .before .before .before .before .before .before .read-slot .last .1 .1 .1 .1 .0) _ _ _ (was-read (c .before .before .before .before .before .before .before .before .before .before .before .before .before .before .before .before .read-slot .ensures) (not-false _ (c .before .before .before .before .before .before .before .before .before .before .before .before .before .before .before .if1 .left))) (sym (not-false _ (c .before .before .before .before .before .before .before .before .before .before .before .before .if2 .left)) ∙ c .before .before .before .before .before .before .before .before .before .before .before .before .before .is-live .ensures) (c .before .before .before .before .before .before .before .before .before .before .word-at .ensures) (c .before .before .before .before .before .before .before .before .entry-name .ensures) (c .before .before .before .before .before .before .before .with-name .ensures) in
+    seen-by (pathBytes (a .path)) (a .path .len) (viewBy (a .geometry) (a .table .now) (a .image .now) .entry (a .page)) (c .before .before .before .before .before .before .before .before .before .before .before .before .before .before .before .before .read-slot .last .1 .1 .1 .1 .0) _ _ _ (was-read (c .before .before .before .before .before .before .before .before .before .before .before .before .before .before .before .before .read-slot .ensures) (not-false _ (c .before .before .before .before .before .before .before .before .before .before .before .before .before .before .before .if1 .left))) (sym (not-false _ (c .before .before .before .before .before .before .before .before .before .before .before .before .if2 .left)) ∙ c .before .before .before .before .before .before .before .before .before .before .before .before .before .is-live .ensures) (c .before .before .before .before .before .before .before .before .before .before .word-at .ensures) (c .before .before .before .before .before .before .before .before .entry-name .ensures) (c .before .before .before .before .before .before .before .with-name .ensures) in
     let kind = sym (not-true _ (c .before .before .before .before .if3 .taken)) ∙ c .before .before .before .before .before .is-directory .ensures in
     (wrote-as (file-line seen kind) (c .before .before .put-entry .ensures), file-leads seen (a .table .now) (c .before .before .put-entry .result) 0 kind)
 
@@ -82,7 +82,7 @@ returns-4 : tie.Need-returns-4
 returns-4 c =
     let a = c .before .before .before .before .before .before .before .before .before .before .before .before .before .before .before .before .before .before .before .before .before .before .before .before .before .args in
     let seen =
-    seen-by (pathBytes (a .path)) (a .path .len) (viewBy (a .offset) (a .table .now) (a .image .now) .entry (a .page)) (c .before .before .before .before .before .before .before .before .before .before .before .before .before .before .before .before .before .before .before .before .read-slot .last .1 .1 .1 .1 .0) _ _ _ (was-read (c .before .before .before .before .before .before .before .before .before .before .before .before .before .before .before .before .before .before .before .before .read-slot .ensures) (not-false _ (c .before .before .before .before .before .before .before .before .before .before .before .before .before .before .before .before .before .before .before .if1 .left))) (sym (not-false _ (c .before .before .before .before .before .before .before .before .before .before .before .before .before .before .before .before .if2 .left)) ∙ c .before .before .before .before .before .before .before .before .before .before .before .before .before .before .before .before .before .is-live .ensures) (c .before .before .before .before .before .before .before .before .before .before .before .before .before .before .word-at .ensures) (c .before .before .before .before .before .before .before .before .before .before .before .before .entry-name .ensures) (c .before .before .before .before .before .before .before .before .before .before .before .with-name .ensures) in
+    seen-by (pathBytes (a .path)) (a .path .len) (viewBy (a .geometry) (a .table .now) (a .image .now) .entry (a .page)) (c .before .before .before .before .before .before .before .before .before .before .before .before .before .before .before .before .before .before .before .before .read-slot .last .1 .1 .1 .1 .0) _ _ _ (was-read (c .before .before .before .before .before .before .before .before .before .before .before .before .before .before .before .before .before .before .before .before .read-slot .ensures) (not-false _ (c .before .before .before .before .before .before .before .before .before .before .before .before .before .before .before .before .before .before .before .if1 .left))) (sym (not-false _ (c .before .before .before .before .before .before .before .before .before .before .before .before .before .before .before .before .if2 .left)) ∙ c .before .before .before .before .before .before .before .before .before .before .before .before .before .before .before .before .before .is-live .ensures) (c .before .before .before .before .before .before .before .before .before .before .before .before .before .before .word-at .ensures) (c .before .before .before .before .before .before .before .before .before .before .before .before .entry-name .ensures) (c .before .before .before .before .before .before .before .before .before .before .before .with-name .ensures) in
     let kind = sym (not-false _ (c .before .before .before .before .before .before .before .before .if3 .left)) ∙ c .before .before .before .before .before .before .before .before .before .is-directory .ensures in
     (wrote-as (directory-line seen kind) (c .before .before .before .before .before .before .put-entry2 .ensures), directory-leads seen (a .table .now) (c .before .before .before .before .before .before .put-entry2 .result) _ _ _ kind (c .before .before .word-at2 .ensures) (c .before .next-of .ensures) (c .slots-of .ensures))
 

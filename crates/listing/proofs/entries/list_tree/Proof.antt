@@ -41,7 +41,7 @@ returns-2 : tie.Need-returns-2
 returns-2 c =
     let a = c .before .before .before .before .before .before .before .before .before .before .before .before .before .before .before .args in
     λ root card.
-    wrote-as (root-read (viewBy (a .offset) (a .table .now) (a .image .now)) (a .table .now) (λ n. refl) root card (entryOf (c .before .before .before .before .before .before .before .before .before .before .read-slot .last .1 .1 .1 .1 .0)) _ _ _ _ (was-read (c .before .before .before .before .before .before .before .before .before .before .read-slot .ensures) (not-false _ (c .before .before .before .before .before .before .before .before .before .if1 .left))) (c .before .before .before .before .before .before .before .root-path .ensures .0) (c .before .before .before .before .before .before .next-of .ensures) (c .before .before .before .slots-of .ensures) (c .before .before .before .before .word-at .ensures)) (c .before .before .list-slots .ensures)
+    wrote-as (root-read (viewBy (a .geometry) (a .table .now) (a .image .now)) (a .table .now) (λ n. refl) root card (entryOf (c .before .before .before .before .before .before .before .before .before .before .read-slot .last .1 .1 .1 .1 .0)) _ _ _ _ (was-read (c .before .before .before .before .before .before .before .before .before .before .read-slot .ensures) (not-false _ (c .before .before .before .before .before .before .before .before .before .if1 .left))) (c .before .before .before .before .before .before .before .root-path .ensures .0) (c .before .before .before .before .before .before .next-of .ensures) (c .before .before .before .slots-of .ensures) (c .before .before .before .before .word-at .ensures)) (c .before .before .list-slots .ensures)
 
 pub list-tree-spec : {M : Type 1} → statement M
 list-tree-spec =

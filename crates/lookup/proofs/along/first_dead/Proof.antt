@@ -13,11 +13,11 @@ use Rattle.lookup.proofs.along.first_dead.Tie as tie
 use Rattle.tree.proofs.LookLaws.{step-even, step-odd}
 
 abbrev Inv-loop : tie.InvT-loop
-Inv-loop image table offset start count c₀ k₀ c k =
-    (k ≤ count) × (c < 2 ^ 32) × (rest (dying (viewBy offset table image)) table c k count ≡ scan (dying (viewBy offset table image)) (slotPages table start 0 count) 0)
+Inv-loop image table geometry start count c₀ k₀ c k =
+    (k ≤ count) × (c < 2 ^ 32) × (rest (dying (viewBy geometry table image)) table c k count ≡ scan (dying (viewBy geometry table image)) (slotPages table start 0 count) 0)
 
 abbrev μ-loop : tie.MeasureT-loop
-μ-loop image table offset start count c₀ k₀ c k = count - k
+μ-loop image table geometry start count c₀ k₀ c k = count - k
 
 loop-holds : tie.Need-loop-holds Inv-loop μ-loop
 loop-holds c = (omega arith, omega arith, scan-all _ _ _ _)

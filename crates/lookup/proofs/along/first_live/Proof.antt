@@ -13,11 +13,11 @@ use Rattle.lookup.proofs.along.first_live.Tie as tie
 use Rattle.tree.proofs.LookLaws.{step-even, step-odd}
 
 abbrev Inv-loop : tie.InvT-loop
-Inv-loop image table offset start count from c₀ k₀ c k =
-    (k ≤ count) × (c < 2 ^ 32) × (rest (livingFrom (viewBy offset table image) from) table c k count ≡ scan (livingFrom (viewBy offset table image) from) (slotPages table start 0 count) 0)
+Inv-loop image table geometry start count from c₀ k₀ c k =
+    (k ≤ count) × (c < 2 ^ 32) × (rest (livingFrom (viewBy geometry table image) from) table c k count ≡ scan (livingFrom (viewBy geometry table image) from) (slotPages table start 0 count) 0)
 
 abbrev μ-loop : tie.MeasureT-loop
-μ-loop image table offset start count from c₀ k₀ c k = count - k
+μ-loop image table geometry start count from c₀ k₀ c k = count - k
 
 loop-holds : tie.Need-loop-holds Inv-loop μ-loop
 loop-holds c = (omega arith, omega arith, scan-all _ _ _ _)

@@ -13,11 +13,11 @@ use Rattle.lookup.proofs.along.first_unreadable.Tie as tie
 use Rattle.tree.proofs.LookLaws.{step-even, step-odd}
 
 abbrev Inv-loop : tie.InvT-loop
-Inv-loop image table offset start low high c₀ k₀ c k =
-    (c < 2 ^ 32) × (rest (unread (viewBy offset table image)) table c k high ≡ scan (unread (viewBy offset table image)) (slotPages table start low (high - low)) low)
+Inv-loop image table geometry start low high c₀ k₀ c k =
+    (c < 2 ^ 32) × (rest (unread (viewBy geometry table image)) table c k high ≡ scan (unread (viewBy geometry table image)) (slotPages table start low (high - low)) low)
 
 abbrev μ-loop : tie.MeasureT-loop
-μ-loop image table offset start low high c₀ k₀ c k = high - k
+μ-loop image table geometry start low high c₀ k₀ c k = high - k
 
 loop-holds : tie.Need-loop-holds Inv-loop μ-loop
 loop-holds c = (omega arith, refl)

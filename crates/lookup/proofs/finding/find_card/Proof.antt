@@ -49,15 +49,15 @@ returns c =
 
 returns-2 : tie.Need-returns-2
 returns-2 c =
-    λ root card. find-refused _ Absent _ (call-absent foundEntry root (c .before .before .before .before .before .before .before .before .before .before .before .args .path .now) (viewBy (c .before .before .before .before .before .before .before .before .before .before .before .args .offset) (c .before .before .before .before .before .before .before .before .before .before .before .args .table .now) (c .before .before .before .before .before .before .before .before .before .before .before .args .image .now)) card _ _ (c .before .before .before .before .before .before .before .parse-path .ensures) (c .before .before .before .before .before .parsed .given .1) _ _ (leads (c .before .before .before .before .before .before .before .before .before .before .before .args .offset) (c .before .before .before .before .before .before .before .before .before .before .before .args .table .now) (c .before .before .before .before .before .before .before .before .before .before .before .args .image .now) (c .before .before .before .before .before .before .before .before .before .before .before .args .path .now) _ _ (c .before .before .before .descend .ensures)) (c .before .enum-told2 .given .1)) (c .no-entry2 .ensures)
+    λ root card. find-refused _ Absent _ (call-absent foundEntry root (c .before .before .before .before .before .before .before .before .before .before .before .args .path .now) (viewBy (c .before .before .before .before .before .before .before .before .before .before .before .args .geometry) (c .before .before .before .before .before .before .before .before .before .before .before .args .table .now) (c .before .before .before .before .before .before .before .before .before .before .before .args .image .now)) card _ _ (c .before .before .before .before .before .before .before .parse-path .ensures) (c .before .before .before .before .before .parsed .given .1) _ _ (leads (c .before .before .before .before .before .before .before .before .before .before .before .args .geometry) (c .before .before .before .before .before .before .before .before .before .before .before .args .table .now) (c .before .before .before .before .before .before .before .before .before .before .before .args .image .now) (c .before .before .before .before .before .before .before .before .before .before .before .args .path .now) _ _ (c .before .before .before .descend .ensures)) (c .before .enum-told2 .given .1)) (c .no-entry2 .ensures)
 
 returns-3 : tie.Need-returns-3
 returns-3 c =
-    λ root card. find-refused _ WrongKind _ (call-kind foundEntry root (c .before .before .before .before .before .before .before .before .before .before .before .args .path .now) (viewBy (c .before .before .before .before .before .before .before .before .before .before .before .args .offset) (c .before .before .before .before .before .before .before .before .before .before .before .args .table .now) (c .before .before .before .before .before .before .before .before .before .before .before .args .image .now)) card _ _ (c .before .before .before .before .before .before .before .parse-path .ensures) (c .before .before .before .before .before .parsed .given .1) _ _ (leads (c .before .before .before .before .before .before .before .before .before .before .before .args .offset) (c .before .before .before .before .before .before .before .before .before .before .before .args .table .now) (c .before .before .before .before .before .before .before .before .before .before .before .args .image .now) (c .before .before .before .before .before .before .before .before .before .before .before .args .path .now) _ _ (c .before .before .before .descend .ensures)) (c .before .enum-told3 .given .1)) (c .no-entry3 .ensures)
+    λ root card. find-refused _ WrongKind _ (call-kind foundEntry root (c .before .before .before .before .before .before .before .before .before .before .before .args .path .now) (viewBy (c .before .before .before .before .before .before .before .before .before .before .before .args .geometry) (c .before .before .before .before .before .before .before .before .before .before .before .args .table .now) (c .before .before .before .before .before .before .before .before .before .before .before .args .image .now)) card _ _ (c .before .before .before .before .before .before .before .parse-path .ensures) (c .before .before .before .before .before .parsed .given .1) _ _ (leads (c .before .before .before .before .before .before .before .before .before .before .before .args .geometry) (c .before .before .before .before .before .before .before .before .before .before .before .args .table .now) (c .before .before .before .before .before .before .before .before .before .before .before .args .image .now) (c .before .before .before .before .before .before .before .before .before .before .before .args .path .now) _ _ (c .before .before .before .descend .ensures)) (c .before .enum-told3 .given .1)) (c .no-entry3 .ensures)
 
 returns-4 : tie.Need-returns-4
 returns-4 c =
-    λ root card. find-at _ (viewBy (c .before .before .before .before .before .before .before .before .before .before .before .before .before .args .offset) (c .before .before .before .before .before .before .before .before .before .before .before .before .before .args .table .now) (c .before .before .before .before .before .before .before .before .before .before .before .before .before .args .image .now)) (c .before .before .before .enum-told4 .given .0 .0) (entryOf (c .before .before .before .before .before .descend .result .page)) _ (call-at foundEntry root (c .before .before .before .before .before .before .before .before .before .before .before .before .before .args .path .now) (viewBy (c .before .before .before .before .before .before .before .before .before .before .before .before .before .args .offset) (c .before .before .before .before .before .before .before .before .before .before .before .before .before .args .table .now) (c .before .before .before .before .before .before .before .before .before .before .before .before .before .args .image .now)) card _ _ (c .before .before .before .before .before .before .before .before .before .parse-path .ensures) (c .before .before .before .before .before .before .before .parsed .given .1) _ _ _ (leads (c .before .before .before .before .before .before .before .before .before .before .before .before .before .args .offset) (c .before .before .before .before .before .before .before .before .before .before .before .before .before .args .table .now) (c .before .before .before .before .before .before .before .before .before .before .before .before .before .args .image .now) (c .before .before .before .before .before .before .before .before .before .before .before .before .before .args .path .now) _ _ (c .before .before .before .before .before .descend .ensures)) (c .before .before .before .enum-told4 .given .1)) (c .entry-of .ensures)
+    λ root card. find-at _ (viewBy (c .before .before .before .before .before .before .before .before .before .before .before .before .before .args .geometry) (c .before .before .before .before .before .before .before .before .before .before .before .before .before .args .table .now) (c .before .before .before .before .before .before .before .before .before .before .before .before .before .args .image .now)) (c .before .before .before .enum-told4 .given .0 .0) (entryOf (c .before .before .before .before .before .descend .result .page)) _ (call-at foundEntry root (c .before .before .before .before .before .before .before .before .before .before .before .before .before .args .path .now) (viewBy (c .before .before .before .before .before .before .before .before .before .before .before .before .before .args .geometry) (c .before .before .before .before .before .before .before .before .before .before .before .before .before .args .table .now) (c .before .before .before .before .before .before .before .before .before .before .before .before .before .args .image .now)) card _ _ (c .before .before .before .before .before .before .before .before .before .parse-path .ensures) (c .before .before .before .before .before .before .before .parsed .given .1) _ _ _ (leads (c .before .before .before .before .before .before .before .before .before .before .before .before .before .args .geometry) (c .before .before .before .before .before .before .before .before .before .before .before .before .before .args .table .now) (c .before .before .before .before .before .before .before .before .before .before .before .before .before .args .image .now) (c .before .before .before .before .before .before .before .before .before .before .before .before .before .args .path .now) _ _ (c .before .before .before .before .before .descend .ensures)) (c .before .before .before .enum-told4 .given .1)) (c .entry-of .ensures)
 
 pub find-card-spec : {M : Type 1} → statement M
 find-card-spec =

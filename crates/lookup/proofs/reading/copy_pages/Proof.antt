@@ -18,14 +18,14 @@ use Rattle.lookup.proofs.reading.copy_pages.Tie as tie
 use Rattle.tree.proofs.LookLaws.{step-even, step-odd}
 
 abbrev Inv-loop : tie.InvT-loop
-Inv-loop image table offset start low skip count out₀ c₀ k₀ from₀ done₀ out c k from done =
+Inv-loop image table geometry start low skip count out₀ c₀ k₀ from₀ done₀ out c k from done =
     (length out ≡ length out₀) × (done ≤ count) × (from < 512) × (c < 2 ^ 32) × (k + pagesFor from (count - done) < 4294967296)
-    × (scan (unread (viewBy offset table image)) (slotPages table c k (pagesFor from (count - done))) k ≡ Nowhere)
-    × (sets out done (slice (dataAlong (viewBy offset table image) (slotPages table c k (pagesFor from (count - done)))) from (count - done))
-    ≡ sets out₀ 0 (slice (dataAlong (viewBy offset table image) (slotPages table start low (pagesFor skip count))) skip count))
+    × (scan (unread (viewBy geometry table image)) (slotPages table c k (pagesFor from (count - done))) k ≡ Nowhere)
+    × (sets out done (slice (dataAlong (viewBy geometry table image) (slotPages table c k (pagesFor from (count - done)))) from (count - done))
+    ≡ sets out₀ 0 (slice (dataAlong (viewBy geometry table image) (slotPages table start low (pagesFor skip count))) skip count))
 
 abbrev μ-loop : tie.MeasureT-loop
-μ-loop image table offset start low skip count out₀ c₀ k₀ from₀ done₀ out c k from done = count - done
+μ-loop image table geometry start low skip count out₀ c₀ k₀ from₀ done₀ out c k from done = count - done
 
 loop-holds : tie.Need-loop-holds Inv-loop μ-loop
 loop-holds c =
@@ -72,14 +72,14 @@ loop-again c =
     let count = (c .before .before .before .before .before .before .before .before .before .before .before .before .before .before .before .args .count) in
     let x : c .if1 .c ≡ clusterAfter t (w .c) (w .k) =
     ⊎-elim (λ v. step-odd t (w .c) (w .k) _ (v .0 .taken) (v .2 ∙ v .1 .ensures)) (λ v. step-even t (w .c) (w .k) _ (v .0 .left) (v .1)) (c .if1 .came) in
-    let s = copy-step (viewBy (c .before .before .before .before .before .before .before .before .before .before .before .before .before .before .before .args .offset) (c .before .before .before .before .before .before .before .before .before .before .before .before .before .before .before .args .table .now) (c .before .before .before .before .before .before .before .before .before .before .before .before .before .before .before .args .image .now)) (view-sized _ _ _) t (w .c) (w .k) (w .from) (count - w .done) n (c .if1 .c) _ (count - (w .done + n)) (w .inv .2) (omega (arith, c .before .before .before .before .before .before .before .before .before .before .loop-test .taken)) (c .before .before .before .before .before .before .piece-of .ensures) x (c .before .before .before .before .before .before .before .before .before .slot-page .ensures .0) (omega arith) (w .inv .5) (c .before .before .before .before .before .before .before .read-slot .ensures) in (
+    let s = copy-step (viewBy (c .before .before .before .before .before .before .before .before .before .before .before .before .before .before .before .args .geometry) (c .before .before .before .before .before .before .before .before .before .before .before .before .before .before .before .args .table .now) (c .before .before .before .before .before .before .before .before .before .before .before .before .before .before .before .args .image .now)) (view-sized _ _ _) t (w .c) (w .k) (w .from) (count - w .done) n (c .if1 .c) _ (count - (w .done + n)) (w .inv .2) (omega (arith, c .before .before .before .before .before .before .before .before .before .before .loop-test .taken)) (c .before .before .before .before .before .before .piece-of .ensures) x (c .before .before .before .before .before .before .before .before .before .slot-page .ensures .0) (omega arith) (w .inv .5) (c .before .before .before .before .before .before .before .read-slot .ensures) in (
       search needs,
       omega (arith, c .before .before .before .before .before .before .piece-of .ensures .wanted, w .inv .1),
       omega arith,
       ⊎-elim (λ v. omega (arith, v .2, v .1 .ensures, c .before .before .before .before .before .before .before .before .before .before .before .before .before .shared-slice-known2 .given (w .c))) (λ v. omega (arith, v .1)) (c .if1 .came),
       omega (arith, s .fewer, w .inv .4),
       s .later,
-      copy-more (viewBy (c .before .before .before .before .before .before .before .before .before .before .before .before .before .before .before .args .offset) (c .before .before .before .before .before .before .before .before .before .before .before .before .before .before .before .args .table .now) (c .before .before .before .before .before .before .before .before .before .before .before .before .before .before .before .args .image .now)) (view-sized _ _ _) t (w .c) (w .k) (w .from) (count - w .done) n (c .if1 .c) (count - (w .done + n)) s (c .before .before .before .before .before .before .piece-of .ensures .within) _ _ (w .done) _ (c .before .before .before .put-page-part .ensures) refl ∙ w .inv .6,
+      copy-more (viewBy (c .before .before .before .before .before .before .before .before .before .before .before .before .before .before .before .args .geometry) (c .before .before .before .before .before .before .before .before .before .before .before .before .before .before .before .args .table .now) (c .before .before .before .before .before .before .before .before .before .before .before .before .before .before .before .args .image .now)) (view-sized _ _ _) t (w .c) (w .k) (w .from) (count - w .done) n (c .if1 .c) (count - (w .done + n)) s (c .before .before .before .before .before .before .piece-of .ensures .within) _ _ (w .done) _ (c .before .before .before .put-page-part .ensures) refl ∙ w .inv .6,
     )
 
 same-length : tie.Need-same-length Inv-loop μ-loop
@@ -87,7 +87,7 @@ same-length c = search needs
 
 returns : tie.Need-returns Inv-loop μ-loop
 returns c =
-    copy-end (dataAlong (viewBy (c .before .before .before .before .before .args .offset) (c .before .before .before .before .before .args .table .now) (c .before .before .before .before .before .args .image .now)) (slotPages (c .before .before .before .before .before .args .table .now) (c .before .loop .c) (c .before .loop .k) (pagesFor (c .before .loop .from) ((c .before .before .before .before .before .args .count) - c .before .loop .done)))) (c .before .loop .out) (c .before .loop .done) (c .before .loop .from) ((c .before .before .before .before .before .args .count) - c .before .loop .done) (omega arith) ∙ c .before .loop .inv .6
+    copy-end (dataAlong (viewBy (c .before .before .before .before .before .args .geometry) (c .before .before .before .before .before .args .table .now) (c .before .before .before .before .before .args .image .now)) (slotPages (c .before .before .before .before .before .args .table .now) (c .before .loop .c) (c .before .loop .k) (pagesFor (c .before .loop .from) ((c .before .before .before .before .before .args .count) - c .before .loop .done)))) (c .before .loop .out) (c .before .loop .done) (c .before .loop .from) ((c .before .before .before .before .before .args .count) - c .before .loop .done) (omega arith) ∙ c .before .loop .inv .6
 
 pub copy-pages-spec : {M : Type 1} → statement M
 copy-pages-spec =

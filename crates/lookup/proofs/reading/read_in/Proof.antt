@@ -19,7 +19,7 @@ is-directory-requires c κs = search needs
 
 returns : tie.Need-returns
 returns c =
-    λ h s x. read-refused (c .before .before .before .before .before .args .offset) _ 10 0 WrongKind _ _ (read-directory (viewBy (c .before .before .before .before .before .args .offset) (c .before .before .before .before .before .args .table .now) (c .before .before .before .before .before .args .image .now)) (c .before .before .before .before .before .args .table .now) (λ a. refl) (c .before .before .before .before .before .args .first) (c .before .before .before .before .before .args .from) (length (c .before .before .before .before .before .args .out .now)) (entryOf (c .before .before .before .before .before .args .page .now)) h s x (sym (c .before .is-directory .ensures) ∙ c .if1 .taken)) refl refl
+    λ h s x. read-refused (c .before .before .before .before .before .args .geometry) _ 10 0 WrongKind _ _ (read-directory (viewBy (c .before .before .before .before .before .args .geometry) (c .before .before .before .before .before .args .table .now) (c .before .before .before .before .before .args .image .now)) (c .before .before .before .before .before .args .table .now) (λ a. refl) (c .before .before .before .before .before .args .first) (c .before .before .before .before .before .args .from) (length (c .before .before .before .before .before .args .out .now)) (entryOf (c .before .before .before .before .before .args .page .now)) h s x (sym (c .before .is-directory .ensures) ∙ c .if1 .taken)) refl refl
 
 word-at-requires : tie.Need-word-at-requires
 word-at-requires c κs = search needs
@@ -29,14 +29,14 @@ cast-size c = search needs
 
 returns-2 : tie.Need-returns-2
 returns-2 c =
-    λ h s x. read-refused (c .before .before .before .before .before .before .before .args .offset) _ 15 0 BadOffset _ _ (read-beyond (viewBy (c .before .before .before .before .before .before .before .args .offset) (c .before .before .before .before .before .before .before .args .table .now) (c .before .before .before .before .before .before .before .args .image .now)) (c .before .before .before .before .before .before .before .args .table .now) (λ a. refl) (c .before .before .before .before .before .before .before .args .first) (c .before .before .before .before .before .before .before .args .from) (length (c .before .before .before .before .before .before .before .args .out .now)) (entryOf (c .before .before .before .before .before .before .before .args .page .now)) h s x (sym (c .before .before .before .is-directory .ensures) ∙ c .before .before .if1 .left) (omega (arith, c .before .word-at .ensures, c .if2 .taken))) refl refl
+    λ h s x. read-refused (c .before .before .before .before .before .before .before .args .geometry) _ 15 0 BadOffset _ _ (read-beyond (viewBy (c .before .before .before .before .before .before .before .args .geometry) (c .before .before .before .before .before .before .before .args .table .now) (c .before .before .before .before .before .before .before .args .image .now)) (c .before .before .before .before .before .before .before .args .table .now) (λ a. refl) (c .before .before .before .before .before .before .before .args .first) (c .before .before .before .before .before .before .before .args .from) (length (c .before .before .before .before .before .before .before .args .out .now)) (entryOf (c .before .before .before .before .before .before .before .args .page .now)) h s x (sym (c .before .before .before .is-directory .ensures) ∙ c .before .before .if1 .left) (omega (arith, c .before .word-at .ensures, c .if2 .taken))) refl refl
 
 least-requires : tie.Need-least-requires
 least-requires c κs = search needs
 
 returns-3 : tie.Need-returns-3
 returns-3 c =
-    λ h s x. tells-none (viewBy (c .before .before .before .before .before .before .before .before .before .args .offset) (c .before .before .before .before .before .before .before .before .before .args .table .now) (c .before .before .before .before .before .before .before .before .before .args .image .now)) (c .before .before .before .before .before .before .before .before .before .args .table .now) (λ a. refl) (view-sized _ _ _) (c .before .before .before .before .before .before .before .before .before .args .offset) (c .before .before .before .before .before .before .before .before .before .args .first) (c .before .before .before .before .before .before .before .before .before .args .from) (length (c .before .before .before .before .before .before .before .before .before .args .out .now)) (c .before .before .before .word-at .result) (c .before .least .result) (entryOf (c .before .before .before .before .before .before .before .before .before .args .page .now)) (c .before .before .before .word-at .ensures) (c .before .least .ensures) h s x (sym (c .before .before .before .before .before .is-directory .ensures) ∙ c .before .before .before .before .if1 .left) (omega (arith, c .before .before .if2 .left)) (c .if3 .taken) _
+    λ h s x. tells-none (viewBy (c .before .before .before .before .before .before .before .before .before .args .geometry) (c .before .before .before .before .before .before .before .before .before .args .table .now) (c .before .before .before .before .before .before .before .before .before .args .image .now)) (c .before .before .before .before .before .before .before .before .before .args .table .now) (λ a. refl) (view-sized _ _ _) (c .before .before .before .before .before .before .before .before .before .args .geometry) (c .before .before .before .before .before .before .before .before .before .args .first) (c .before .before .before .before .before .before .before .before .before .args .from) (length (c .before .before .before .before .before .before .before .before .before .args .out .now)) (c .before .before .before .word-at .result) (c .before .least .result) (entryOf (c .before .before .before .before .before .before .before .before .before .args .page .now)) (c .before .before .before .word-at .ensures) (c .before .least .ensures) h s x (sym (c .before .before .before .before .before .is-directory .ensures) ∙ c .before .before .before .before .if1 .left) (omega (arith, c .before .before .if2 .left)) (c .if3 .taken) _
 
 cast-low : tie.Need-cast-low
 cast-low c = search needs
@@ -62,30 +62,26 @@ first-unreadable-requires c κs = search needs
 enum-known-bad : tie.Need-enum-known-bad
 enum-known-bad c = search needs
 
-mul-t25 : tie.Need-mul-t25
-mul-t25 c = search needs
-
-add-t26 : tie.Need-add-t26
-add-t26 c =
-    omega (arith, (within _ _ _ _ (c .before .before .before .first-unreadable .ensures .1) (c .before .bad .given .1)) .0)
+image-page-requires : tie.Need-image-page-requires
+image-page-requires c κs = search needs
 
 enum-told : tie.Need-enum-told
 enum-told c = search needs
 
 copy-pages-requires : tie.Need-copy-pages-requires
 copy-pages-requires c κs =
-    (omega arith, (least-within (c .before .before .before .before .before .before .least .result) (length (c .before .before .before .before .before .before .before .before .before .before .before .before .before .before .args .out .now)) (c .before .before .before .before .before .before .before .before .word-at .result - c .before .before .before .before .before .before .before .before .before .before .before .before .before .before .args .from) (c .before .before .before .before .before .before .least .ensures)) .0, omega (arith, (least-within (c .before .before .before .before .before .before .least .result) (length (c .before .before .before .before .before .before .before .before .before .before .before .before .before .before .args .out .now)) (c .before .before .before .before .before .before .before .before .word-at .result - c .before .before .before .before .before .before .before .before .before .before .before .before .before .before .args .from) (c .before .before .before .before .before .before .least .ensures)) .1, c .before .before .before .before .before .before .before .if2 .left), copy-ready (viewBy (c .before .before .before .before .before .before .before .before .before .before .before .before .before .before .args .offset) (c .before .before .before .before .before .before .before .before .before .before .before .before .before .before .args .table .now) (c .before .before .before .before .before .before .before .before .before .before .before .before .before .before .args .image .now)) (c .before .before .before .before .before .before .before .before .before .before .before .before .before .before .args .table .now) (λ a. refl) (view-sized _ _ _) (c .before .before .before .before .before .before .before .before .before .before .before .before .before .before .args .offset) (c .before .before .before .before .before .before .before .before .before .before .before .before .before .before .args .first) (c .before .before .before .before .before .before .before .before .before .before .before .before .before .before .args .from) (length (c .before .before .before .before .before .before .before .before .before .before .before .before .before .before .args .out .now)) (c .before .before .before .before .before .before .before .before .word-at .result) (c .before .before .before .before .before .before .least .result) (entryOf (c .before .before .before .before .before .before .before .before .before .before .before .before .before .before .args .page .now)) (c .before .before .before .before .before .before .before .before .word-at .ensures) (c .before .before .before .before .before .before .least .ensures) _ (c .before .before .before .before .cluster-at .ensures) _ (c .before .before .before .first-unreadable .ensures .0) (c .before .enum-told .given .1))
+    (omega arith, (least-within (c .before .before .before .before .before .before .least .result) (length (c .before .before .before .before .before .before .before .before .before .before .before .before .before .before .args .out .now)) (c .before .before .before .before .before .before .before .before .word-at .result - c .before .before .before .before .before .before .before .before .before .before .before .before .before .before .args .from) (c .before .before .before .before .before .before .least .ensures)) .0, omega (arith, (least-within (c .before .before .before .before .before .before .least .result) (length (c .before .before .before .before .before .before .before .before .before .before .before .before .before .before .args .out .now)) (c .before .before .before .before .before .before .before .before .word-at .result - c .before .before .before .before .before .before .before .before .before .before .before .before .before .before .args .from) (c .before .before .before .before .before .before .least .ensures)) .1, c .before .before .before .before .before .before .before .if2 .left), copy-ready (viewBy (c .before .before .before .before .before .before .before .before .before .before .before .before .before .before .args .geometry) (c .before .before .before .before .before .before .before .before .before .before .before .before .before .before .args .table .now) (c .before .before .before .before .before .before .before .before .before .before .before .before .before .before .args .image .now)) (c .before .before .before .before .before .before .before .before .before .before .before .before .before .before .args .table .now) (λ a. refl) (view-sized _ _ _) (c .before .before .before .before .before .before .before .before .before .before .before .before .before .before .args .geometry) (c .before .before .before .before .before .before .before .before .before .before .before .before .before .before .args .first) (c .before .before .before .before .before .before .before .before .before .before .before .before .before .before .args .from) (length (c .before .before .before .before .before .before .before .before .before .before .before .before .before .before .args .out .now)) (c .before .before .before .before .before .before .before .before .word-at .result) (c .before .before .before .before .before .before .least .result) (entryOf (c .before .before .before .before .before .before .before .before .before .before .before .before .before .before .args .page .now)) (c .before .before .before .before .before .before .before .before .word-at .ensures) (c .before .before .before .before .before .before .least .ensures) _ (c .before .before .before .before .cluster-at .ensures) _ (c .before .before .before .first-unreadable .ensures .0) (c .before .enum-told .given .1))
 
 returns-4 : tie.Need-returns-4
 returns-4 c =
-    λ h s x. tells-unreadable (viewBy (c .before .before .before .before .before .before .before .before .before .before .before .before .before .before .args .offset) (c .before .before .before .before .before .before .before .before .before .before .before .before .before .before .args .table .now) (c .before .before .before .before .before .before .before .before .before .before .before .before .before .before .args .image .now)) (c .before .before .before .before .before .before .before .before .before .before .before .before .before .before .args .table .now) (λ a. refl) (view-sized _ _ _) (c .before .before .before .before .before .before .before .before .before .before .before .before .before .before .args .offset) (c .before .before .before .before .before .before .before .before .before .before .before .before .before .before .args .first) (c .before .before .before .before .before .before .before .before .before .before .before .before .before .before .args .from) (length (c .before .before .before .before .before .before .before .before .before .before .before .before .before .before .args .out .now)) (c .before .before .before .before .before .before .before .before .word-at .result) (c .before .before .before .before .before .before .least .result) (entryOf (c .before .before .before .before .before .before .before .before .before .before .before .before .before .before .args .page .now)) (c .before .before .before .before .before .before .before .before .word-at .ensures) (c .before .before .before .before .before .before .least .ensures) _ (c .before .before .before .before .cluster-at .ensures) _ (c .before .before .before .first-unreadable .ensures .0) h s x (sym (c .before .before .before .before .before .before .before .before .before .before .is-directory .ensures) ∙ c .before .before .before .before .before .before .before .before .before .if1 .left) (omega (arith, c .before .before .before .before .before .before .before .if2 .left)) (c .before .before .before .before .before .if3 .left) _ _ _ (c .before .bad .given .1) (omega arith) _
+    λ h s x. tells-unreadable (viewBy (c .before .before .before .before .before .before .before .before .before .before .before .before .before .before .before .args .geometry) (c .before .before .before .before .before .before .before .before .before .before .before .before .before .before .before .args .table .now) (c .before .before .before .before .before .before .before .before .before .before .before .before .before .before .before .args .image .now)) (c .before .before .before .before .before .before .before .before .before .before .before .before .before .before .before .args .table .now) (λ a. refl) (view-sized _ _ _) (c .before .before .before .before .before .before .before .before .before .before .before .before .before .before .before .args .geometry) (c .before .before .before .before .before .before .before .before .before .before .before .before .before .before .before .args .first) (c .before .before .before .before .before .before .before .before .before .before .before .before .before .before .before .args .from) (length (c .before .before .before .before .before .before .before .before .before .before .before .before .before .before .before .args .out .now)) (c .before .before .before .before .before .before .before .before .before .word-at .result) (c .before .before .before .before .before .before .before .least .result) (entryOf (c .before .before .before .before .before .before .before .before .before .before .before .before .before .before .before .args .page .now)) (c .before .before .before .before .before .before .before .before .before .word-at .ensures) (c .before .before .before .before .before .before .before .least .ensures) _ (c .before .before .before .before .before .cluster-at .ensures) _ (c .before .before .before .before .first-unreadable .ensures .0) h s x (sym (c .before .before .before .before .before .before .before .before .before .before .before .is-directory .ensures) ∙ c .before .before .before .before .before .before .before .before .before .before .if1 .left) (omega (arith, c .before .before .before .before .before .before .before .before .if2 .left)) (c .before .before .before .before .before .before .if3 .left) _ _ _ (c .before .before .bad .given .1) (omega (arith, c .image-page .ensures, (within _ _ _ _ (c .before .before .before .before .first-unreadable .ensures .1) (c .before .before .bad .given .1)) .0)) _
 
 same-length : tie.Need-same-length
 same-length c = search needs
 
 returns-5 : tie.Need-returns-5
 returns-5 c =
-    λ h s x. tells-bytes (viewBy (c .before .before .before .before .before .before .before .before .before .before .before .before .before .before .before .before .before .args .offset) (c .before .before .before .before .before .before .before .before .before .before .before .before .before .before .before .before .before .args .table .now) (c .before .before .before .before .before .before .before .before .before .before .before .before .before .before .before .before .before .args .image .now)) (c .before .before .before .before .before .before .before .before .before .before .before .before .before .before .before .before .before .args .table .now) (λ a. refl) (view-sized _ _ _) (c .before .before .before .before .before .before .before .before .before .before .before .before .before .before .before .before .before .args .offset) (c .before .before .before .before .before .before .before .before .before .before .before .before .before .before .before .before .before .args .first) (c .before .before .before .before .before .before .before .before .before .before .before .before .before .before .before .before .before .args .from) (length (c .before .before .before .before .before .before .before .before .before .before .before .before .before .before .before .before .before .args .out .now)) (c .before .before .before .before .before .before .before .before .before .before .before .word-at .result) (c .before .before .before .before .before .before .before .before .before .least .result) (entryOf (c .before .before .before .before .before .before .before .before .before .before .before .before .before .before .before .before .before .args .page .now)) (c .before .before .before .before .before .before .before .before .before .before .before .word-at .ensures) (c .before .before .before .before .before .before .before .before .before .least .ensures) _ (c .before .before .before .before .before .before .before .cluster-at .ensures) _ (c .before .before .before .before .before .before .first-unreadable .ensures .0) h s x (sym (c .before .before .before .before .before .before .before .before .before .before .before .before .before .is-directory .ensures) ∙ c .before .before .before .before .before .before .before .before .before .before .before .before .if1 .left) (omega (arith, c .before .before .before .before .before .before .before .before .before .before .if2 .left)) (c .before .before .before .before .before .before .before .before .if3 .left) (c .before .before .before .before .enum-told .given .1) _ _ refl (c .before .before .copy-pages .ensures)
+    λ h s x. tells-bytes (viewBy (c .before .before .before .before .before .before .before .before .before .before .before .before .before .before .before .before .before .args .geometry) (c .before .before .before .before .before .before .before .before .before .before .before .before .before .before .before .before .before .args .table .now) (c .before .before .before .before .before .before .before .before .before .before .before .before .before .before .before .before .before .args .image .now)) (c .before .before .before .before .before .before .before .before .before .before .before .before .before .before .before .before .before .args .table .now) (λ a. refl) (view-sized _ _ _) (c .before .before .before .before .before .before .before .before .before .before .before .before .before .before .before .before .before .args .geometry) (c .before .before .before .before .before .before .before .before .before .before .before .before .before .before .before .before .before .args .first) (c .before .before .before .before .before .before .before .before .before .before .before .before .before .before .before .before .before .args .from) (length (c .before .before .before .before .before .before .before .before .before .before .before .before .before .before .before .before .before .args .out .now)) (c .before .before .before .before .before .before .before .before .before .before .before .word-at .result) (c .before .before .before .before .before .before .before .before .before .least .result) (entryOf (c .before .before .before .before .before .before .before .before .before .before .before .before .before .before .before .before .before .args .page .now)) (c .before .before .before .before .before .before .before .before .before .before .before .word-at .ensures) (c .before .before .before .before .before .before .before .before .before .least .ensures) _ (c .before .before .before .before .before .before .before .cluster-at .ensures) _ (c .before .before .before .before .before .before .first-unreadable .ensures .0) h s x (sym (c .before .before .before .before .before .before .before .before .before .before .before .before .before .is-directory .ensures) ∙ c .before .before .before .before .before .before .before .before .before .before .before .before .if1 .left) (omega (arith, c .before .before .before .before .before .before .before .before .before .before .if2 .left)) (c .before .before .before .before .before .before .before .before .if3 .left) (c .before .before .before .before .enum-told .given .1) _ _ refl (c .before .before .copy-pages .ensures)
 
 pub read-in-spec : {M : Type 1} → statement M
 read-in-spec =
@@ -105,8 +101,7 @@ read-in-spec =
     cluster-at-requires
     first-unreadable-requires
     enum-known-bad
-    mul-t25
-    add-t26
+    image-page-requires
     enum-told
     copy-pages-requires
     returns-4

@@ -28,7 +28,7 @@ read-words-requires c κs =
 returns : tie.Need-returns
 returns c =
     read-unopened _ (c .before .opened .given .0 .0) _
-    (call-refused (c .before .before .before .before .before .before .before .before .args .image .now) (c .before .before .before .before .before .before .before .before .args .path .now) (λ s root path. onImage (s .offset) (readIn root path (c .before .before .before .before .before .before .before .before .args .from) (length (c .before .before .before .before .before .before .before .before .args .out .now)))) _ _ (sym (ap toldOpened (c .before .opened .given .1)) ∙ c .before .before .before .open-checked .ensures .0))
+    (call-refused (c .before .before .before .before .before .before .before .before .args .image .now) (c .before .before .before .before .before .before .before .before .args .path .now) (λ s root path. onImage (s .geometry) (readIn root path (c .before .before .before .before .before .before .before .before .args .from) (length (c .before .before .before .before .before .before .before .before .args .out .now)))) _ _ (sym (ap toldOpened (c .before .opened .given .1)) ∙ c .before .before .before .open-checked .ensures .0))
 
 same-length : tie.Need-same-length
 same-length c = search needs

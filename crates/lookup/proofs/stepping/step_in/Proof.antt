@@ -22,7 +22,7 @@ no-entry-requires c κs = search needs
 
 returns : tie.Need-returns
 returns c =
-    λ h s x. step-refused _ WrongKind _ (step-file (viewBy (c .before .before .before .before .before .args .offset) (c .before .before .before .before .before .args .table .now) (c .before .before .before .before .before .args .image .now)) (c .before .before .before .before .before .args .table .now) (λ a. refl) (c .before .before .before .before .before .args .first) (c .before .before .before .before .before .args .slot) (entryOf (c .before .before .before .before .before .args .page .now)) h s x (sym (c .before .before .is-directory .ensures) ∙ not-true _ (c .before .if1 .taken))) (c .no-entry .ensures)
+    λ h s x. step-refused _ WrongKind _ (step-file (viewBy (c .before .before .before .before .before .args .geometry) (c .before .before .before .before .before .args .table .now) (c .before .before .before .before .before .args .image .now)) (c .before .before .before .before .before .args .table .now) (λ a. refl) (c .before .before .before .before .before .args .first) (c .before .before .before .before .before .args .slot) (entryOf (c .before .before .before .before .before .args .page .now)) h s x (sym (c .before .before .is-directory .ensures) ∙ not-true _ (c .before .if1 .taken))) (c .no-entry .ensures)
 
 next-of-requires : tie.Need-next-of-requires
 next-of-requires c κs = search needs
@@ -56,7 +56,7 @@ no-entry-requires-3 c κs = search needs
 
 returns-2 : tie.Need-returns-2
 returns-2 c =
-    λ h s x. absurd (let f = step-readable (viewBy (c .before .before .before .before .before .before .before .before .before .before .before .before .before .before .before .before .args .offset) (c .before .before .before .before .before .before .before .before .before .before .before .before .before .before .before .before .args .table .now) (c .before .before .before .before .before .before .before .before .before .before .before .before .before .before .before .before .args .image .now)) (c .before .before .before .before .before .before .before .before .before .before .before .before .before .before .before .before .args .table .now) (λ a. refl) (c .before .before .before .before .before .before .before .before .before .before .before .before .before .before .before .before .args .first) (c .before .before .before .before .before .before .before .before .before .before .before .before .before .before .before .before .args .slot) (entryOf (c .before .before .before .before .before .before .before .before .before .before .before .before .before .before .before .before .args .page .now)) h s x (sym (c .before .before .before .before .before .before .before .before .before .before .before .before .before .is-directory .ensures) ∙ not-false _ (c .before .before .before .before .before .before .before .before .before .before .before .before .if1 .left)) _ _ (live-as (viewBy (c .before .before .before .before .before .before .before .before .before .before .before .before .before .before .before .before .args .offset) (c .before .before .before .before .before .before .before .before .before .before .before .before .before .before .before .before .args .table .now) (c .before .before .before .before .before .before .before .before .before .before .before .before .before .before .before .before .args .image .now)) (c .before .before .before .before .before .before .before .before .before .before .before .before .before .before .before .before .args .table .now) (c .before .before .before .before .before .before .before .before .before .before .before .before .before .before .before .before .args .first) (c .before .before .before .before .before .before .before .before .before .before .before .before .before .before .before .before .args .slot) ((entryOf (c .before .before .before .before .before .before .before .before .before .before .before .before .before .before .before .before .args .page .now)) .length) _ _ _ _ (c .before .before .before .before .before .before .before .before .before .before .before .next-of .ensures) (c .before .before .before .before .before .before .before .before .before .slots-of .ensures) (c .before .before .before .before .before .before .before .before .before .before .word-at .ensures) (c .before .before .before .before .before .before .before .before .slots-of2 .ensures) (c .before .before .before .before .before .before .before .first-live .ensures .0) ∙ c .before .before .before .before .before .found .given .1) in tf (readable (c .before .before .read-slot .ensures) (f .1)) (not-true _ (c .before .if2 .taken)))
+    λ h s x. absurd (let f = step-readable (viewBy (c .before .before .before .before .before .before .before .before .before .before .before .before .before .before .before .before .args .geometry) (c .before .before .before .before .before .before .before .before .before .before .before .before .before .before .before .before .args .table .now) (c .before .before .before .before .before .before .before .before .before .before .before .before .before .before .before .before .args .image .now)) (c .before .before .before .before .before .before .before .before .before .before .before .before .before .before .before .before .args .table .now) (λ a. refl) (c .before .before .before .before .before .before .before .before .before .before .before .before .before .before .before .before .args .first) (c .before .before .before .before .before .before .before .before .before .before .before .before .before .before .before .before .args .slot) (entryOf (c .before .before .before .before .before .before .before .before .before .before .before .before .before .before .before .before .args .page .now)) h s x (sym (c .before .before .before .before .before .before .before .before .before .before .before .before .before .is-directory .ensures) ∙ not-false _ (c .before .before .before .before .before .before .before .before .before .before .before .before .if1 .left)) _ _ (live-as (viewBy (c .before .before .before .before .before .before .before .before .before .before .before .before .before .before .before .before .args .geometry) (c .before .before .before .before .before .before .before .before .before .before .before .before .before .before .before .before .args .table .now) (c .before .before .before .before .before .before .before .before .before .before .before .before .before .before .before .before .args .image .now)) (c .before .before .before .before .before .before .before .before .before .before .before .before .before .before .before .before .args .table .now) (c .before .before .before .before .before .before .before .before .before .before .before .before .before .before .before .before .args .first) (c .before .before .before .before .before .before .before .before .before .before .before .before .before .before .before .before .args .slot) ((entryOf (c .before .before .before .before .before .before .before .before .before .before .before .before .before .before .before .before .args .page .now)) .length) _ _ _ _ (c .before .before .before .before .before .before .before .before .before .before .before .next-of .ensures) (c .before .before .before .before .before .before .before .before .before .slots-of .ensures) (c .before .before .before .before .before .before .before .before .before .before .word-at .ensures) (c .before .before .before .before .before .before .before .before .slots-of2 .ensures) (c .before .before .before .before .before .before .before .first-live .ensures .0) ∙ c .before .before .before .before .before .found .given .1) in tf (readable (c .before .before .read-slot .ensures) (f .1)) (not-true _ (c .before .if2 .taken)))
 
 add-t29 : tie.Need-add-t29
 add-t29 c =
@@ -67,11 +67,11 @@ entry-of-requires c κs = search needs
 
 returns-3 : tie.Need-returns-3
 returns-3 c =
-    λ h s x. step-end (viewBy (c .before .before .before .before .before .before .before .before .before .before .before .before .args .offset) (c .before .before .before .before .before .before .before .before .before .before .before .before .args .table .now) (c .before .before .before .before .before .before .before .before .before .before .before .before .args .image .now)) (c .before .before .before .before .before .before .before .before .before .before .before .before .args .table .now) (λ a. refl) (c .before .before .before .before .before .before .before .before .before .before .before .before .args .first) (c .before .before .before .before .before .before .before .before .before .before .before .before .args .slot) (entryOf (c .before .before .before .before .before .before .before .before .before .before .before .before .args .page .now)) h s x (sym (c .before .before .before .before .before .before .before .before .before .is-directory .ensures) ∙ not-false _ (c .before .before .before .before .before .before .before .before .if1 .left)) _ (live-as (viewBy (c .before .before .before .before .before .before .before .before .before .before .before .before .args .offset) (c .before .before .before .before .before .before .before .before .before .before .before .before .args .table .now) (c .before .before .before .before .before .before .before .before .before .before .before .before .args .image .now)) (c .before .before .before .before .before .before .before .before .before .before .before .before .args .table .now) (c .before .before .before .before .before .before .before .before .before .before .before .before .args .first) (c .before .before .before .before .before .before .before .before .before .before .before .before .args .slot) ((entryOf (c .before .before .before .before .before .before .before .before .before .before .before .before .args .page .now)) .length) _ _ _ _ (c .before .before .before .before .before .before .before .next-of .ensures) (c .before .before .before .before .before .slots-of .ensures) (c .before .before .before .before .before .before .word-at .ensures) (c .before .before .before .before .slots-of2 .ensures) (c .before .before .before .first-live .ensures .0) ∙ c .before .enum-told .given .1) (c .no-entry2 .ensures)
+    λ h s x. step-end (viewBy (c .before .before .before .before .before .before .before .before .before .before .before .before .args .geometry) (c .before .before .before .before .before .before .before .before .before .before .before .before .args .table .now) (c .before .before .before .before .before .before .before .before .before .before .before .before .args .image .now)) (c .before .before .before .before .before .before .before .before .before .before .before .before .args .table .now) (λ a. refl) (c .before .before .before .before .before .before .before .before .before .before .before .before .args .first) (c .before .before .before .before .before .before .before .before .before .before .before .before .args .slot) (entryOf (c .before .before .before .before .before .before .before .before .before .before .before .before .args .page .now)) h s x (sym (c .before .before .before .before .before .before .before .before .before .is-directory .ensures) ∙ not-false _ (c .before .before .before .before .before .before .before .before .if1 .left)) _ (live-as (viewBy (c .before .before .before .before .before .before .before .before .before .before .before .before .args .geometry) (c .before .before .before .before .before .before .before .before .before .before .before .before .args .table .now) (c .before .before .before .before .before .before .before .before .before .before .before .before .args .image .now)) (c .before .before .before .before .before .before .before .before .before .before .before .before .args .table .now) (c .before .before .before .before .before .before .before .before .before .before .before .before .args .first) (c .before .before .before .before .before .before .before .before .before .before .before .before .args .slot) ((entryOf (c .before .before .before .before .before .before .before .before .before .before .before .before .args .page .now)) .length) _ _ _ _ (c .before .before .before .before .before .before .before .next-of .ensures) (c .before .before .before .before .before .slots-of .ensures) (c .before .before .before .before .before .before .word-at .ensures) (c .before .before .before .before .slots-of2 .ensures) (c .before .before .before .first-live .ensures .0) ∙ c .before .enum-told .given .1) (c .no-entry2 .ensures)
 
 returns-4 : tie.Need-returns-4
 returns-4 c =
-    λ h s x. step-slot (viewBy (c .before .before .before .before .before .before .before .before .before .before .before .before .before .before .before .before .before .args .offset) (c .before .before .before .before .before .before .before .before .before .before .before .before .before .before .before .before .before .args .table .now) (c .before .before .before .before .before .before .before .before .before .before .before .before .before .before .before .before .before .args .image .now)) (c .before .before .before .before .before .before .before .before .before .before .before .before .before .before .before .before .before .args .table .now) (λ a. refl) (c .before .before .before .before .before .before .before .before .before .before .before .before .before .before .before .before .before .args .first) (c .before .before .before .before .before .before .before .before .before .before .before .before .before .before .before .before .before .args .slot) (entryOf (c .before .before .before .before .before .before .before .before .before .before .before .before .before .before .before .before .before .args .page .now)) h s x (sym (c .before .before .before .before .before .before .before .before .before .before .before .before .before .before .is-directory .ensures) ∙ not-false _ (c .before .before .before .before .before .before .before .before .before .before .before .before .before .if1 .left)) _ _ (live-as (viewBy (c .before .before .before .before .before .before .before .before .before .before .before .before .before .before .before .before .before .args .offset) (c .before .before .before .before .before .before .before .before .before .before .before .before .before .before .before .before .before .args .table .now) (c .before .before .before .before .before .before .before .before .before .before .before .before .before .before .before .before .before .args .image .now)) (c .before .before .before .before .before .before .before .before .before .before .before .before .before .before .before .before .before .args .table .now) (c .before .before .before .before .before .before .before .before .before .before .before .before .before .before .before .before .before .args .first) (c .before .before .before .before .before .before .before .before .before .before .before .before .before .before .before .before .before .args .slot) ((entryOf (c .before .before .before .before .before .before .before .before .before .before .before .before .before .before .before .before .before .args .page .now)) .length) _ _ _ _ (c .before .before .before .before .before .before .before .before .before .before .before .before .next-of .ensures) (c .before .before .before .before .before .before .before .before .before .before .slots-of .ensures) (c .before .before .before .before .before .before .before .before .before .before .before .word-at .ensures) (c .before .before .before .before .before .before .before .before .before .slots-of2 .ensures) (c .before .before .before .before .before .before .before .before .first-live .ensures .0) ∙ c .before .before .before .before .before .before .found .given .1) _ _ (was-read (c .before .before .before .read-slot .ensures) (not-false _ (c .before .before .if2 .left))) (c .entry-of .ensures)
+    λ h s x. step-slot (viewBy (c .before .before .before .before .before .before .before .before .before .before .before .before .before .before .before .before .before .args .geometry) (c .before .before .before .before .before .before .before .before .before .before .before .before .before .before .before .before .before .args .table .now) (c .before .before .before .before .before .before .before .before .before .before .before .before .before .before .before .before .before .args .image .now)) (c .before .before .before .before .before .before .before .before .before .before .before .before .before .before .before .before .before .args .table .now) (λ a. refl) (c .before .before .before .before .before .before .before .before .before .before .before .before .before .before .before .before .before .args .first) (c .before .before .before .before .before .before .before .before .before .before .before .before .before .before .before .before .before .args .slot) (entryOf (c .before .before .before .before .before .before .before .before .before .before .before .before .before .before .before .before .before .args .page .now)) h s x (sym (c .before .before .before .before .before .before .before .before .before .before .before .before .before .before .is-directory .ensures) ∙ not-false _ (c .before .before .before .before .before .before .before .before .before .before .before .before .before .if1 .left)) _ _ (live-as (viewBy (c .before .before .before .before .before .before .before .before .before .before .before .before .before .before .before .before .before .args .geometry) (c .before .before .before .before .before .before .before .before .before .before .before .before .before .before .before .before .before .args .table .now) (c .before .before .before .before .before .before .before .before .before .before .before .before .before .before .before .before .before .args .image .now)) (c .before .before .before .before .before .before .before .before .before .before .before .before .before .before .before .before .before .args .table .now) (c .before .before .before .before .before .before .before .before .before .before .before .before .before .before .before .before .before .args .first) (c .before .before .before .before .before .before .before .before .before .before .before .before .before .before .before .before .before .args .slot) ((entryOf (c .before .before .before .before .before .before .before .before .before .before .before .before .before .before .before .before .before .args .page .now)) .length) _ _ _ _ (c .before .before .before .before .before .before .before .before .before .before .before .before .next-of .ensures) (c .before .before .before .before .before .before .before .before .before .before .slots-of .ensures) (c .before .before .before .before .before .before .before .before .before .before .before .word-at .ensures) (c .before .before .before .before .before .before .before .before .before .slots-of2 .ensures) (c .before .before .before .before .before .before .before .before .first-live .ensures .0) ∙ c .before .before .before .before .before .before .found .given .1) _ _ (was-read (c .before .before .before .read-slot .ensures) (not-false _ (c .before .before .if2 .left))) (c .entry-of .ensures)
 
 pub step-in-spec : {M : Type 1} → statement M
 step-in-spec =

@@ -13,11 +13,11 @@ use Rattle.lookup.proofs.way.descend.Statement.{statement}
 use Rattle.lookup.proofs.way.descend.Tie as tie
 
 abbrev Inv-loop : tie.InvT-loop
-Inv-loop image table offset path count page₀ first₀ at₀ i₀ page first at i =
-    (i ≤ count) × (first < 2 ^ 32) × (at < 2 ^ 64) × OnWay (viewBy offset table image) table path count i first at page
+Inv-loop image table geometry path count page₀ first₀ at₀ i₀ page first at i =
+    (i ≤ count) × (first < 2 ^ 32) × (at < 2 ^ 64) × OnWay (viewBy geometry table image) table path count i first at page
 
 abbrev μ-loop : tie.MeasureT-loop
-μ-loop image table offset path count page₀ first₀ at₀ i₀ page first at i = count - i
+μ-loop image table geometry path count page₀ first₀ at₀ i₀ page first at i = count - i
 
 read-slot-requires : tie.Need-read-slot-requires Inv-loop μ-loop
 read-slot-requires c κs = search needs
@@ -25,13 +25,13 @@ read-slot-requires c κs = search needs
 returns : tie.Need-returns Inv-loop μ-loop
 returns c =
     let a = c .before .before .before .before .before .before .args in
-    stays-zero (pageIn (a .offset) (length (a .table .now)) (a .image .now) 0) _ _ (c .before .read-slot .ensures) (not-true _ (c .if1 .taken))
-    ∙ way-none (viewBy (a .offset) (a .table .now) (a .image .now)) (a .table .now) (a .path .now) (a .count) (read-none _ (c .before .read-slot .ensures) (not-true _ (c .if1 .taken)))
+    stays-zero (pageIn (a .geometry) (length (a .table .now)) (a .image .now) 0) _ _ (c .before .read-slot .ensures) (not-true _ (c .if1 .taken))
+    ∙ way-none (viewBy (a .geometry) (a .table .now) (a .image .now)) (a .table .now) (a .path .now) (a .count) (read-none _ (c .before .read-slot .ensures) (not-true _ (c .if1 .taken)))
 
 loop-holds : tie.Need-loop-holds Inv-loop μ-loop
 loop-holds c =
     let a = c .before .before .before .before .before .before .args in
-    (omega arith, omega arith, omega arith, way-start (viewBy (a .offset) (a .table .now) (a .image .now)) (a .table .now) (a .path .now) (a .count) _ (read-some _ (c .before .read-slot .ensures) (not-false _ (c .if1 .left))))
+    (omega arith, omega arith, omega arith, way-start (viewBy (a .geometry) (a .table .now) (a .image .now)) (a .table .now) (a .path .now) (a .count) _ (read-some _ (c .before .read-slot .ensures) (not-false _ (c .if1 .left))))
 
 name-at-requires : tie.Need-name-at-requires Inv-loop μ-loop
 name-at-requires c κs = search needs
@@ -45,7 +45,7 @@ enum-told c = search needs
 returns-2 : tie.Need-returns-2 Inv-loop μ-loop
 returns-2 c =
     let a = c .before .before .before .before .before .before .before .before .before .before .before .before .before .args in
-    way-absent (viewBy (a .offset) (a .table .now) (a .image .now)) (a .table .now) (a .path .now) (a .count) _ _ _ _ (c .before .before .before .before .before .before .loop .inv .3) (c .before .before .before .before .before .loop-test .taken) _ (c .before .before .before .name-at .ensures) _ (c .before .before .enter .ensures) (c .enum-told .given .1)
+    way-absent (viewBy (a .geometry) (a .table .now) (a .image .now)) (a .table .now) (a .path .now) (a .count) _ _ _ _ (c .before .before .before .before .before .before .loop .inv .3) (c .before .before .before .before .before .loop-test .taken) _ (c .before .before .before .name-at .ensures) _ (c .before .before .enter .ensures) (c .enum-told .given .1)
 
 enum-told-2 : tie.Need-enum-told-2 Inv-loop μ-loop
 enum-told-2 c = search needs
@@ -53,7 +53,7 @@ enum-told-2 c = search needs
 returns-3 : tie.Need-returns-3 Inv-loop μ-loop
 returns-3 c =
     let a = c .before .before .before .before .before .before .before .before .before .before .before .before .before .args in
-    way-kind (viewBy (a .offset) (a .table .now) (a .image .now)) (a .table .now) (a .path .now) (a .count) _ _ _ _ (c .before .before .before .before .before .before .loop .inv .3) (c .before .before .before .before .before .loop-test .taken) _ (c .before .before .before .name-at .ensures) _ (c .before .before .enter .ensures) (c .enum-told2 .given .1)
+    way-kind (viewBy (a .geometry) (a .table .now) (a .image .now)) (a .table .now) (a .path .now) (a .count) _ _ _ _ (c .before .before .before .before .before .before .loop .inv .3) (c .before .before .before .before .before .loop-test .taken) _ (c .before .before .before .name-at .ensures) _ (c .before .before .enter .ensures) (c .enum-told2 .given .1)
 
 enum-known-arrival : tie.Need-enum-known-arrival Inv-loop μ-loop
 enum-known-arrival c = search needs
@@ -67,12 +67,12 @@ loop-less c = omega arith
 loop-again : tie.Need-loop-again Inv-loop μ-loop
 loop-again c =
     let a = c .before .before .before .before .before .before .before .before .before .before .before .before .before .before .before .args in
-    (omega arith, search needs, search needs, way-on (viewBy (a .offset) (a .table .now) (a .image .now)) (a .table .now) (a .path .now) (a .count) _ _ _ _ (c .before .before .before .before .before .before .before .before .loop .inv .3) (c .before .before .before .before .before .before .before .loop-test .taken) _ (c .before .before .before .before .before .name-at .ensures) _ (c .before .before .before .before .enter .ensures) _ (c .before .before .arrival .given .1))
+    (omega arith, search needs, search needs, way-on (viewBy (a .geometry) (a .table .now) (a .image .now)) (a .table .now) (a .path .now) (a .count) _ _ _ _ (c .before .before .before .before .before .before .before .before .loop .inv .3) (c .before .before .before .before .before .before .before .loop-test .taken) _ (c .before .before .before .before .before .name-at .ensures) _ (c .before .before .before .before .enter .ensures) _ (c .before .before .arrival .given .1))
 
 returns-4 : tie.Need-returns-4 Inv-loop μ-loop
 returns-4 c =
     let a = c .before .before .before .before .before .before .before .before .args in
-    way-end (viewBy (a .offset) (a .table .now) (a .image .now)) (a .table .now) (a .path .now) (a .count) (c .before .loop .i) _ _ _ (c .before .loop .inv .3) (omega arith)
+    way-end (viewBy (a .geometry) (a .table .now) (a .image .now)) (a .table .now) (a .path .now) (a .count) (c .before .loop .i) _ _ _ (c .before .loop .inv .3) (omega arith)
 
 pub descend-spec : {M : Type 1} → statement M
 descend-spec =

@@ -13,7 +13,7 @@ is-directory-requires c κs = search needs
 returns : tie.Need-returns
 returns c =
     let a = c .before .before .before .before .before .args in
-    entered-kind (viewBy (a .offset) (a .table .now) (a .image .now)) (a .table .now) (a .name .now) (a .first) (a .page .now) (sym (c .before .is-directory .ensures) ∙ not-true _ (c .if1 .taken))
+    entered-kind (viewBy (a .geometry) (a .table .now) (a .image .now)) (a .table .now) (a .name .now) (a .first) (a .page .now) (sym (c .before .is-directory .ensures) ∙ not-true _ (c .if1 .taken))
 
 next-of-requires : tie.Need-next-of-requires
 next-of-requires c κs = search needs
@@ -39,7 +39,7 @@ read-slot-requires c κs = search needs
 returns-2 : tie.Need-returns-2
 returns-2 c =
     let a = c .before .before .before .before .before .before .before .before .before .before .before .before .before .before .before .args in
-    entered-unread (viewBy (a .offset) (a .table .now) (a .image .now)) (a .table .now) (a .name .now) (a .first) (a .page .now) (sym (c .before .before .before .before .before .before .before .before .before .before .before .is-directory .ensures) ∙ not-false _ (c .before .before .before .before .before .before .before .before .before .before .if1 .left)) _ _ _ _ (c .before .before .before .before .before .before .before .before .before .next-of .ensures) (c .before .before .before .before .before .before .before .slots-of .ensures) (c .before .before .before .before .before .before .before .before .word-at .ensures) (c .before .before .before .before .before .before .find-name .ensures .0) _ _ (c .before .before .before .before .place .given .1) _ _ (c .before .read-slot .ensures) (not-true _ (c .if2 .taken))
+    entered-unread (viewBy (a .geometry) (a .table .now) (a .image .now)) (a .table .now) (a .name .now) (a .first) (a .page .now) (sym (c .before .before .before .before .before .before .before .before .before .before .before .is-directory .ensures) ∙ not-false _ (c .before .before .before .before .before .before .before .before .before .before .if1 .left)) _ _ _ _ (c .before .before .before .before .before .before .before .before .before .next-of .ensures) (c .before .before .before .before .before .before .before .slots-of .ensures) (c .before .before .before .before .before .before .before .before .word-at .ensures) (c .before .before .before .before .before .before .find-name .ensures .0) _ _ (c .before .before .before .before .place .given .1) _ _ (c .before .read-slot .ensures) (not-true _ (c .if2 .taken))
 
 word-at-requires-2 : tie.Need-word-at-requires-2
 word-at-requires-2 c κs = search needs
@@ -47,12 +47,12 @@ word-at-requires-2 c κs = search needs
 returns-3 : tie.Need-returns-3
 returns-3 c =
     let a = c .before .before .before .before .before .before .before .before .before .before .before .args in
-    entered-absent (viewBy (a .offset) (a .table .now) (a .image .now)) (a .table .now) (a .name .now) (a .first) (a .page .now) (sym (c .before .before .before .before .before .before .before .is-directory .ensures) ∙ not-false _ (c .before .before .before .before .before .before .if1 .left)) _ _ _ _ (c .before .before .before .before .before .next-of .ensures) (c .before .before .before .slots-of .ensures) (c .before .before .before .before .word-at .ensures) (c .before .before .find-name .ensures .0) (c .enum-told .given .1)
+    entered-absent (viewBy (a .geometry) (a .table .now) (a .image .now)) (a .table .now) (a .name .now) (a .first) (a .page .now) (sym (c .before .before .before .before .before .before .before .is-directory .ensures) ∙ not-false _ (c .before .before .before .before .before .before .if1 .left)) _ _ _ _ (c .before .before .before .before .before .next-of .ensures) (c .before .before .before .slots-of .ensures) (c .before .before .before .before .word-at .ensures) (c .before .before .find-name .ensures .0) (c .enum-told .given .1)
 
 returns-4 : tie.Need-returns-4
 returns-4 c =
     let a = c .before .before .before .before .before .before .before .before .before .before .before .before .before .before .before .before .before .args in
-    entered-read (viewBy (a .offset) (a .table .now) (a .image .now)) (a .table .now) (a .name .now) (a .first) (a .page .now) (sym (c .before .before .before .before .before .before .before .before .before .before .before .before .before .is-directory .ensures) ∙ not-false _ (c .before .before .before .before .before .before .before .before .before .before .before .before .if1 .left)) _ _ _ _ (c .before .before .before .before .before .before .before .before .before .before .before .next-of .ensures) (c .before .before .before .before .before .before .before .before .before .slots-of .ensures) (c .before .before .before .before .before .before .before .before .before .before .word-at .ensures) (c .before .before .before .before .before .before .before .before .find-name .ensures .0) _ _ (c .before .before .before .before .before .before .place .given .1) _ _ (c .before .before .before .read-slot .ensures) _ (not-false _ (c .before .before .if2 .left)) (c .word-at2 .ensures)
+    entered-read (viewBy (a .geometry) (a .table .now) (a .image .now)) (a .table .now) (a .name .now) (a .first) (a .page .now) (sym (c .before .before .before .before .before .before .before .before .before .before .before .before .before .is-directory .ensures) ∙ not-false _ (c .before .before .before .before .before .before .before .before .before .before .before .before .if1 .left)) _ _ _ _ (c .before .before .before .before .before .before .before .before .before .before .before .next-of .ensures) (c .before .before .before .before .before .before .before .before .before .slots-of .ensures) (c .before .before .before .before .before .before .before .before .before .before .word-at .ensures) (c .before .before .before .before .before .before .before .before .find-name .ensures .0) _ _ (c .before .before .before .before .before .before .place .given .1) _ _ (c .before .before .before .read-slot .ensures) _ (not-false _ (c .before .before .if2 .left)) (c .word-at2 .ensures)
 
 pub enter-spec : {M : Type 1} → statement M
 enter-spec =

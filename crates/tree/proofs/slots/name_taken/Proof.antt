@@ -12,11 +12,11 @@ use Rattle.tree.proofs.slots.name_taken.Statement.{statement}
 use Rattle.tree.proofs.slots.name_taken.Tie as tie
 
 abbrev Inv-loop : tie.InvT-loop
-Inv-loop image table offset start k d c₀ j₀ c j =
-    (j ≤ k) × (c ≡ clusterAt table start j) × (c < 2 ^ 32) × (liveBefore (viewBy offset table image) table start j ((entryOf d) .name) ≡ 0)
+Inv-loop image table geometry start k d c₀ j₀ c j =
+    (j ≤ k) × (c ≡ clusterAt table start j) × (c < 2 ^ 32) × (liveBefore (viewBy geometry table image) table start j ((entryOf d) .name) ≡ 0)
 
 abbrev μ-loop : tie.MeasureT-loop
-μ-loop image table offset start k d c₀ j₀ c j = k - j
+μ-loop image table geometry start k d c₀ j₀ c j = k - j
 
 loop-holds : tie.Need-loop-holds Inv-loop μ-loop
 loop-holds c = (omega arith, cluster-start _ _, omega arith, before-none _ _ _ _)
@@ -47,7 +47,7 @@ loop-again c =
     let x : c .if2 .c ≡ clusterAfter t (w .c) (w .j) =
     ⊎-elim (λ v. step-odd t (w .c) (w .j) _ (v .0 .taken) (v .2 ∙ v .1 .ensures)) (λ v. step-even t (w .c) (w .j) _ (v .0 .left) (v .1)) (c .if2 .came) in (
       omega arith,
-      cluster-step (viewBy (c .before .before .before .before .before .before .before .before .args .offset) t (c .before .before .before .before .before .before .before .before .args .image .now)) t (c .before .before .before .before .before .before .before .before .args .start) (w .c) (w .j) _ (w .inv .1) x,
+      cluster-step (viewBy (c .before .before .before .before .before .before .before .before .args .geometry) t (c .before .before .before .before .before .before .before .before .args .image .now)) t (c .before .before .before .before .before .before .before .before .args .start) (w .c) (w .j) _ (w .inv .1) x,
       ⊎-elim (λ v. omega (arith, v .2, v .1 .ensures, c .before .before .before .before .before .before .shared-slice-known2 .given (w .c))) (λ v. omega (arith, v .1)) (c .if2 .came),
       taken-later _ _ _ _ _ _ _ (w .inv .1) (c .before .before .before .slot-page .ensures .0) (w .inv .3) (sym (c .before .before .named-at .ensures) ∙ c .before .if1 .left),
     )

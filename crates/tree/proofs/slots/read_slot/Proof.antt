@@ -1,4 +1,5 @@
 -- `tree::slots::read_slot` meets its contract: a page of the view is the image's page.
+use Rattle.layout.specs.declared.Geometry.{Geometry}
 use mathlib.Core.Bool.{Bool, cond, false, true}
 use mathlib.Core.List.{List}
 use mathlib.Core.Option.{none}
@@ -9,26 +10,26 @@ use borrow.Author.Needs.{needs}
 use borrow.Author.Tests.{le-ltb, lt-ltb}
 use lib.Dec.{ltb}
 use lib.ListN.{length}
-use Rattle.layout.specs.See.{pageIn}
+use Rattle.layout.specs.See.{imagePage, pageIn}
 use Rattle.page.specs.Page.{Read, page-is, pageAt}
 use Rattle.tree.proofs.slots.read_slot.Statement.{statement}
 use Rattle.tree.proofs.slots.read_slot.Tie as tie
 
 -- a page past the clusters is none, any other the image's
-outside : (offset count : ℕ) (image : List ℕ) (page : ℕ) (out : List ℕ) → count ≤ page / 2 → Read (pageIn offset count image page) out false out
+outside : (geometry : Geometry) (count : ℕ) (image : List ℕ) (page : ℕ) (out : List ℕ) → count ≤ page / 2 → Read (pageIn geometry count image page) out false out
 unfolding pageIn
-outside offset count image page out h = rw (le-ltb page (2 * count) (omega arith)) (record { readable = refl; buffer = refl })
+outside geometry count image page out h = rw (le-ltb page (2 * count) (omega arith)) (record { readable = refl; buffer = refl })
 
-inside : (offset count : ℕ) (image : List ℕ) (page p : ℕ) (out after : List ℕ) (r : Bool) → page / 2 < count → p ≡ 2 * offset + page
-    → Read (pageAt image p) out r after → Read (pageIn offset count image page) out r after
+inside : (geometry : Geometry) (count : ℕ) (image : List ℕ) (page p : ℕ) (out after : List ℕ) (r : Bool) → page / 2 < count → p ≡ imagePage geometry page
+    → Read (pageAt image p) out r after → Read (pageIn geometry count image page) out r after
 unfolding pageIn
-inside offset count image page p out after r h e k = rw (lt-ltb page (2 * count) (omega arith), ← e) k
+inside geometry count image page p out after r h e k = rw (lt-ltb page (2 * count) (omega arith), ← e) k
 
--- a page past the image's end is none, all the more where it is counted from cluster `offset` on
-past : (offset count : ℕ) (image : List ℕ) (page : ℕ) (out : List ℕ) → length image / 528 ≤ page → Read (pageIn offset count image page) out false out
+-- a page past the image's end is none, all the more where it is counted from cluster `geometry` on
+past : (geometry : Geometry) (count : ℕ) (image : List ℕ) (page : ℕ) (out : List ℕ) → length image / 528 ≤ page → Read (pageIn geometry count image page) out false out
 unfolding pageIn
-past offset count image page out h =
-    let e : pageAt image (2 * offset + page) ≡ none = page-is image (2 * offset + page) ∙ rw (le-ltb (2 * offset + page) (length image / 528) (omega arith)) in
+past geometry count image page out h =
+    let e : pageAt image (imagePage geometry page) ≡ none = page-is image (imagePage geometry page) ∙ rw (le-ltb (imagePage geometry page) (length image / 528) (omega arith)) in
     rw e (go (ltb page (2 * count)))
   where
     go : (b : Bool) → Read (cond b none none) out false out
@@ -37,25 +38,23 @@ past offset count image page out h =
 
 returns : tie.Need-returns
 returns c =
-    outside (c .before .before .args .offset) (c .before .before .args .count) (c .before .before .args .image .now) (c .before .before .args .page) (c .before .before .args .out .now) (c .if1 .taken)
+    outside (c .before .before .args .geometry) (c .before .before .args .count) (c .before .before .args .image .now) (c .before .before .args .page) (c .before .before .args .out .now) (c .if1 .taken)
 
 returns-2 : tie.Need-returns-2
 returns-2 c =
-    past (c .before .before .before .args .offset) (c .before .before .before .args .count) (c .before .before .before .args .image .now) (c .before .before .before .args .page) (c .before .before .before .args .out .now) (c .if2 .taken)
+    past (c .before .before .before .args .geometry) (c .before .before .before .args .count) (c .before .before .before .args .image .now) (c .before .before .before .args .page) (c .before .before .before .args .out .now) (c .if2 .taken)
 
-mul-read-page : tie.Need-mul-read-page
-mul-read-page c = search needs
-
-add-read-page : tie.Need-add-read-page
-add-read-page c = search needs
+image-page-requires : tie.Need-image-page-requires
+image-page-requires c κs = search needs
 
 read-page-requires : tie.Need-read-page-requires
 read-page-requires c κs = search needs
 
 returns-3 : tie.Need-returns-3
 returns-3 c =
-    inside (c .before .before .before .before .before .args .offset) (c .before .before .before .before .before .args .count) (c .before .before .before .before .before .args .image .now) (c .before .before .before .before .before .args .page) (c .before .before .before .before .before .args .offset * 2 + c .before .before .before .before .before .args .page) (c .before .before .before .before .before .args .out .now) (c .read-page .last .1 .1 .0) (c .read-page .result) (omega arith) (omega arith) (c .read-page .ensures)
+    let a = c .before .before .before .before .before .before .args in
+    inside (a .geometry) (a .count) (a .image .now) (a .page) (c .before .before .image-page .result) (a .out .now) (c .read-page .last .1 .1 .0) (c .read-page .result) (omega arith) (omega (arith, c .before .before .image-page .ensures)) (c .read-page .ensures)
 
 pub read-slot-spec : {M : Type 1} → statement M
 read-slot-spec =
-    tie.close (tie.spec returns returns-2 mul-read-page add-read-page read-page-requires returns-3)
+    tie.close (tie.spec returns returns-2 image-page-requires read-page-requires returns-3)

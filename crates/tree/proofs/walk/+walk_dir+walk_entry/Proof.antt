@@ -61,12 +61,12 @@ abbrev entry-calls : ℕ → walk-entry-lts.Claims
 entry-calls t = (walk-chain-reads.Asked, walk-chain-reads.Learnt, walk-dir-below t, walk-dir.Post)
 
 abbrev walk-dir-Inv-loop : walk-dir-lts.InvT-loop
-walk-dir-Inv-loop image table offset first entries below start bits₀ r₀ c₀ k₀ left₀ bits r c k left =
-    (onImage offset (insideOf (viewBy offset table image) below table first entries (marksOf r₀)) ≡ rest (viewBy offset table image) offset below table start c k left (marksOf r))
-    × (c ≡ clusterAt table start k) × (k + left ≡ left₀) × (left₀ ≡ entries - 2) × (c < 2 ^ 32) × Knows (viewBy offset table image) table start k bits × Sound r
+walk-dir-Inv-loop image table geometry first entries below start bits₀ r₀ c₀ k₀ left₀ bits r c k left =
+    (onImage geometry (insideOf (viewBy geometry table image) below table first entries (marksOf r₀)) ≡ rest (viewBy geometry table image) geometry below table start c k left (marksOf r))
+    × (c ≡ clusterAt table start k) × (k + left ≡ left₀) × (left₀ ≡ entries - 2) × (c < 2 ^ 32) × Knows (viewBy geometry table image) table start k bits × Sound r
 
 abbrev walk-dir-μ-loop : walk-dir-lts.MeasureT-loop
-walk-dir-μ-loop image table offset first entries below start bits₀ r₀ c₀ k₀ left₀ bits r c k left = left
+walk-dir-μ-loop image table geometry first entries below start bits₀ r₀ c₀ k₀ left₀ bits r c k left = left
 
 walk-dir-judge-dots-requires : (t : ℕ) → walk-dir-lts.Need-judge-dots-requires (dir-calls t) (walk-dir-at t) walk-dir.Post walk-dir-Inv-loop walk-dir-μ-loop
 walk-dir-judge-dots-requires t c κs = search needs
@@ -87,8 +87,8 @@ walk-dir-slots-of-requires t c κs = search needs
 walk-dir-loop-holds : (t : ℕ) → walk-dir-lts.Need-loop-holds (dir-calls t) (walk-dir-at t) walk-dir.Post walk-dir-Inv-loop walk-dir-μ-loop
 walk-dir-loop-holds t c =
     let a = c .before .before .before .before .before .before .before .args in
-    let v = viewBy (a .offset) (a .table .now) (a .image .now) in (
-      inside-go v (a .offset) (a .below) (a .table .now) (a .first) (a .entries) (marksOf (a .reached)) _ (c .before .before .before .before .judge-dots .ensures) (sym (c .before .before .before .is-sound .ensures) ∙ not-false _ (c .before .before .if1 .left)) (c .before .next-of .result) (c .slots-of .result) (c .before .next-of .ensures) (c .slots-of .ensures),
+    let v = viewBy (a .geometry) (a .table .now) (a .image .now) in (
+      inside-go v (a .geometry) (a .below) (a .table .now) (a .first) (a .entries) (marksOf (a .reached)) _ (c .before .before .before .before .judge-dots .ensures) (sym (c .before .before .before .is-sound .ensures) ∙ not-false _ (c .before .before .if1 .left)) (c .before .next-of .result) (c .slots-of .result) (c .before .next-of .ensures) (c .slots-of .ensures),
       cluster-start _ _,
       omega arith,
       c .slots-of .ensures,
@@ -110,9 +110,9 @@ walk-dir-is-sound-requires-2 t c κs = search needs
 walk-dir-returns-2 : (t : ℕ) → walk-dir-lts.Need-returns-2 (dir-calls t) (walk-dir-at t) walk-dir.Post walk-dir-Inv-loop walk-dir-μ-loop
 walk-dir-returns-2 t c =
     let a = c .before .before .before .before .before .before .before .before .before .before .before .before .before .before .args in
-    let v = viewBy (a .offset) (a .table .now) (a .image .now) in
+    let v = viewBy (a .geometry) (a .table .now) (a .image .now) in
     let w = c .before .before .before .before .before .before .loop in
-    slot-stop v (a .offset) (a .below) (a .table .now) (λ n. refl) (c .before .before .before .before .before .before .before .before .next-of .result) (w .c) (w .k) (w .left) _ (w .r) (w .inv .0) (c .before .before .before .before .before .loop-test .taken) (w .inv .1) (c .before .before .before .look-at .result) (c .before .before .before .look-at .ensures .0) _ _ (c .before .before .walk-entry .ensures) (sym (c .before .is-sound2 .ensures) ∙ not-true _ (c .if2 .taken))
+    slot-stop v (a .geometry) (a .below) (a .table .now) (λ n. refl) (c .before .before .before .before .before .before .before .before .next-of .result) (w .c) (w .k) (w .left) _ (w .r) (w .inv .0) (c .before .before .before .before .before .loop-test .taken) (w .inv .1) (c .before .before .before .look-at .result) (c .before .before .before .look-at .ensures .0) _ _ (c .before .before .walk-entry .ensures) (sym (c .before .is-sound2 .ensures) ∙ not-true _ (c .if2 .taken))
 
 walk-dir-next-of-requires-2 : (t : ℕ) → walk-dir-lts.Need-next-of-requires-2 (dir-calls t) (walk-dir-at t) walk-dir.Post walk-dir-Inv-loop walk-dir-μ-loop
 walk-dir-next-of-requires-2 t c κs = search needs
@@ -130,11 +130,11 @@ walk-dir-loop-again : (t : ℕ) → walk-dir-lts.Need-loop-again (dir-calls t) (
 walk-dir-loop-again t c =
     let a = c .before .before .before .before .before .before .before .before .before .before .before .before .before .before .before .before .args in
     let tb = a .table .now in
-    let v = viewBy (a .offset) tb (a .image .now) in
+    let v = viewBy (a .geometry) tb (a .image .now) in
     let w = c .before .before .before .before .before .before .before .before .loop in
     let x : c .if3 .c ≡ clusterAfter tb (w .c) (w .k) =
     ⊎-elim (λ z. step-odd tb (w .c) (w .k) _ (z .0 .taken) (z .2 ∙ z .1 .ensures)) (λ z. step-even tb (w .c) (w .k) _ (z .0 .left) (z .1)) (c .if3 .came) in
-    let g = slot-go v (a .offset) (a .below) tb (λ n. refl) (c .before .before .before .before .before .before .before .before .before .before .next-of .result) (w .c) (w .k) (w .left) _ (w .r) (w .inv .0) (c .before .before .before .before .before .before .before .loop-test .taken) (w .inv .1) (c .before .before .before .before .before .look-at .result) (c .before .before .before .before .before .look-at .ensures .0) _ _ (c .before .before .before .before .walk-entry .ensures) (sym (c .before .before .before .is-sound2 .ensures) ∙ not-false _ (c .before .before .if2 .left)) in (
+    let g = slot-go v (a .geometry) (a .below) tb (λ n. refl) (c .before .before .before .before .before .before .before .before .before .before .next-of .result) (w .c) (w .k) (w .left) _ (w .r) (w .inv .0) (c .before .before .before .before .before .before .before .loop-test .taken) (w .inv .1) (c .before .before .before .before .before .look-at .result) (c .before .before .before .before .before .look-at .ensures .0) _ _ (c .before .before .before .before .walk-entry .ensures) (sym (c .before .before .before .is-sound2 .ensures) ∙ not-false _ (c .before .before .if2 .left)) in (
       rw x (g .0),
       cluster-step v tb (c .before .before .before .before .before .before .before .before .before .before .next-of .result) (w .c) (w .k) _ (w .inv .1) x,
       omega arith,
@@ -147,8 +147,8 @@ walk-dir-loop-again t c =
 walk-dir-returns-3 : (t : ℕ) → walk-dir-lts.Need-returns-3 (dir-calls t) (walk-dir-at t) walk-dir.Post walk-dir-Inv-loop walk-dir-μ-loop
 walk-dir-returns-3 t c =
     let a = c .before .before .before .before .before .before .before .before .before .args in
-    let v = viewBy (a .offset) (a .table .now) (a .image .now) in
-    slots-done v (a .offset) (a .below) (a .table .now) (c .before .before .before .next-of .result) _ _ (c .before .loop .left) _ (c .before .loop .r) (c .before .loop .inv .0) (omega arith) (c .before .loop .inv .6)
+    let v = viewBy (a .geometry) (a .table .now) (a .image .now) in
+    slots-done v (a .geometry) (a .below) (a .table .now) (c .before .before .before .next-of .result) _ _ (c .before .loop .left) _ (c .before .loop .r) (c .before .loop .inv .0) (omega arith) (c .before .loop .inv .6)
 
 walk-entry-enum-known-look : (t : ℕ) → walk-entry-lts.Need-enum-known-look (entry-calls t) (walk-entry-at t) walk-entry.Post
 walk-entry-enum-known-look t c = search needs
@@ -176,7 +176,7 @@ walk-entry-returns t c =
     let a = c .before .before .before .before .before .before .before .before .args in
     let len = c .before .before .before .before .look2 .given .0 .0 in
     let first = c .before .before .before .before .look2 .given .0 .1 .0 in
-    rw (c .before .before .before .before .look2 .given .1) (file-good (a .table .now) (c .before .before .before .before .before .before .before .before .pre .1 .0) (viewBy (a .offset) (a .table .now) (a .image .now)) (λ n. refl) (a .offset) (a .reached) (c .before .before .before .before .before .before .before .before .pre .1 .1) len first (len / 1024 + (len % 1024 + 1023) / 1024) (c .before .before .walk-chain .result) (c .before .before .walk-chain .ensures) (a .below) (omega arith) (c .if1 .taken))
+    rw (c .before .before .before .before .look2 .given .1) (file-good (a .table .now) (c .before .before .before .before .before .before .before .before .pre .1 .0) (viewBy (a .geometry) (a .table .now) (a .image .now)) (λ n. refl) (a .geometry) (a .reached) (c .before .before .before .before .before .before .before .before .pre .1 .1) len first (len / 1024 + (len % 1024 + 1023) / 1024) (c .before .before .walk-chain .result) (c .before .before .walk-chain .ensures) (a .below) (omega arith) (c .if1 .taken))
 
 walk-entry-enum-known-look-3 : (t : ℕ) → walk-entry-lts.Need-enum-known-look-3 (entry-calls t) (walk-entry-at t) walk-entry.Post
 walk-entry-enum-known-look-3 t c = search needs
@@ -184,7 +184,7 @@ walk-entry-enum-known-look-3 t c = search needs
 walk-entry-returns-2 : (t : ℕ) → walk-entry-lts.Need-returns-2 (entry-calls t) (walk-entry-at t) walk-entry.Post
 walk-entry-returns-2 t c =
     let a = c .before .before .before .before .before .before .args in
-    rw (c .before .before .look3 .given .1) (directory-deep (viewBy (a .offset) (a .table .now) (a .image .now)) (a .offset) (a .table .now) (a .reached) (marksOf (a .reached)) (a .below) (c .before .before .look3 .given .0 .0) (c .before .before .look3 .given .0 .1 .0) (c .if2 .taken))
+    rw (c .before .before .look3 .given .1) (directory-deep (viewBy (a .geometry) (a .table .now) (a .image .now)) (a .geometry) (a .table .now) (a .reached) (marksOf (a .reached)) (a .below) (c .before .before .look3 .given .0 .0) (c .before .before .look3 .given .0 .1 .0) (c .if2 .taken))
 
 walk-entry-add-walk-chain-3 : (t : ℕ) → walk-entry-lts.Need-add-walk-chain-3 (entry-calls t) (walk-entry-at t) walk-entry.Post
 walk-entry-add-walk-chain-3 t c = search needs
@@ -198,14 +198,14 @@ walk-entry-sub-walk-dir t c = omega arith
 walk-entry-walk-dir-requires : (t : ℕ) → walk-entry-lts.Need-walk-dir-requires (entry-calls t) (walk-entry-at t) walk-entry.Post
 walk-entry-walk-dir-requires t c κs =
     let a = c .before .before .before .before .before .before .before .before .before .args in
-    (omega (arith, c .before .before .before .before .before .before .before .before .before .pre .0), (c .before .before .before .before .before .before .before .before .before .pre .1 .0, directory-sound (a .table .now) (c .before .before .before .before .before .before .before .before .before .pre .1 .0) (viewBy (a .offset) (a .table .now) (a .image .now)) (λ n. refl) (a .offset) (a .reached) (c .before .before .before .before .before .before .before .before .before .pre .1 .1) 0 _ _ (c .before .before .walk-chain2 .result) (c .before .before .walk-chain2 .ensures) (c .if3 .taken)))
+    (omega (arith, c .before .before .before .before .before .before .before .before .before .pre .0), (c .before .before .before .before .before .before .before .before .before .pre .1 .0, directory-sound (a .table .now) (c .before .before .before .before .before .before .before .before .before .pre .1 .0) (viewBy (a .geometry) (a .table .now) (a .image .now)) (λ n. refl) (a .geometry) (a .reached) (c .before .before .before .before .before .before .before .before .before .pre .1 .1) 0 _ _ (c .before .before .walk-chain2 .result) (c .before .before .walk-chain2 .ensures) (c .if3 .taken)))
 
 walk-entry-returns-3 : (t : ℕ) → walk-entry-lts.Need-returns-3 (entry-calls t) (walk-entry-at t) walk-entry.Post
 walk-entry-returns-3 t c =
     let a = c .before .before .before .before .before .before .before .before .before .before .args in
     let len = c .before .before .before .before .before .before .look3 .given .0 .0 in
     let first = c .before .before .before .before .before .before .look3 .given .0 .1 .0 in
-    rw (c .before .before .before .before .before .before .look3 .given .1) (directory-good (a .table .now) (c .before .before .before .before .before .before .before .before .before .before .pre .1 .0) (viewBy (a .offset) (a .table .now) (a .image .now)) (λ n. refl) (a .offset) (a .reached) (c .before .before .before .before .before .before .before .before .before .before .pre .1 .1) len first (len / 2 + len % 2) (c .before .before .before .walk-chain2 .result) (c .before .before .before .walk-chain2 .ensures) (a .below) (omega arith) (omega arith) (c .before .if3 .taken) _ _ (c .walk-dir .ensures))
+    rw (c .before .before .before .before .before .before .look3 .given .1) (directory-good (a .table .now) (c .before .before .before .before .before .before .before .before .before .before .pre .1 .0) (viewBy (a .geometry) (a .table .now) (a .image .now)) (λ n. refl) (a .geometry) (a .reached) (c .before .before .before .before .before .before .before .before .before .before .pre .1 .1) len first (len / 2 + len % 2) (c .before .before .before .walk-chain2 .result) (c .before .before .before .walk-chain2 .ensures) (a .below) (omega arith) (omega arith) (c .before .if3 .taken) _ _ (c .walk-dir .ensures))
 
 walk-entry-returns-4 : (t : ℕ) → walk-entry-lts.Need-returns-4 (entry-calls t) (walk-entry-at t) walk-entry.Post
 walk-entry-returns-4 t c = rw (c .before .look .given .1) (refl, refl)
@@ -222,14 +222,14 @@ walk-entry-returns-7 t c =
     let a = c .before .before .before .before .before .before .before .before .args in
     let len = c .before .before .before .before .look2 .given .0 .0 in
     let first = c .before .before .before .before .look2 .given .0 .1 .0 in
-    rw (c .before .before .before .before .look2 .given .1) (file-bad (a .table .now) (c .before .before .before .before .before .before .before .before .pre .1 .0) (viewBy (a .offset) (a .table .now) (a .image .now)) (λ n. refl) (a .offset) (a .reached) (c .before .before .before .before .before .before .before .before .pre .1 .1) len first (len / 1024 + (len % 1024 + 1023) / 1024) (c .before .before .walk-chain .result) (c .before .before .walk-chain .ensures) (a .below) (omega arith) (c .if1 .left))
+    rw (c .before .before .before .before .look2 .given .1) (file-bad (a .table .now) (c .before .before .before .before .before .before .before .before .pre .1 .0) (viewBy (a .geometry) (a .table .now) (a .image .now)) (λ n. refl) (a .geometry) (a .reached) (c .before .before .before .before .before .before .before .before .pre .1 .1) len first (len / 1024 + (len % 1024 + 1023) / 1024) (c .before .before .walk-chain .result) (c .before .before .walk-chain .ensures) (a .below) (omega arith) (c .if1 .left))
 
 walk-entry-returns-8 : (t : ℕ) → walk-entry-lts.Need-returns-8 (entry-calls t) (walk-entry-at t) walk-entry.Post
 walk-entry-returns-8 t c =
     let a = c .before .before .before .before .before .before .before .before .before .args in
     let len = c .before .before .before .before .before .look3 .given .0 .0 in
     let first = c .before .before .before .before .before .look3 .given .0 .1 .0 in
-    rw (c .before .before .before .before .before .look3 .given .1) (directory-bad (a .table .now) (c .before .before .before .before .before .before .before .before .before .pre .1 .0) (viewBy (a .offset) (a .table .now) (a .image .now)) (λ n. refl) (a .offset) (a .reached) (c .before .before .before .before .before .before .before .before .before .pre .1 .1) len first (len / 2 + len % 2) (c .before .before .walk-chain2 .result) (c .before .before .walk-chain2 .ensures) (a .below) (omega arith) (omega arith) (c .if3 .left))
+    rw (c .before .before .before .before .before .look3 .given .1) (directory-bad (a .table .now) (c .before .before .before .before .before .before .before .before .before .pre .1 .0) (viewBy (a .geometry) (a .table .now) (a .image .now)) (λ n. refl) (a .geometry) (a .reached) (c .before .before .before .before .before .before .before .before .before .pre .1 .1) len first (len / 2 + len % 2) (c .before .before .walk-chain2 .result) (c .before .before .walk-chain2 .ensures) (a .below) (omega arith) (omega arith) (c .if3 .left))
 
 pub +walk-dir+walk-entry-spec : {M : Type 1} → statement M
 +walk-dir+walk-entry-spec = close μ-walk-dir μ-walk-entry (λ t. walk-dir-lts.spec (dir-calls t)

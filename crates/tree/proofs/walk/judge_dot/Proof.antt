@@ -11,15 +11,13 @@ use Rattle.tree.proofs.walk.judge_dot.Tie as tie
 read-slot-requires : tie.Need-read-slot-requires
 read-slot-requires c κs = search needs
 
-mul-t12 : tie.Need-mul-t12
-mul-t12 c = search needs
-
-add-t13 : tie.Need-add-t13
-add-t13 c = search needs
+image-page-requires : tie.Need-image-page-requires
+image-page-requires c κs = search needs
 
 returns : tie.Need-returns
 returns c =
-    dot-unread (viewBy (c .before .before .before .before .before .before .args .offset) (c .before .before .before .before .before .before .args .table .now) (c .before .before .before .before .before .before .args .image .now)) _ _ _ _ _ (unread (c .before .read-slot .ensures) (not-true _ (c .if1 .taken))) (omega arith)
+    let a = c .before .before .before .before .before .before .before .args in
+    dot-unread (viewBy (a .geometry) (a .table .now) (a .image .now)) _ _ _ _ _ (unread (c .before .before .read-slot .ensures) (not-true _ (c .before .if1 .taken))) (omega (arith, c .image-page .ensures))
 
 is-directory-requires : tie.Need-is-directory-requires
 is-directory-requires c κs = search needs
@@ -29,19 +27,18 @@ is-named-requires c κs = search needs
 
 returns-2 : tie.Need-returns-2
 returns-2 c =
-    dot-good (viewBy (c .before .before .before .before .before .before .before .before .before .before .before .args .offset) (c .before .before .before .before .before .before .before .before .before .before .before .args .table .now) (c .before .before .before .before .before .before .before .before .before .before .before .args .image .now)) _ _ _ _ _ (was-read (c .before .before .before .before .before .before .read-slot .ensures) (not-false _ (c .before .before .before .before .before .if1 .left))) _ _ (c .before .before .before .is-directory .ensures) (c .before .is-named .ensures) (c .if2 .taken)
+    dot-good (viewBy (c .before .before .before .before .before .before .before .before .before .before .before .args .geometry) (c .before .before .before .before .before .before .before .before .before .before .before .args .table .now) (c .before .before .before .before .before .before .before .before .before .before .before .args .image .now)) _ _ _ _ _ (was-read (c .before .before .before .before .before .before .read-slot .ensures) (not-false _ (c .before .before .before .before .before .if1 .left))) _ _ (c .before .before .before .is-directory .ensures) (c .before .is-named .ensures) (c .if2 .taken)
 
 returns-3 : tie.Need-returns-3
 returns-3 c =
-    dot-bad (viewBy (c .before .before .before .before .before .before .before .before .before .before .before .args .offset) (c .before .before .before .before .before .before .before .before .before .before .before .args .table .now) (c .before .before .before .before .before .before .before .before .before .before .before .args .image .now)) _ _ _ _ _ (was-read (c .before .before .before .before .before .before .read-slot .ensures) (not-false _ (c .before .before .before .before .before .if1 .left))) _ _ (c .before .before .before .is-directory .ensures) (c .before .is-named .ensures) (c .if2 .left)
+    dot-bad (viewBy (c .before .before .before .before .before .before .before .before .before .before .before .args .geometry) (c .before .before .before .before .before .before .before .before .before .before .before .args .table .now) (c .before .before .before .before .before .before .before .before .before .before .before .args .image .now)) _ _ _ _ _ (was-read (c .before .before .before .before .before .before .read-slot .ensures) (not-false _ (c .before .before .before .before .before .if1 .left))) _ _ (c .before .before .before .is-directory .ensures) (c .before .is-named .ensures) (c .if2 .left)
 
 pub judge-dot-spec : {M : Type 1} → statement M
 judge-dot-spec =
     tie.close
     (tie.spec
     read-slot-requires
-    mul-t12
-    add-t13
+    image-page-requires
     returns
     is-directory-requires
     is-named-requires

@@ -25,10 +25,10 @@ is-sound-requires c κs = search needs
 
 returns : tie.Need-returns
 returns c =
-    let v = viewBy (c .before .before .before .before .before .before .args .offset) (c .before .before .before .before .before .before .args .table .now) (c .before .before .before .before .before .before .args .image .now) in
+    let v = viewBy (c .before .before .before .before .before .before .args .geometry) (c .before .before .before .before .before .before .args .table .now) (c .before .before .before .before .before .before .args .image .now) in
     let f = c .before .before .before .before .before .before .args .first in
     let p : f * 2 ≡ 2 * f = omega arith in
-    dots-stop (c .before .before .before .before .before .before .args .offset) (λ x. judgeDot v dotDotName (2 * f + 1) (v .entry (2 * f + 1))) (judgeDot v dotName (2 * f) (v .entry (2 * f))) (c .before .before .judge-dot .result) (rw p at (c .before .before .judge-dot .ensures)) (sym (c .before .is-sound .ensures) ∙ not-true _ (c .if1 .taken))
+    dots-stop (c .before .before .before .before .before .before .args .geometry) (λ x. judgeDot v dotDotName (2 * f + 1) (v .entry (2 * f + 1))) (judgeDot v dotName (2 * f) (v .entry (2 * f))) (c .before .before .judge-dot .result) (rw p at (c .before .before .judge-dot .ensures)) (sym (c .before .is-sound .ensures) ∙ not-true _ (c .if1 .taken))
 
 add-judge-dot : tie.Need-add-judge-dot
 add-judge-dot c = search needs
@@ -41,10 +41,10 @@ judge-dot-requires-2 c κs = search needs
 
 returns-2 : tie.Need-returns-2
 returns-2 c =
-    let v = viewBy (c .before .before .before .before .before .before .before .before .args .offset) (c .before .before .before .before .before .before .before .before .args .table .now) (c .before .before .before .before .before .before .before .before .args .image .now) in
+    let v = viewBy (c .before .before .before .before .before .before .before .before .args .geometry) (c .before .before .before .before .before .before .before .before .args .table .now) (c .before .before .before .before .before .before .before .before .args .image .now) in
     let f = c .before .before .before .before .before .before .before .before .args .first in
     let p : f * 2 ≡ 2 * f = omega arith in
-    dots-go (c .before .before .before .before .before .before .before .before .args .offset) (λ x. judgeDot v dotDotName (2 * f + 1) (v .entry (2 * f + 1))) (judgeDot v dotName (2 * f) (v .entry (2 * f))) (c .before .before .before .before .judge-dot .result) (c .judge-dot2 .result) (rw p at (c .before .before .before .before .judge-dot .ensures)) (sym (c .before .before .before .is-sound .ensures) ∙ not-false _ (c .before .before .if1 .left)) (rw p at (c .judge-dot2 .ensures))
+    dots-go (c .before .before .before .before .before .before .before .before .args .geometry) (λ x. judgeDot v dotDotName (2 * f + 1) (v .entry (2 * f + 1))) (judgeDot v dotName (2 * f) (v .entry (2 * f))) (c .before .before .before .before .judge-dot .result) (c .judge-dot2 .result) (rw p at (c .before .before .before .before .judge-dot .ensures)) (sym (c .before .before .before .is-sound .ensures) ∙ not-false _ (c .before .before .if1 .left)) (rw p at (c .judge-dot2 .ensures))
 
 pub judge-dots-spec : {M : Type 1} → statement M
 judge-dots-spec =

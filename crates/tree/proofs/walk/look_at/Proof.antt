@@ -15,15 +15,13 @@ slot-page-requires c κs = search needs
 read-slot-requires : tie.Need-read-slot-requires
 read-slot-requires c κs = search needs
 
-mul-t15 : tie.Need-mul-t15
-mul-t15 c = search needs
-
-add-t16 : tie.Need-add-t16
-add-t16 c = search needs
+image-page-requires : tie.Need-image-page-requires
+image-page-requires c κs = search needs
 
 returns : tie.Need-returns
 returns c =
-    look-unread _ _ _ _ _ (c .before .before .before .before .before .before .pre .1) _ _ (c .before .before .before .before .before .before .pre .0) (c .before .before .before .slot-page .ensures .0) _ _ (unread (c .before .read-slot .ensures) (not-true _ (c .if1 .taken))) (omega arith)
+    let start = c .before .before .before .before .before .before .before in
+    look-unread _ _ _ _ _ (start .pre .1) _ _ (start .pre .0) (c .before .before .before .before .slot-page .ensures .0) _ _ (unread (c .before .before .read-slot .ensures) (not-true _ (c .before .if1 .taken))) (omega (arith, c .image-page .ensures, c .before .before .before .before .slot-page .ensures))
 
 is-live-requires : tie.Need-is-live-requires
 is-live-requires c κs = search needs
@@ -71,8 +69,7 @@ look-at-spec =
     (tie.spec
     slot-page-requires
     read-slot-requires
-    mul-t15
-    add-t16
+    image-page-requires
     returns
     is-live-requires
     returns-2

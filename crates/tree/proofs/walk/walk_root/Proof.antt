@@ -3,7 +3,7 @@ use mathlib.Core.Path.{_∙_, refl, sym}
 use Prim.Native.Nat.{_%_, _*_, _+_, _/_}
 use native.Mathlib.Omega.{arith}
 use borrow.Author.Tests.{not-false, not-true}
-use Rattle.layout.specs.See.{viewBy}
+use Rattle.layout.specs.See.{imagePage, viewBy}
 use Rattle.tree.proofs.LookLaws.{unread, was-read}
 use Rattle.tree.proofs.RootLaws.{root-bad, root-broken, root-good, root-sound, root-unread}
 use borrow.Author.Needs.{needs}
@@ -13,16 +13,16 @@ use Rattle.tree.proofs.walk.walk_root.Tie as tie
 read-slot-requires : tie.Need-read-slot-requires
 read-slot-requires c κs = search needs
 
-mul-t13 : tie.Need-mul-t13
-mul-t13 c = search needs
+image-page-requires : tie.Need-image-page-requires
+image-page-requires c κs = search needs
 
 new-requires : tie.Need-new-requires
 new-requires c κs = search needs
 
 returns : tie.Need-returns
 returns c =
-    let a = c .before .before .before .before .before .before .args in
-    root-unread (viewBy (a .offset) (a .table .now) (a .image .now)) (a .offset) (a .offset * 2) _ (unread (c .before .before .read-slot .ensures) (not-true _ (c .before .if1 .taken))) (omega arith)
+    let a = c .before .before .before .before .before .before .before .args in
+    root-unread (viewBy (a .geometry) (a .table .now) (a .image .now)) (a .geometry) (c .before .image-page .result) _ (unread (c .before .before .before .read-slot .ensures) (not-true _ (c .before .before .if1 .taken))) (omega (arith, c .before .image-page .ensures))
 
 is-root-requires : tie.Need-is-root-requires
 is-root-requires c κs = search needs
@@ -33,7 +33,7 @@ new-requires-2 c κs = search needs
 returns-2 : tie.Need-returns-2
 returns-2 c =
     let a = c .before .before .before .before .before .before .before .before .before .args in
-    root-bad (viewBy (a .offset) (a .table .now) (a .image .now)) (a .offset) _ (was-read (c .before .before .before .before .before .read-slot .ensures) (not-false _ (c .before .before .before .before .if1 .left))) _ (sym (c .before .before .is-root .ensures) ∙ not-true _ (c .before .if2 .taken))
+    root-bad (viewBy (a .geometry) (a .table .now) (a .image .now)) (a .geometry) _ (was-read (c .before .before .before .before .before .read-slot .ensures) (not-false _ (c .before .before .before .before .if1 .left))) _ (sym (c .before .before .is-root .ensures) ∙ not-true _ (c .before .if2 .taken))
 
 word-at-requires : tie.Need-word-at-requires
 word-at-requires c κs = search needs
@@ -51,26 +51,26 @@ returns-3 : tie.Need-returns-3
 returns-3 c =
     let a = c .before .before .before .before .before .before .before .before .before .before .before .before .before .before .before .args in
     let n = c .before .before .before .before .before .word-at .result in
-    root-broken (viewBy (a .offset) (a .table .now) (a .image .now)) (a .offset) _ (was-read (c .before .before .before .before .before .before .before .before .before .before .before .read-slot .ensures) (not-false _ (c .before .before .before .before .before .before .before .before .before .before .if1 .left))) (sym (c .before .before .before .before .before .before .before .before .is-root .ensures) ∙ not-false _ (c .before .before .before .before .before .before .before .if2 .left)) (a .table .now) (c .before .before .before .before .before .before .before .before .before .before .before .before .before .before .before .pre) (λ x. refl) (n / 2 + n % 2) (omega (arith, c .before .before .before .before .before .word-at .ensures)) _ (c .before .before .before .before .new3 .ensures) (c .before .before .before .walk-chain .result) (c .before .before .before .walk-chain .ensures) (not-true _ (c .if3 .taken))
+    root-broken (viewBy (a .geometry) (a .table .now) (a .image .now)) (a .geometry) _ (was-read (c .before .before .before .before .before .before .before .before .before .before .before .read-slot .ensures) (not-false _ (c .before .before .before .before .before .before .before .before .before .before .if1 .left))) (sym (c .before .before .before .before .before .before .before .before .is-root .ensures) ∙ not-false _ (c .before .before .before .before .before .before .before .if2 .left)) (a .table .now) (c .before .before .before .before .before .before .before .before .before .before .before .before .before .before .before .pre) (λ x. refl) (n / 2 + n % 2) (omega (arith, c .before .before .before .before .before .word-at .ensures)) _ (c .before .before .before .before .new3 .ensures) (c .before .before .before .walk-chain .result) (c .before .before .before .walk-chain .ensures) (not-true _ (c .if3 .taken))
 
 walk-dir-requires : tie.Need-walk-dir-requires
 walk-dir-requires c κs =
     let a = c .before .before .before .before .before .before .before .before .before .before .before .before .before .before .before .args in
     let n = c .before .before .before .before .before .word-at .result in
-    (c .before .before .before .before .before .before .before .before .before .before .before .before .before .before .before .pre, root-sound (viewBy (a .offset) (a .table .now) (a .image .now)) (a .offset) _ (was-read (c .before .before .before .before .before .before .before .before .before .before .before .read-slot .ensures) (not-false _ (c .before .before .before .before .before .before .before .before .before .before .if1 .left))) (sym (c .before .before .before .before .before .before .before .before .is-root .ensures) ∙ not-false _ (c .before .before .before .before .before .before .before .if2 .left)) (a .table .now) (c .before .before .before .before .before .before .before .before .before .before .before .before .before .before .before .pre) (λ x. refl) (n / 2 + n % 2) (omega (arith, c .before .before .before .before .before .word-at .ensures)) _ (c .before .before .before .before .new3 .ensures) (c .before .before .before .walk-chain .result) (c .before .before .before .walk-chain .ensures) (not-false _ (c .if3 .left)))
+    (c .before .before .before .before .before .before .before .before .before .before .before .before .before .before .before .pre, root-sound (viewBy (a .geometry) (a .table .now) (a .image .now)) (a .geometry) _ (was-read (c .before .before .before .before .before .before .before .before .before .before .before .read-slot .ensures) (not-false _ (c .before .before .before .before .before .before .before .before .before .before .if1 .left))) (sym (c .before .before .before .before .before .before .before .before .is-root .ensures) ∙ not-false _ (c .before .before .before .before .before .before .before .if2 .left)) (a .table .now) (c .before .before .before .before .before .before .before .before .before .before .before .before .before .before .before .pre) (λ x. refl) (n / 2 + n % 2) (omega (arith, c .before .before .before .before .before .word-at .ensures)) _ (c .before .before .before .before .new3 .ensures) (c .before .before .before .walk-chain .result) (c .before .before .before .walk-chain .ensures) (not-false _ (c .if3 .left)))
 
 returns-4 : tie.Need-returns-4
 returns-4 c =
     let a = c .before .before .before .before .before .before .before .before .before .before .before .before .before .before .before .before .args in
     let n = c .before .before .before .before .before .before .word-at .result in
-    root-good (viewBy (a .offset) (a .table .now) (a .image .now)) (a .offset) _ (was-read (c .before .before .before .before .before .before .before .before .before .before .before .before .read-slot .ensures) (not-false _ (c .before .before .before .before .before .before .before .before .before .before .before .if1 .left))) (sym (c .before .before .before .before .before .before .before .before .before .is-root .ensures) ∙ not-false _ (c .before .before .before .before .before .before .before .before .if2 .left)) (a .table .now) (c .before .before .before .before .before .before .before .before .before .before .before .before .before .before .before .before .pre) (λ x. refl) (n / 2 + n % 2) (omega (arith, c .before .before .before .before .before .before .word-at .ensures)) _ (c .before .before .before .before .before .new3 .ensures) (c .before .before .before .before .walk-chain .result) (c .before .before .before .before .walk-chain .ensures) (not-false _ (c .before .if3 .left)) _ _ (rw (c .before .before .before .before .before .before .word-at .ensures) at (c .walk-dir .ensures))
+    root-good (viewBy (a .geometry) (a .table .now) (a .image .now)) (a .geometry) _ (was-read (c .before .before .before .before .before .before .before .before .before .before .before .before .read-slot .ensures) (not-false _ (c .before .before .before .before .before .before .before .before .before .before .before .if1 .left))) (sym (c .before .before .before .before .before .before .before .before .before .is-root .ensures) ∙ not-false _ (c .before .before .before .before .before .before .before .before .if2 .left)) (a .table .now) (c .before .before .before .before .before .before .before .before .before .before .before .before .before .before .before .before .pre) (λ x. refl) (n / 2 + n % 2) (omega (arith, c .before .before .before .before .before .before .word-at .ensures)) _ (c .before .before .before .before .before .new3 .ensures) (c .before .before .before .before .walk-chain .result) (c .before .before .before .before .walk-chain .ensures) (not-false _ (c .before .if3 .left)) _ _ (rw (c .before .before .before .before .before .before .word-at .ensures) at (c .walk-dir .ensures))
 
 pub walk-root-spec : {M : Type 1} → statement M
 walk-root-spec =
     tie.close
     (tie.spec
     read-slot-requires
-    mul-t13
+    image-page-requires
     new-requires
     returns
     is-root-requires

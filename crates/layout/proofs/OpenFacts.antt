@@ -25,10 +25,10 @@ use Rattle.layout.proofs.UpTo.{length-upTo}
 
 -- ---- the guards that an open card passed
 pub record GoodTable (image : List ℕ) (s : Superblock) : Type 0 where
-  pub indirect-good : inRange (s .offset) (s .indirect) ≡ true
+  pub indirect-good : inRange (s .geometry .offset) (s .indirect) ≡ true
   pub first-read : Readable image (2 * s .indirect)
   pub second-read : Readable image (2 * s .indirect + 1)
-  pub names-good : goodTableNames (s .offset) (s .indirect ∷ []) (namesOf image s) ≡ true
+  pub names-good : goodTableNames (s .geometry .offset) (s .indirect ∷ []) (namesOf image s) ≡ true
   pub table-read : (t : ℕ) → t < 2 * tableClusters (s .end) → Readable image (tablePage (namesOf image s) t)
 
 pub record GoodCard (image : List ℕ) (s : Superblock) : Type 0 where
@@ -45,10 +45,10 @@ many image s = length-upTo (λ i. word (dataOf (pageAt image (2 * s .indirect)) 
 pub table-good : (image : List ℕ) (s a : Superblock) → openTable image s ≡ ok a → (s ≡ a) × GoodTable image s
 unfolding openTable
 table-good image s a e =
-    let name = unless-ok (inRange (s .offset) (s .indirect)) 5 _ a e in
+    let name = unless-ok (inRange (s .geometry .offset) (s .indirect)) 5 _ a e in
     let first = page-ok (2 * s .indirect) (pageAt image (2 * s .indirect)) _ a (name .1) in
     let second = page-ok (2 * s .indirect + 1) (pageAt image (2 * s .indirect + 1)) _ a (first .1) in
-    let names = unless-ok (goodTableNames (s .offset) (s .indirect ∷ []) (namesOf image s)) 5 _ a (second .1) in
+    let names = unless-ok (goodTableNames (s .geometry .offset) (s .indirect ∷ []) (namesOf image s)) 5 _ a (second .1) in
     let pages = pages-ok image (pagesOf (namesOf image s)) (ok s) a (names .1) in (
       same-ok s a (pages .0),
       record {
@@ -99,7 +99,7 @@ pub record Numbers (bytes : ℕ) (s : Superblock) : Type 0 where
   pub least : leastClusters ≤ s .clusters
   pub most : s .clusters ≤ mostClusters
   pub some-end : 1 ≤ s .end
-  pub room : s .offset + s .end ≤ s .clusters
+  pub room : s .geometry .offset + s .end ≤ s .clusters
 
 numbers : (bytes : ℕ) (page : List ℕ) → goodLength bytes ≡ true → goodSuperblock (clustersIn bytes) page ≡ true → Numbers bytes (superblockOf page)
 numbers bytes page l n = go (superblockOf page) (and-r (fixedNumbers page) _ (and-r (goodVersion page) _ n))
@@ -113,7 +113,7 @@ numbers bytes page l n = go (superblockOf page) (and-r (fixedNumbers page) _ (an
         let count : s .clusters ≡ bytes / 1056 = eqb-true (s .clusters) (bytes / 1056) (and-l _ _ g) in
         let more = and-r (eqb (s .clusters) (bytes / 1056)) _ g in
         let some : 1 ≤ s .end = leb-true 1 (s .end) (and-l _ _ more) in
-        let fits : s .offset + s .end ≤ bytes / 1056 = leb-true (s .offset + s .end) (bytes / 1056) (and-l _ _ (and-r (leb 1 (s .end)) _ more)) in
+        let fits : s .geometry .offset + s .end ≤ bytes / 1056 = leb-true (s .geometry .offset + s .end) (bytes / 1056) (and-l _ _ (and-r (leb 1 (s .end)) _ more)) in
         record {
           long = omega arith;
           clusters-are = count;
@@ -139,12 +139,12 @@ pub record Geometry (image : List ℕ) (s : Superblock) : Type 0 where
   pub most : s .clusters ≤ mostClusters
   -- the allocatable clusters lie in the image
   pub some-end : 1 ≤ s .end
-  pub room : s .offset + s .end ≤ s .clusters
+  pub room : s .geometry .offset + s .end ≤ s .clusters
   -- the indirect cluster and the table's clusters lie before them, after cluster 0, and are all different
   pub indirect-above : 1 ≤ s .indirect
-  pub indirect-below : s .indirect < s .offset
+  pub indirect-below : s .indirect < s .geometry .offset
   pub many : length (namesOf image s) ≡ tableClusters (s .end)
-  pub range : (i : ℕ) → i < tableClusters (s .end) → (1 ≤ getD (namesOf image s) i 0) × (getD (namesOf image s) i 0 < s .offset)
+  pub range : (i : ℕ) → i < tableClusters (s .end) → (1 ≤ getD (namesOf image s) i 0) × (getD (namesOf image s) i 0 < s .geometry .offset)
   pub apart : (i : ℕ) → i < tableClusters (s .end) → getD (namesOf image s) i 0 ≡ s .indirect → ⊥
   pub once : (i j : ℕ) → i < tableClusters (s .end) → j < tableClusters (s .end)
       → getD (namesOf image s) i 0 ≡ getD (namesOf image s) j 0 → i ≡ j
@@ -163,8 +163,8 @@ open-facts image s e = go (card-good image s e)
         let n = card-numbers image s g in
         let t = g .table in
         let size = many image s in
-        let name : (i : ℕ) → i < tableClusters (s .end) → Named (s .offset) (s .indirect ∷ []) (getD (namesOf image s) i 0) =
-        λ i h. name-good (s .offset) (s .indirect ∷ []) (namesOf image s) (t .names-good) i (omega arith) in
+        let name : (i : ℕ) → i < tableClusters (s .end) → Named (s .geometry .offset) (s .indirect ∷ []) (getD (namesOf image s) i 0) =
+        λ i h. name-good (s .geometry .offset) (s .indirect ∷ []) (namesOf image s) (t .names-good) i (omega arith) in
         record {
           long = n .long;
           clusters-are = n .clusters-are;
@@ -172,12 +172,12 @@ open-facts image s e = go (card-good image s e)
           most = n .most;
           some-end = n .some-end;
           room = n .room;
-          indirect-above = leb-true 1 (s .indirect) (and-l (leb 1 (s .indirect)) (ltb (s .indirect) (s .offset)) (t .indirect-good));
-          indirect-below = ltb-true (s .indirect) (s .offset) (and-r (leb 1 (s .indirect)) (ltb (s .indirect) (s .offset)) (t .indirect-good));
+          indirect-above = leb-true 1 (s .indirect) (and-l (leb 1 (s .indirect)) (ltb (s .indirect) (s .geometry .offset)) (t .indirect-good));
+          indirect-below = ltb-true (s .indirect) (s .geometry .offset) (and-r (leb 1 (s .indirect)) (ltb (s .indirect) (s .geometry .offset)) (t .indirect-good));
           many = size;
           range = λ i h. (name i h .0, name i h .1);
           apart = λ i h q. let z : times (s .indirect ∷ []) (s .indirect) ≡ 0 = rw q at (name i h .2) in omega (arith, hit-self (s .indirect));
-          once = λ i j h k. name-once (s .offset) (s .indirect ∷ []) (namesOf image s) (t .names-good) i j (omega arith) (omega arith);
+          once = λ i j h k. name-once (s .geometry .offset) (s .indirect ∷ []) (namesOf image s) (t .names-good) i j (omega arith) (omega arith);
           superblock-read = g .page-read;
           superblock-is = g .superblock;
           first-read = t .first-read;
