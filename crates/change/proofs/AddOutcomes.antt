@@ -43,7 +43,7 @@ use Rattle.change.proofs.ChainWords.{last-times}
 use Rattle.change.proofs.ChangedLaws.{checked-parts}
 use Rattle.change.proofs.ChangedView.{end-is, no-words}
 use Rattle.change.proofs.FreeLaws as free
-use Rattle.change.proofs.PlanPages.{few}
+use Rattle.model.proofs.NewEntries.{few}
 use Rattle.change.proofs.SiteFacts.{last-is}
 use Rattle.change.proofs.Sites.{Site}
 

@@ -17,7 +17,7 @@ use Rattle.model.specs.Entry.{Entry, clustersFor, entryOf}
 use Rattle.model.specs.Lookup.{firstDead}
 use Rattle.model.specs.Names.{Path}
 use Rattle.model.specs.Pages.{alteredPage, dataPages, entryPage, newPage, zeroPage}
-use Rattle.model.specs.Plan.{Filling, adding, firstOf, freeBelow, growthClusters, growthWithOne, lengthWithOne, newEntry, ownClusters, takeable, withLength}
+use Rattle.model.specs.Plan.{Filling, adding, firstOf, freeClusters, growthClusters, growthWithOne, lengthWithOne, made, newEntry, ownClusters, withLength}
 use Rattle.model.specs.Tree.{Root, Slot, entryPages}
 use Rattle.model.specs.View.{View, pagesOf}
 use Rattle.model.specs.Writes.{PageWrite, clusterWrites, pageWrites}
@@ -26,12 +26,12 @@ use Rattle.change.specs.Changed.{rulesOf}
 use Rattle.change.specs.Deeds.{addedWrites, growthBy, growthOf, lastOf, lengthBy, pageBy, takenOf}
 use Rattle.change.specs.Words.{freeList}
 use Rattle.change.proofs.AddPlans.{DeadAt, growth-is, length-is, page-is}
-use Rattle.change.proofs.Sites.{Site}
+use Rattle.change.proofs.Sites.{Site, directoryAt}
 
 module _ (image : List ℕ) (s : Superblock) (opened : openCard image ≡ ok s) (root : Root) (p : Path) (at first : ℕ) (page : List ℕ)
     (site : Site (see s image) (tableOf image s) root p at first page) (dead : Place) (d : DeadAt (entryPages (Slot.directory (entryOf page) (site .chain))) (site .slots) dead)
     (last-is : clusterAt (tableOf image s) first ((entryOf page) .length - 1) ≡ getD (site .chain) (length (site .chain) - 1) 0)
-    (free-is : freeBelow (takeable (λ c. true) ((see s image) .link)) ((rulesOf s) .allocEnd) ≡ freeList (tableOf image s)) where
+    (free-is : freeClusters (rulesOf s) (see s image) ≡ freeList (tableOf image s)) where
   abbrev v : View
   v = see s image
 
@@ -44,10 +44,10 @@ module _ (image : List ℕ) (s : Superblock) (opened : openCard image ≡ ok s) 
   grows : growthWithOne (entryOf page) (site .slots) ≡ growthBy dead (word page 4)
   grows = growth-is (entryOf page) (site .chain) (site .slots) (see s image) (site .below) (site .two) (site .long) (site .held) dead d
 
-  pub grown-so : growthClusters ((rulesOf s) .allocEnd) (λ c. true) (see s image) (growthWithOne (entryOf page) (site .slots)) ≡ growthOf (tableOf image s) page dead
+  pub grown-so : growthClusters (rulesOf s) (see s image) (growthWithOne (entryOf page) (site .slots)) ≡ growthOf (tableOf image s) page dead
   grown-so = ap₂ (λ n l. take n l) grows free-is
 
-  pub own-so : (bytes : List ℕ) → ownClusters ((rulesOf s) .allocEnd) (λ c. true) (see s image) (growthWithOne (entryOf page) (site .slots)) (clustersFor (length bytes)) ≡ takenOf (tableOf image s) page dead bytes
+  pub own-so : (bytes : List ℕ) → ownClusters (rulesOf s) (see s image) (growthWithOne (entryOf page) (site .slots)) (clustersFor (length bytes)) ≡ takenOf (tableOf image s) page dead bytes
   own-so bytes = ap₂ (λ n l. take (clustersFor (length bytes)) (drop n l)) grows free-is
 
   -- with room for the growth
@@ -56,7 +56,7 @@ module _ (image : List ℕ) (s : Superblock) (opened : openCard image ≡ ok s) 
     growth-long = length-take-le (growthBy dead (word page 4)) (freeList (tableOf image s)) room
 
     slot-so : getD (entryPages (Slot.directory (withLength (entryOf page) (lengthWithOne (entryOf page) (site .slots)))
-        (site .chain ++ growthClusters ((rulesOf s) .allocEnd) (λ c. true) (see s image) (growthWithOne (entryOf page) (site .slots))))) (firstDead (site .slots)) 0
+        (site .chain ++ growthClusters (rulesOf s) (see s image) (growthWithOne (entryOf page) (site .slots))))) (firstDead (site .slots)) 0
         ≡ pageBy dead (lastOf (tableOf image s) first page) (growthOf (tableOf image s) page dead)
     slot-so =
         ap (λ g. getD (entryPages (Slot.directory (withLength (entryOf page) (lengthWithOne (entryOf page) (site .slots))) (site .chain ++ g))) (firstDead (site .slots)) 0) grown-so
@@ -64,9 +64,9 @@ module _ (image : List ℕ) (s : Superblock) (opened : openCard image ≡ ok s) 
         ∙ ap (λ l. pageBy dead l (growthOf (tableOf image s) page dead)) (sym last-is)
 
     pub added-writes : (f : List ℕ → Filling) (mode size : ℕ) (time name bytes : List ℕ)
-        → ((own : List ℕ) → (f own) .takenPages ≡ dataPages bytes) → ((own : List ℕ) → (f own) .isNew ≡ true)
-        → ((own : List ℕ) → (f own) .slotEntry ≡ newEntry mode size (firstOf own) 0 time name)
-        → pageWrites (see s image) (adding (rulesOf s) (see s image) at (entryOf page) (site .chain) (site .slots) (clustersFor (length bytes)) f)
+        → ((own : List ℕ) → (f own) .pages ≡ dataPages bytes) → ((own : List ℕ) → (f own) .isNew ≡ true)
+        → ((own : List ℕ) → (f own) .entry ≡ newEntry mode size (firstOf own) 0 time name)
+        → pageWrites (see s image) (made (rulesOf s) (see s image) (directoryAt site) (adding (directoryAt site) (site .slots) (clustersFor (length bytes)) f))
         ≡ addedWrites (tableOf image s) first page dead at mode size time name bytes
     unfolding entryPage
     added-writes f mode size time name bytes pages new entry =
@@ -75,11 +75,11 @@ module _ (image : List ℕ) (s : Superblock) (opened : openCard image ≡ ok s) 
         (ap₂ (λ x z. x ++ z) (ap₂ (λ o d. clusterWrites (pagesOf o) d) (own-so bytes) (pages own)) (ap₂ (λ (x z : PageWrite). x ∷ z ∷ []) directory slot))
       where
         own : List ℕ
-        own = ownClusters ((rulesOf s) .allocEnd) (λ c. true) (see s image) (growthWithOne (entryOf page) (site .slots)) (clustersFor (length bytes))
+        own = ownClusters (rulesOf s) (see s image) (growthWithOne (entryOf page) (site .slots)) (clustersFor (length bytes))
 
         at-slot : ℕ
         at-slot = getD (entryPages (Slot.directory (withLength (entryOf page) (lengthWithOne (entryOf page) (site .slots)))
-            (site .chain ++ growthClusters ((rulesOf s) .allocEnd) (λ c. true) (see s image) (growthWithOne (entryOf page) (site .slots))))) (firstDead (site .slots)) 0
+            (site .chain ++ growthClusters (rulesOf s) (see s image) (growthWithOne (entryOf page) (site .slots))))) (firstDead (site .slots)) 0
 
         directory : _≡_ {A = PageWrite} (record { always = false; page = at; bytes = entryPage false ((see s image) .page at) (withLength (entryOf page) (lengthWithOne (entryOf page) (site .slots))) })
             (record { always = false; page = at; bytes = alteredPage page (withLength (entryOf page) (lengthBy dead (word page 4))) })
@@ -87,8 +87,8 @@ module _ (image : List ℕ) (s : Superblock) (opened : openCard image ≡ ok s) 
             ap₂ (λ o n. record { always = false; page = at; bytes = entryPage false o (withLength (entryOf page) n) }) (site .read)
             (length-is (entryOf page) (site .chain) (site .slots) (see s image) (site .below) (site .two) (site .long) (site .held) dead d)
 
-        slot : _≡_ {A = PageWrite} (record { always = (f own) .isNew; page = at-slot; bytes = entryPage ((f own) .isNew) ((see s image) .page at-slot) ((f own) .slotEntry) })
+        slot : _≡_ {A = PageWrite} (record { always = (f own) .isNew; page = at-slot; bytes = entryPage ((f own) .isNew) ((see s image) .page at-slot) ((f own) .entry) })
             (record { always = true; page = pageBy dead (lastOf (tableOf image s) first page) (growthOf (tableOf image s) page dead); bytes = newPage (newEntry mode size (firstOf (takenOf (tableOf image s) page dead bytes)) 0 time name) })
         slot =
-            ap (λ b. record { always = b; page = at-slot; bytes = entryPage b ((see s image) .page at-slot) ((f own) .slotEntry) }) (new own)
+            ap (λ b. record { always = b; page = at-slot; bytes = entryPage b ((see s image) .page at-slot) ((f own) .entry) }) (new own)
             ∙ ap₂ (λ q x. record { always = true; page = q; bytes = newPage x }) slot-so (entry own ∙ ap (λ o. newEntry mode size (firstOf o) 0 time name) (own-so bytes))

@@ -22,7 +22,7 @@ use Rattle.model.specs.Holds.{HoldsCard}
 use Rattle.model.specs.Lookup.{absent, firstDead, found, lookIn}
 use Rattle.model.specs.Names.{Path, dotDotName, dotName, lastName}
 use Rattle.model.specs.Pages.{dataPages, entryPage, newPage}
-use Rattle.model.specs.Plan.{Filling, Plan, adding, firstOf, growthClusters, growthWithOne, newDirectory, newEntry, newFile, ownClusters, planAt, planOf}
+use Rattle.model.specs.Plan.{Filling, Plan, adding, firstOf, growthClusters, growthWithOne, made, newDirectory, newEntry, newFile, ownClusters, planAt, planOf}
 use Rattle.model.specs.Refusal.{first, own, refusal, static}
 use Rattle.model.specs.Tree.{Root, Slot, entryPages, times}
 use Rattle.model.specs.Writes.{chainWords, pageWrites, wordsAfter}
@@ -44,7 +44,7 @@ use Rattle.change.specs.Image.{Lands}
 use Rattle.change.proofs.PlanTable.{same-words}
 use Rattle.change.proofs.SiteFacts.{free-is, last-is, last-of-chain, two-pages}
 use Rattle.change.proofs.SiteRefusals.{refusal-here}
-use Rattle.change.proofs.Sites.{Site}
+use Rattle.change.proofs.Sites.{Site, directoryAt}
 
 -- what is learnt of an accepted plan
 module _ (image : List ℕ) (s : Superblock) (root : Root) (m : Marks) (checked : checkImage image ≡ ok (s, root, m)) where
@@ -87,19 +87,19 @@ module _ (image : List ℕ) (s : Superblock) (root : Root) (m : Marks) (checked 
       -- accepted, with a filling that is a new entry
       module _ (free : own c (lookIn (site .slots) (lastName (path c) ∷ [])) ≡ 0) (room : size c + growthBy dead (word page 4) ≤ length (freeList (tableOf image s)))
           (f : List ℕ → Filling) (mode count : ℕ) (time name bytes : List ℕ) (many : size c ≡ clustersFor (length bytes))
-          (plan-so : planOf (rulesOf s) c (see s image) root ≡ some (adding (rulesOf s) (see s image) at (entryOf page) (site .chain) (site .slots) (clustersFor (length bytes)) f))
-          (pages : (own : List ℕ) → (f own) .takenPages ≡ dataPages bytes) (new : (own : List ℕ) → (f own) .isNew ≡ true)
-          (entry : (own : List ℕ) → (f own) .slotEntry ≡ newEntry mode count (firstOf own) 0 time name) where
+          (plan-so : planOf (rulesOf s) c (see s image) root ≡ some (made (rulesOf s) (see s image) (directoryAt site) (adding (directoryAt site) (site .slots) (clustersFor (length bytes)) f)))
+          (pages : (own : List ℕ) → (f own) .pages ≡ dataPages bytes) (new : (own : List ℕ) → (f own) .isNew ≡ true)
+          (entry : (own : List ℕ) → (f own) .entry ≡ newEntry mode count (firstOf own) 0 time name) where
         plan : Plan
-        plan = adding (rulesOf s) (see s image) at (entryOf page) (site .chain) (site .slots) (clustersFor (length bytes)) f
+        plan = made (rulesOf s) (see s image) (directoryAt site) (adding (directoryAt site) (site .slots) (clustersFor (length bytes)) f)
 
         none-met : refusal (rulesOf s) c (see s image) root ≡ 0
         none-met = added-refusal ∙ rw (free, le-leb _ _ room)
 
-        deed : Deed (rulesOf s) (see s image) root (adding (rulesOf s) (see s image) at (entryOf page) (site .chain) (site .slots) (clustersFor (length bytes)) f)
+        deed : Deed (rulesOf s) (see s image) root (made (rulesOf s) (see s image) (directoryAt site) (adding (directoryAt site) (site .slots) (clustersFor (length bytes)) f))
         deed = deed-of c none-met _ plan-so
 
-        written : pageWrites (see s image) (adding (rulesOf s) (see s image) at (entryOf page) (site .chain) (site .slots) (clustersFor (length bytes)) f)
+        written : pageWrites (see s image) (made (rulesOf s) (see s image) (directoryAt site) (adding (directoryAt site) (site .slots) (clustersFor (length bytes)) f))
             ≡ addedWrites (tableOf image s) first′ page dead at mode count time name bytes
         written =
             added-writes image s opened root (path c) at first′ page site dead d (last-of-chain image s opened root (path c) at first′ page site) (free-is image s opened)
@@ -108,7 +108,7 @@ module _ (image : List ℕ) (s : Superblock) (root : Root) (m : Marks) (checked 
         pub added-lands : Lands (s .end) (addedWrites (tableOf image s) first′ page dead at mode count time name bytes)
         added-lands = lands-as image s root m checked c none-met _ plan-so _ written
 
-        worded : (x : ℕ) → x < s .end → wordsAfter (adding (rulesOf s) (see s image) at (entryOf page) (site .chain) (site .slots) (clustersFor (length bytes)) f) (λ c. getD (tableOf image s) c 0) x
+        worded : (x : ℕ) → x < s .end → wordsAfter (made (rulesOf s) (see s image) (directoryAt site) (adding (directoryAt site) (site .slots) (clustersFor (length bytes)) f)) (λ c. getD (tableOf image s) c 0) x
             ≡ getD (addedTable (tableOf image s) first′ page dead bytes) x 0
         worded x h =
             ap₂ (λ g o. chainWords (site .chain ++ g) (chainWords o (λ c. getD (tableOf image s) c 0)) x) grown own-is
@@ -117,10 +117,10 @@ module _ (image : List ℕ) (s : Superblock) (root : Root) (m : Marks) (checked 
             (λ c. omega (arith, apart c)) (growthOf (tableOf image s) page dead) (lastOf (tableOf image s) first′ page) (omega (arith, length-take (growthBy dead (word page 4)) (freeList (tableOf image s)), growth-small dead (word page 4)))
             (λ c. omega (arith, apart c)) (last-is image s opened root (path c) at first′ page site) x (omega (arith, length-table image s))
           where
-            grown : growthClusters ((rulesOf s) .allocEnd) (λ c. true) (see s image) (growthWithOne (entryOf page) (site .slots)) ≡ growthOf (tableOf image s) page dead
+            grown : growthClusters (rulesOf s) (see s image) (growthWithOne (entryOf page) (site .slots)) ≡ growthOf (tableOf image s) page dead
             grown = grown-so image s opened root (path c) at first′ page site dead d (last-of-chain image s opened root (path c) at first′ page site) (free-is image s opened)
 
-            own-is : ownClusters ((rulesOf s) .allocEnd) (λ c. true) (see s image) (growthWithOne (entryOf page) (site .slots)) (clustersFor (length bytes)) ≡ takenOf (tableOf image s) page dead bytes
+            own-is : ownClusters (rulesOf s) (see s image) (growthWithOne (entryOf page) (site .slots)) (clustersFor (length bytes)) ≡ takenOf (tableOf image s) page dead bytes
             own-is = own-so image s opened root (path c) at first′ page site dead d (last-of-chain image s opened root (path c) at first′ page site) (free-is image s opened) bytes
 
             apart : (c : ℕ) → times (first′ ∷ site .rest) c + (times (takenOf (tableOf image s) page dead bytes) c + times (growthOf (tableOf image s) page dead) c) ≤ 1
@@ -180,7 +180,7 @@ module _ (image : List ℕ) (s : Superblock) (root : Root) (m : Marks) (checked 
   numbered : 2 + firstDead (site .slots) ≡ numberBy dead (word page 4)
   numbered = number-is (entryOf page) (site .chain) (site .slots) (see s image) (site .below) (site .two) (site .long) (site .held) dead d
 
-  filled : (own : List ℕ) → (newDirectory (lastName p) time (firstOf (site .chain)) (2 + firstDead (site .slots)) own) .takenPages ≡ dataPages (dot-page first (numberBy dead (word page 4)) ++ up-page)
+  filled : (own : List ℕ) → (newDirectory (lastName p) time (firstOf (site .chain)) (2 + firstDead (site .slots)) own) .pages ≡ dataPages (dot-page first (numberBy dead (word page 4)) ++ up-page)
   unfolding entryPage
   filled own =
       ap₂ (λ a b. some (dot-page a b) ∷ some up-page ∷ []) begins numbered
@@ -192,7 +192,7 @@ module _ (image : List ℕ) (s : Superblock) (root : Root) (m : Marks) (checked 
       let f = newDirectory (lastName p) time (firstOf (site .chain)) (2 + firstDead (site .slots)) in
       let plan =
       planned-at image s root m checked (makeDirectory p time) fine at first page site
-      ∙ ap (λ k. some (adding (rulesOf s) (see s image) at (entryOf page) (site .chain) (site .slots) k f)) (sym one-cluster) in
+      ∙ ap (λ k. some (made (rulesOf s) (see s image) (directoryAt site) (adding (directoryAt site) (site .slots) k f))) (sym one-cluster) in
       record {
         lands = added-lands image s root m checked (makeDirectory p time) fine at first page site refl dead d lacks room f directoryMode 2 time (lastName p) dots (sym one-cluster) plan filled (λ o. refl) (λ o. refl);
         done = added-done image s root m checked (makeDirectory p time) fine at first page site refl dead d lacks room f directoryMode 2 time (lastName p) dots (sym one-cluster) plan filled (λ o. refl) (λ o. refl);

@@ -12,14 +12,13 @@ use Rattle.layout.specs.Table.{openCard}
 use Rattle.model.specs.Bytes.{word}
 use Rattle.model.specs.Check.{fault, ok}
 use Rattle.model.specs.Entry.{clustersFor, entryOf, isDirectory}
-use Rattle.model.specs.Pages.{alteredPage}
+use Rattle.model.specs.Pages.{alteredEntry, alteredPage}
 use Rattle.model.specs.Plan.{firstOf, killed, withLength}
 use Rattle.model.specs.Tree.{times}
 use Rattle.model.specs.View.{topBit}
 use Rattle.change.specs.Calls.{CanReplace, replacedEntry}
 use Rattle.change.specs.Deeds.{imageBy, keptDirectory, relinked, removedTable, removedWrites, replacedTable, replacedWrites, writesOf}
 use Rattle.change.specs.Image.{Lands}
-use Rattle.change.specs.Pages.{alteredEntry}
 use Rattle.change.specs.Words.{freeList}
 use Rattle.change.proofs.CallLaws.{Says}
 use Rattle.change.proofs.FreeLaws.{free-few, taken-low}

@@ -21,7 +21,7 @@ use Rattle.model.specs.Holds.{Chain, HoldsSlot, HoldsSlots}
 use Rattle.model.specs.Lookup.{found, indexOf, isNamed, lookIn}
 use Rattle.model.specs.Names.{Name, Path, lastName}
 use Rattle.model.specs.Pages.{decoded}
-use Rattle.model.specs.Plan.{Filling, changing, growthWithOne, newContents, planFor, planOf, removal}
+use Rattle.model.specs.Plan.{Filling, altering, editFor, growthWithOne, made, newContents, planBy, planOf, removal}
 use Rattle.model.specs.Refusal.{first, own, refusal, static}
 use Rattle.model.specs.Tree.{Root, Slot, Tree, deadSlots, entryPages, slotCount, times}
 use Rattle.model.specs.View.{Link, View, firstLink}
@@ -42,7 +42,7 @@ use Rattle.change.specs.Image.{Lands}
 use Rattle.change.proofs.PlanTable.{same-words}
 use Rattle.change.proofs.SiteFacts.{free-is}
 use Rattle.change.proofs.SiteRefusals.{refusal-here}
-use Rattle.change.proofs.Sites.{Site}
+use Rattle.change.proofs.Sites.{Site, directoryAt}
 
 -- the chain that an entry's first cluster leads to, as the code steps through it
 pub entry-follows : (v : View) (t : List ℕ) → ((c : ℕ) → v .link c ≡ tableLinks t c) → (e : Entry) (cs : List ℕ) → Chain v (firstLink e) cs → Follows t (e .firstCluster) cs
@@ -73,14 +73,14 @@ module _ (image : List ℕ) (s : Superblock) (root : Root) (m : Marks) (checked 
 
   module _ (lacks : own c (lookIn (site .slots) (lastName (path c) ∷ [])) ≡ 0) (room : size c ≤ length (freeList (tableOf image s)))
       (k : ℕ) (given : List ℕ) (f : List ℕ → Filling)
-      (plan-so : planOf (rulesOf s) c (see s image) root ≡ some (changing (rulesOf s) (see s image) at (entryOf page) (site .chain) (site .slots) (lastName (path c)) k given f)) where
+      (plan-so : planOf (rulesOf s) c (see s image) root ≡ some (made (rulesOf s) (see s image) (directoryAt site) (altering (directoryAt site) (site .slots) (lastName (path c)) k given f))) where
     none-met : refusal (rulesOf s) c (see s image) root ≡ 0
     none-met = edit-refusal ∙ rw (lacks, le-leb (size c + 0) (length (freeList (tableOf image s))) (omega arith))
 
-    deed : Deed (rulesOf s) (see s image) root (changing (rulesOf s) (see s image) at (entryOf page) (site .chain) (site .slots) (lastName (path c)) k given f)
+    deed : Deed (rulesOf s) (see s image) root (made (rulesOf s) (see s image) (directoryAt site) (altering (directoryAt site) (site .slots) (lastName (path c)) k given f))
     deed = deed-of image s root m checked c none-met _ plan-so
 
-    module _ (writes : List PageWrite) (written : pageWrites (see s image) (changing (rulesOf s) (see s image) at (entryOf page) (site .chain) (site .slots) (lastName (path c)) k given f) ≡ writes)
+    module _ (writes : List PageWrite) (written : pageWrites (see s image) (made (rulesOf s) (see s image) (directoryAt site) (altering (directoryAt site) (site .slots) (lastName (path c)) k given f)) ≡ writes)
         (back : ℕ) (follows : Follows (tableOf image s) back given) where
       pub edit-lands : Lands (s .end) writes
       edit-lands = lands-as image s root m checked c none-met _ plan-so _ written
@@ -100,7 +100,7 @@ module _ (image : List ℕ) (s : Superblock) (root : Root) (m : Marks) (checked 
               )
 
           words : (x : ℕ) → x < s .end
-              → wordsAfter (changing (rulesOf s) (see s image) at (entryOf page) (site .chain) (site .slots) (lastName (path c)) k given f) (λ d. getD (tableOf image s) d 0) x
+              → wordsAfter (made (rulesOf s) (see s image) (directoryAt site) (altering (directoryAt site) (site .slots) (lastName (path c)) k given f)) (λ d. getD (tableOf image s) d 0) x
               ≡ getD (relinked back (length given) (take k (freeList (tableOf image s))) 0 [] (tableOf image s)) x 0
           words x h =
               ap₂ (λ cs l. chainWords (cs ++ []) (chainWords (take k l) (clearedWords given (λ d. getD (tableOf image s) d 0))) x) (site .starts) (free-is image s opened)
@@ -188,7 +188,7 @@ module _ (image : List ℕ) (s : Superblock) (root : Root) (m : Marks) (checked 
       let stands : own (replace p time bytes) (lookIn (site .slots) (lastName p ∷ [])) ≡ 0 = rw (file .found-file) in
       let plan =
       planned-at image s root m checked (replace p time bytes) fine at start page site
-      ∙ ap (planFor (rulesOf s) (replace p time bytes) (see s image) at (entryOf page) (site .chain) (site .slots)) (file .found-file) in
+      ∙ ap (λ g. planBy (rulesOf s) (see s image) (directoryAt site) (editFor (replace p time bytes) (directoryAt site) (site .slots) g)) (file .found-file) in
       let written = replaced-writes image s root p at start page site (lastName p) slot entry (there .read) (there .placed) (free-is image s ((checked-parts image s root m checked) .0)) (file .given) time bytes in
       record {
         lands = edit-lands image s root m checked (replace p time bytes) fine refl at start page site stands room (clustersFor (length bytes)) (file .given) (newContents (entryOf entry) time bytes) plan _ written (word entry 0x10) (file .leads);
@@ -198,7 +198,7 @@ module _ (image : List ℕ) (s : Superblock) (root : Root) (m : Marks) (checked 
       }
 
   -- ---- deleting and removing
-  written-gone : (given : List ℕ) → pageWrites (see s image) (changing (rulesOf s) (see s image) at (entryOf page) (site .chain) (site .slots) (lastName p) 0 given (removal (entryOf entry))) ≡ removedWrites page at slot entry
+  written-gone : (given : List ℕ) → pageWrites (see s image) (made (rulesOf s) (see s image) (directoryAt site) (altering (directoryAt site) (site .slots) (lastName p) 0 given (removal (entryOf entry)))) ≡ removedWrites page at slot entry
   written-gone given = removed-writes image s root p at start page site (lastName p) slot entry (there .read) (there .placed) (free-is image s ((checked-parts image s root m checked) .0)) given
 
   gone-as : (n k : ℕ) → n ≡ k → _≡_ {A = Outcome} (record { answer = ok tt; image = imageBy s image (removedWrites page at slot entry) (removedTable (tableOf image s) entry n) })
@@ -210,7 +210,7 @@ module _ (image : List ℕ) (s : Superblock) (root : Root) (m : Marks) (checked 
       let stands : own (delete p) (lookIn (site .slots) (lastName p ∷ [])) ≡ 0 = rw (file .found-file) in
       let plan =
       planned-at image s root m checked (delete p) fine at start page site
-      ∙ ap (planFor (rulesOf s) (delete p) (see s image) at (entryOf page) (site .chain) (site .slots)) (file .found-file) in
+      ∙ ap (λ g. planBy (rulesOf s) (see s image) (directoryAt site) (editFor (delete p) (directoryAt site) (site .slots) g)) (file .found-file) in
       record {
         lands = edit-lands image s root m checked (delete p) fine refl at start page site stands (omega arith) 0 (file .given) (removal (entryOf entry)) plan _ (written-gone (file .given)) (word entry 0x10) (file .leads);
         done =
@@ -224,7 +224,7 @@ module _ (image : List ℕ) (s : Superblock) (root : Root) (m : Marks) (checked 
       let stands : own (removeDirectory p) (lookIn (site .slots) (lastName p ∷ [])) ≡ 0 = rw (directory .found-directory, eq-eqb _ _ empty) in
       let plan =
       planned-at image s root m checked (removeDirectory p) fine at start page site
-      ∙ ap (planFor (rulesOf s) (removeDirectory p) (see s image) at (entryOf page) (site .chain) (site .slots)) (directory .found-directory) in
+      ∙ ap (λ g. planBy (rulesOf s) (see s image) (directoryAt site) (editFor (removeDirectory p) (directoryAt site) (site .slots) g)) (directory .found-directory) in
       record {
         lands = edit-lands image s root m checked (removeDirectory p) fine refl at start page site stands (omega arith) 0 (directory .given) (removal (entryOf entry)) plan _ (written-gone (directory .given)) (word entry 0x10) (directory .leads);
         done =

@@ -8,8 +8,7 @@ use lib.Seq.{length-take-le, take-at}
 use borrow.Rule.Slice.PartMut.{mid-len, midOf, post-is, postOf, putMid}
 use Rattle.page.proofs.Lists.{copied}
 use Rattle.model.specs.Entry.{entryOf}
-use Rattle.model.specs.Pages.{alteredPage}
-use Rattle.change.specs.Pages.{alteredEntry}
+use Rattle.model.specs.Pages.{alteredEntry, alteredPage}
 
 pub altered-so : (page : List ℕ) (mode length first : ℕ) (time : List ℕ) {mode′ length′ first′ : ℕ} {time′ r : List ℕ} → mode′ ≡ mode → length′ ≡ length
     → first′ ≡ first → time′ ≡ time → r ≡ alteredPage page (alteredEntry (entryOf page) mode′ length′ first′ time′)

@@ -14,13 +14,13 @@ use Rattle.page.specs.Page.{put}
 use Rattle.layout.proofs.TablePages.{getD-pages}
 use Rattle.model.specs.Bytes.{littleBytes}
 use Rattle.model.specs.Entry.{clustersFor, entryOf}
-use Rattle.model.specs.Pages.{alteredPage, dataPages, dataPagesTo, newPage, paddedName, zeroPage}
+use Rattle.model.specs.Pages.{alteredEntry, alteredPage, dataPages, dataPagesTo, newPage, paddedName, zeroPage}
 use Rattle.model.specs.Plan.{newEntry}
 use Rattle.model.specs.View.{pagesOf}
 use Rattle.model.specs.Writes.{clusterWrites}
 use Rattle.model.proofs.PlanFits.{length-pages}
 use Rattle.change.specs.Image.{writePages}
-use Rattle.change.specs.Pages.{alteredEntry, dataPage}
+use Rattle.change.specs.Pages.{dataPage}
 
 -- ---- zeros
 abbrev zeros : ℕ → List ℕ

@@ -1,25 +1,23 @@
 -- The pages that an accepted change writes: each lies in the allocatable clusters, has 512 bytes and reads back as its entry.
-use Prim.Native.Nat.{ℕ, zero, suc, _+_, _*_, _/_, _^_, _<_, _≤_}
+use Prim.Native.Nat.{ℕ, _+_, _*_, _/_, _^_, _<_, _≤_}
 use mathlib.Core.Bool.{Bool, _&&_, cond, false, true}
 use mathlib.Core.List.{List, [], _++_, _∷_, map}
 use mathlib.Core.Option.{Option, none, some}
 use mathlib.Core.Path.{_∙_, _≡_, ap, ap₂, fun-ext, refl, subst, sym}
 use native.Mathlib.Decide.{decLt}
 use native.Mathlib.Omega.{arith}
-use borrow.Author.Tests.{eqb-true, ltb-true}
+use borrow.Author.Tests.{ltb-true}
 use lib.Dec.{eqb, ltb}
 use lib.ListN.{drop, length, length-drop, take}
 use lib.Seq.{length-take-le}
 use Rattle.lookup.proofs.EnterLaws.{some-same}
 use Rattle.model.specs.Bytes.{little}
-use Rattle.model.specs.Change.{Rules, directoryMode}
-use Rattle.model.specs.Counts.{totalBelow}
+use Rattle.model.specs.Change.{Rules}
 use Rattle.model.specs.Entry.{Entry, entryOf}
 use Rattle.model.specs.Holds.{HoldsCard}
-use Rattle.model.specs.Names.{Name, dotDotName, dotName, goodName, legalBytes}
-use Rattle.model.specs.Pages.{decoded, entryPage, zeroPage}
-use Rattle.model.specs.Plan.{Filling, Plan, after, firstOf, killed, newContents, newDirectory, newEntry, newFile, setAll, withLength}
-use Rattle.model.specs.Time.{validTime}
+use Rattle.model.specs.Names.{Name, goodName, legalBytes}
+use Rattle.model.specs.Pages.{decoded, entryPage, zeroCluster}
+use Rattle.model.specs.Plan.{Filling, Plan, after, directoryAfter, firstOf, killed, newContents, newDirectory, newFile, setAll}
 use Rattle.model.specs.Tree.{Root, reached, times}
 use Rattle.model.specs.View.{Link, View, pagesOf}
 use Rattle.model.specs.Writes.{clusterWrites, directoryWrite, pageWrites, slotWrite}
@@ -27,9 +25,9 @@ use Rattle.model.proofs.Allocation.{times-append}
 use Rattle.model.proofs.CountLaws.{card-used}
 use Rattle.model.proofs.Equality.{and-l, and-r}
 use Rattle.model.proofs.Frame.{hit-self, times-pages}
-use Rattle.model.proofs.Outcome.{Deed, Work, whatOf}
-use Rattle.model.proofs.PageBytes.{Alters, Fit, Full, Whole, entry-altered, entry-new, full-data, length-altered, length-new, length-padded, length-zero, name-padded}
-use Rattle.model.proofs.SlotOfName.{total-times}
+use Rattle.model.proofs.Outcome.{Deed, Work}
+use Rattle.model.proofs.NewEntries.{eight-bytes, few, first-fits, whole}
+use Rattle.model.proofs.PageBytes.{Alters, Fit, Full, Whole, entry-altered, entry-new, full-data, length-altered, length-new, length-zero}
 use Rattle.change.specs.Image.{Lands}
 use Rattle.change.proofs.PageWrites.{lands-append}
 
@@ -83,18 +81,6 @@ good-parts n e =
     let b : (ltb 0 (length n) && ltb (length n) 32) ≡ true = and-l _ _ a in
     (ltb-true (length n) 32 (and-r (ltb 0 (length n)) _ b), and-r (ltb 0 (length n) && ltb (length n) 32) _ a)
 
-eight-bytes : (t : List ℕ) → validTime t ≡ true → length t ≡ 8
-unfolding validTime
-eight-bytes t e = eqb-true (length t) 8 (and-l _ _ e)
-
--- ---- few clusters
-total-le : (f : ℕ → ℕ) (k : ℕ) → ((c : ℕ) → f c ≤ 1) → totalBelow f k ≤ k
-total-le f zero h = omega arith
-total-le f (suc k) h = omega (arith, total-le f k h, h k)
-
-pub few : (end : ℕ) (cs : List ℕ) → ((c : ℕ) → times cs c ≤ 1) → ((c : ℕ) → end ≤ c → times cs c ≡ 0) → length cs ≤ end
-few end cs h k = omega (arith, total-times cs end k, total-le (times cs) end h)
-
 cond-ap : {A B : Type 0} (f : A → B) (b : Bool) (x y : A) → f (cond b x y) ≡ cond b (f x) (f y)
 cond-ap f true x y = refl
 cond-ap f false x y = refl
@@ -110,7 +96,7 @@ module _ (y : Rules) (v : View) (sized : (a : ℕ) → Sized (v .page a)) (reads
   unused : (c : ℕ) → y .allocEnd ≤ c → reached r c ≡ 0
   unused c u = card-used v r h c (high c u)
 
-  pub chain-low : (c : ℕ) → y .allocEnd ≤ c → times (p .directoryChain) c ≡ 0
+  pub chain-low : (c : ℕ) → y .allocEnd ≤ c → times (p .directory .chain) c ≡ 0
   chain-low c u = omega (arith, d .fit .own c, unused c u)
 
   pub growth-low : (c : ℕ) → y .allocEnd ≤ c → times (p .growth) c ≡ 0
@@ -128,8 +114,8 @@ module _ (y : Rules) (v : View) (sized : (a : ℕ) → Sized (v .page a)) (reads
         arith,
         y .limited,
         d .fit .long,
-        few (y .allocEnd) (p .directoryChain ++ p .growth) (λ c. omega (arith, times-append (p .directoryChain) (p .growth) c, d .fit .own c, d .fit .clear c))
-            (λ c u. omega (arith, times-append (p .directoryChain) (p .growth) c, chain-low c u, growth-low c u)),
+        few (y .allocEnd) (p .directory .chain ++ p .growth) (λ c. omega (arith, times-append (p .directory .chain) (p .growth) c, d .fit .own c, d .fit .clear c))
+            (λ c u. omega (arith, times-append (p .directory .chain) (p .growth) c, chain-low c u, growth-low c u)),
       )
 
   page-low : (a : ℕ) → (y .allocEnd ≤ a / 2 → ⊥) → a < 2 * y .allocEnd
@@ -139,18 +125,10 @@ module _ (y : Rules) (v : View) (sized : (a : ℕ) → Sized (v .page a)) (reads
       go (yes z) = z
       go (no z) = absurd (n (omega arith))
 
-  first-fits : (cs : List ℕ) → ((c : ℕ) → y .allocEnd ≤ c → times cs c ≡ 0) → firstOf cs < 256 ^ 4
-  first-fits [] k = omega arith
-  first-fits (x ∷ cs) k = go (decLt x (y .allocEnd))
-    where
-      go : Dec (x < y .allocEnd) → x < 256 ^ 4
-      go (yes z) = omega (arith, y .limited)
-      go (no z) = absurd (omega (arith, k x (omega arith), hit-self x))
+  directory-fit : Fit (p .directory .entry)
+  directory-fit = stands (v .page (p .directory .page)) (p .directory .entry) (sym (reads (p .directory .page)) ∙ d .entered) (sized (p .directory .page))
 
-  directory-fit : Fit (p .directoryEntry)
-  directory-fit = stands (v .page (p .directoryPage)) (p .directoryEntry) (sym (reads (p .directoryPage)) ∙ d .entered) (sized (p .directoryPage))
-
-  directory-alters : Alters (p .directoryEntry) (withLength (p .directoryEntry) (p .newLength))
+  directory-alters : Alters (p .directory .entry) (directoryAfter p)
   directory-alters =
       record {
         fit = record { modeFits = directory-fit .modeFits; lengthFits = omega (arith, length-few); firstFits = directory-fit .firstFits; eight = directory-fit .eight };
@@ -161,53 +139,37 @@ module _ (y : Rules) (v : View) (sized : (a : ℕ) → Sized (v .page a)) (reads
         name = refl;
       }
 
-  directory-page : (length (entryPage false (v .page (p .directoryPage)) (withLength (p .directoryEntry) (p .newLength))) ≡ 512)
-      × (decoded (some (entryPage false (v .page (p .directoryPage)) (withLength (p .directoryEntry) (p .newLength)))) ≡ some (withLength (p .directoryEntry) (p .newLength)))
-  directory-page = altered (v .page (p .directoryPage)) (p .directoryEntry) (withLength (p .directoryEntry) (p .newLength)) (sym (reads (p .directoryPage)) ∙ d .entered) (sized (p .directoryPage)) directory-alters
-
-  -- a new entry whose fields fit
-  whole : (mode size first entry : ℕ) (t : List ℕ) (n : Name) → mode < 256 ^ 2 → size < 256 ^ 4 → first < 256 ^ 4 → entry < 256 ^ 4 → validTime t ≡ true
-      → length n < 32 → legalBytes n ≡ true → Whole (newEntry mode size first entry t n)
-  whole mode size first entry t n a b c e ok short legal =
-      record {
-        fit = record { modeFits = a; lengthFits = b; firstFits = c; eight = eight-bytes t ok };
-        createdEight = eight-bytes t ok;
-        dirEntryFits = e;
-        attributeFits = omega arith;
-        field = length-padded n short;
-        name = name-padded n short legal;
-      }
+  directory-page : (length (entryPage false (v .page (p .directory .page)) (directoryAfter p)) ≡ 512)
+      × (decoded (some (entryPage false (v .page (p .directory .page)) (directoryAfter p))) ≡ some (directoryAfter p))
+  directory-page = altered (v .page (p .directory .page)) (p .directory .entry) (directoryAfter p) (sym (reads (p .directory .page)) ∙ d .entered) (sized (p .directory .page)) directory-alters
 
   -- what comes into the slot: full pages that read as their entries
   abbrev Fine : Filling → Type 0
   Fine f =
-      Full (f .takenPages) × (f .takenEntries ≡ map decoded (f .takenPages)) × (length (entryPage (f .isNew) (v .page (p .slotPage)) (f .slotEntry)) ≡ 512)
-      × (decoded (some (entryPage (f .isNew) (v .page (p .slotPage)) (f .slotEntry))) ≡ some (f .slotEntry))
+      Full (f .pages) × (length (entryPage (f .isNew) (v .page (p .slotPage)) (f .entry)) ≡ 512)
+      × (decoded (some (entryPage (f .isNew) (v .page (p .slotPage)) (f .entry))) ≡ some (f .entry))
 
-  fine : Work y v p → Fine (whatOf y p)
+  fine : Work y v p → Fine (p .filling)
   fine (Work.file n t b good ok long e) =
       let g = good-parts n good in
-      let z = fresh (v .page (p .slotPage)) ((newFile n t b (p .taken)) .slotEntry) (whole _ _ _ _ t n (omega arith) (omega (arith, taken-few)) (first-fits (p .taken) taken-low) (omega arith) ok (g .0) (g .1)) in
-      subst Fine (sym e) (full-data b, refl, z .0, z .1)
-  fine (Work.directory n t good ok inside e) =
+      let z = fresh (v .page (p .slotPage)) ((newFile n t b (p .taken)) .entry) (whole _ _ _ _ t n (omega arith) (omega (arith, taken-few)) (first-fits y (p .taken) taken-low) (omega arith) ok (g .0) (g .1)) in
+      subst Fine (sym e) (full-data b, z .0, z .1)
+  fine (Work.directory n t k good ok inside e) =
       let g = good-parts n good in
-      let parent = firstOf (p .directoryChain) in
-      let z = fresh (v .page (p .slotPage)) ((newDirectory n t parent (2 + p .slotIndex) (p .taken)) .slotEntry) (whole _ _ _ _ t n (omega arith) (omega arith) (first-fits (p .taken) taken-low) (omega arith) ok (g .0) (g .1)) in
-      let dot = fresh none (newEntry directoryMode 0 parent (2 + p .slotIndex) t dotName) (whole _ _ _ _ t dotName (omega arith) (omega arith) (first-fits (p .directoryChain) chain-low) (omega (arith, directory-fit .lengthFits)) ok (omega arith) refl) in
-      let up = fresh none (newEntry directoryMode 0 0 0 t dotDotName) (whole _ _ _ _ t dotDotName (omega arith) (omega arith) (omega arith) (omega arith) ok (omega arith) refl) in
-      subst Fine (sym e) ((dot .0, (up .0, tt)), ap₂ (λ (a b : Option Entry). a ∷ b ∷ []) (sym (dot .1)) (sym (up .1)), z .0, z .1)
+      let z = fresh (v .page (p .slotPage)) ((newDirectory n t (firstOf (p .directory .chain)) k (p .taken)) .entry) (whole _ _ _ _ t n (omega arith) (omega arith) (first-fits y (p .taken) taken-low) (omega arith) ok (g .0) (g .1)) in
+      subst Fine (sym e) ((length-new _, (length-new _, tt)), z .0, z .1)
   fine (Work.bytes old t b there ok long e) =
       let seen = sym (reads (p .slotPage)) ∙ there in
       let f = stands (v .page (p .slotPage)) old seen (sized (p .slotPage)) in
-      let z = altered (v .page (p .slotPage)) old ((newContents old t b (p .taken)) .slotEntry) seen (sized (p .slotPage))
-      (record { fit = record { modeFits = f .modeFits; lengthFits = omega (arith, taken-few); firstFits = first-fits (p .taken) taken-low; eight = eight-bytes t ok }; created = refl; dirEntry = refl; attribute = refl; nameField = refl; name = refl }) in
-      subst Fine (sym e) (full-data b, refl, z .0, z .1)
+      let z = altered (v .page (p .slotPage)) old ((newContents old t b (p .taken)) .entry) seen (sized (p .slotPage))
+      (record { fit = record { modeFits = f .modeFits; lengthFits = omega (arith, taken-few); firstFits = first-fits y (p .taken) taken-low; eight = eight-bytes t ok }; created = refl; dirEntry = refl; attribute = refl; nameField = refl; name = refl }) in
+      subst Fine (sym e) (full-data b, z .0, z .1)
   fine (Work.kill old there e) =
       let seen = sym (reads (p .slotPage)) ∙ there in
       let f = stands (v .page (p .slotPage)) old seen (sized (p .slotPage)) in
       let z = altered (v .page (p .slotPage)) old (killed old) seen (sized (p .slotPage))
       (record { fit = record { modeFits = omega (arith, f .modeFits); lengthFits = f .lengthFits; firstFits = f .firstFits; eight = f .eight }; created = refl; dirEntry = refl; attribute = refl; nameField = refl; name = refl }) in
-      subst Fine (sym e) (tt, refl, z .0, z .1)
+      subst Fine (sym e) (tt, z .0, z .1)
 
   -- every page that is written lies in the allocatable clusters and has 512 bytes
   clusters-land : (ps : List ℕ) (ds : List (Option (List ℕ))) → Full ds → ((a : ℕ) → 2 * y .allocEnd ≤ a → times ps a ≡ 0) → Lands (y .allocEnd) (clusterWrites ps ds)
@@ -226,13 +188,13 @@ module _ (y : Rules) (v : View) (sized : (a : ℕ) → Sized (v .page a)) (reads
   pub lands : Lands (y .allocEnd) (pageWrites v p)
   lands =
       let f = fine (d .work) in
-      lands-append (y .allocEnd) (clusterWrites (pagesOf (p .growth)) (some zeroPage ∷ some zeroPage ∷ [])) _
-      (clusters-land (pagesOf (p .growth)) (some zeroPage ∷ some zeroPage ∷ []) (length-zero, (length-zero, tt)) (pages-low (p .growth) growth-low))
-      (lands-append (y .allocEnd) (clusterWrites (pagesOf (p .taken)) (p .takenPages)) (directoryWrite v p ∷ slotWrite v p ∷ [])
-      (clusters-land (pagesOf (p .taken)) (p .takenPages) (f .0) (pages-low (p .taken) taken-low)) (
-        page-low (p .directoryPage) (λ u. omega (arith, d .used (p .directoryPage), hit-self (p .directoryPage), unused (p .directoryPage / 2) u)),
+      lands-append (y .allocEnd) (clusterWrites (pagesOf (p .growth)) zeroCluster) _
+      (clusters-land (pagesOf (p .growth)) zeroCluster (length-zero, (length-zero, tt)) (pages-low (p .growth) growth-low))
+      (lands-append (y .allocEnd) (clusterWrites (pagesOf (p .taken)) (p .filling .pages)) (directoryWrite v p ∷ slotWrite v p ∷ [])
+      (clusters-land (pagesOf (p .taken)) (p .filling .pages) (f .0) (pages-low (p .taken) taken-low)) (
+        page-low (p .directory .page) (λ u. omega (arith, d .used (p .directory .page), hit-self (p .directory .page), unused (p .directory .page / 2) u)),
         directory-page .0,
-        (page-low (p .slotPage) (λ u. omega (arith, d .fit .slot (p .slotPage), hit-self (p .slotPage), chain-low (p .slotPage / 2) u, growth-low (p .slotPage / 2) u)), f .2, tt),
+        (page-low (p .slotPage) (λ u. omega (arith, d .fit .slot (p .slotPage), hit-self (p .slotPage), chain-low (p .slotPage / 2) u, growth-low (p .slotPage / 2) u)), f .1, tt),
       ))
 
   -- the entries of the view after the plan are what its pages say
@@ -240,10 +202,10 @@ module _ (y : Rules) (v : View) (sized : (a : ℕ) → Sized (v .page a)) (reads
   entries-read a =
       let f = fine (d .work) in
       cond-ap decoded (eqb (p .slotPage) a) _ _
-      ∙ ap₂ (λ x z. cond (eqb (p .slotPage) a) x z) (f .3)
-      (cond-ap decoded (eqb (p .directoryPage) a) _ _
-      ∙ ap₂ (λ x z. cond (eqb (p .directoryPage) a) x z) (directory-page .1)
-      (all-decoded (pagesOf (p .taken)) (p .takenPages) _ a
-      ∙ ap₂ (λ x z. setAll (pagesOf (p .taken)) x z a) (sym (f .1))
-      (fun-ext (λ b. all-decoded (pagesOf (p .growth)) (some zeroPage ∷ some zeroPage ∷ []) (v .page) b
-      ∙ ap (λ z. setAll (pagesOf (p .growth)) (map decoded (some zeroPage ∷ some zeroPage ∷ [])) z b) (fun-ext (λ x. sym (reads x)))))))
+      ∙ ap₂ (λ x z. cond (eqb (p .slotPage) a) x z) (f .2)
+      (cond-ap decoded (eqb (p .directory .page) a) _ _
+      ∙ ap₂ (λ x z. cond (eqb (p .directory .page) a) x z) (directory-page .1)
+      (all-decoded (pagesOf (p .taken)) (p .filling .pages) _ a
+      ∙ ap (λ z. setAll (pagesOf (p .taken)) (map decoded (p .filling .pages)) z a)
+      (fun-ext (λ b. all-decoded (pagesOf (p .growth)) zeroCluster (v .page) b
+      ∙ ap (λ z. setAll (pagesOf (p .growth)) (map decoded zeroCluster) z b) (fun-ext (λ x. sym (reads x)))))))

@@ -33,8 +33,8 @@ module _ (end : ℕ) (small : end ≤ 8192) where
   cleared-fits (c ∷ cs) words all x =
       ⊎-elim (λ (e : eqb c x ≡ true). rw e (omega arith)) (λ (e : eqb c x ≡ false). rw e (cleared-fits cs words all x)) (bool (eqb c x))
 
-  pub words-fit : (p : Plan) (words : ℕ → ℕ) → ((c : ℕ) → end ≤ c → times (p .directoryChain) c ≡ 0) → ((c : ℕ) → end ≤ c → times (p .growth) c ≡ 0)
+  pub words-fit : (p : Plan) (words : ℕ → ℕ) → ((c : ℕ) → end ≤ c → times (p .directory .chain) c ≡ 0) → ((c : ℕ) → end ≤ c → times (p .growth) c ≡ 0)
       → ((c : ℕ) → end ≤ c → times (p .taken) c ≡ 0) → ((c : ℕ) → words c < 256 ^ 4) → (x : ℕ) → wordsAfter p words x < 256 ^ 4
   words-fit p words chain growth taken all x =
-      chain-fits (p .directoryChain ++ p .growth) _ (λ c u. times-append (p .directoryChain) (p .growth) c ∙ omega (arith, chain c u, growth c u))
+      chain-fits (p .directory .chain ++ p .growth) _ (λ c u. times-append (p .directory .chain) (p .growth) c ∙ omega (arith, chain c u, growth c u))
       (chain-fits (p .taken) _ taken (cleared-fits (p .given) words all)) x

@@ -16,7 +16,7 @@ use Rattle.model.specs.Check.{ok}
 use Rattle.model.specs.Entry.{clustersFor, entryOf}
 use Rattle.model.specs.Names.{Path}
 use Rattle.model.specs.Pages.{dataPages, dataPagesTo, zeroPage}
-use Rattle.model.specs.Plan.{freeBelow, ifFree, takeable}
+use Rattle.model.specs.Plan.{freeBelow, freeClusters, ifFree, takeable}
 use Rattle.model.specs.Tree.{Root}
 use Rattle.model.specs.View.{Link}
 use Rattle.model.specs.Writes.{linksOf}
@@ -37,7 +37,7 @@ pub free-table : (table : List ℕ) → freeList table ≡ freeBelow (takeable (
 free-table table = free-ext _ _ (length table) (λ c h. rw (lt-ltb c (length table) h))
 
 module _ (image : List ℕ) (s : Superblock) (opened : openCard image ≡ ok s) where
-  pub free-is : freeBelow (takeable (λ c. true) ((see s image) .link)) ((rulesOf s) .allocEnd) ≡ freeList (tableOf image s)
+  pub free-is : freeClusters (rulesOf s) (see s image) ≡ freeList (tableOf image s)
   free-is =
       ap (freeBelow (takeable (λ c. true) ((see s image) .link))) (end-is image s opened ∙ sym (length-table image s))
       ∙ sym (free-table (tableOf image s))

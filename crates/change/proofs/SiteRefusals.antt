@@ -1,6 +1,6 @@
 -- Which refusal a change meets whose directory was found: what stands at its last name, then room.
 use Prim.Native.Nat.{ℕ, _+_}
-use mathlib.Core.Bool.{cond, true}
+use mathlib.Core.Bool.{cond}
 use mathlib.Core.List.{List, [], _∷_}
 use mathlib.Core.Path.{_∙_, _≡_, ap, ap₂, sym}
 use lib.Dec.{leb}
@@ -12,7 +12,7 @@ use Rattle.model.specs.Change.{Change, creates, path, size}
 use Rattle.model.specs.Entry.{entryOf}
 use Rattle.model.specs.Lookup.{lookIn}
 use Rattle.model.specs.Names.{lastName}
-use Rattle.model.specs.Plan.{freeBelow, growthWithOne, takeable}
+use Rattle.model.specs.Plan.{freeClusters, growthWithOne}
 use Rattle.model.specs.Refusal.{first, growthIn, own, refusal, static}
 use Rattle.model.specs.Tree.{Root}
 use Rattle.model.proofs.Allocation.{length-free}
@@ -22,7 +22,7 @@ use Rattle.change.proofs.Sites.{Site}
 
 module _ (image : List ℕ) (s : Superblock) (root : Root) (c : Change) (at start : ℕ) (page : List ℕ)
     (site : Site (see s image) (tableOf image s) root (path c) at start page) (fine : static c ≡ 0)
-    (free-is : freeBelow (takeable (λ c. true) ((see s image) .link)) ((rulesOf s) .allocEnd) ≡ freeList (tableOf image s)) where
+    (free-is : freeClusters (rulesOf s) (see s image) ≡ freeList (tableOf image s)) where
   pub refusal-here : refusal (rulesOf s) c (see s image) root
       ≡ first (own c (lookIn (site .slots) (lastName (path c) ∷ [])))
       (cond (leb (size c + cond (creates c) (growthWithOne (entryOf page) (site .slots)) 0) (length (freeList (tableOf image s)))) 0 12)

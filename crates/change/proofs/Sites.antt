@@ -8,6 +8,7 @@ use Rattle.model.specs.Entry.{directoryClusters, entryOf}
 use Rattle.model.specs.Holds.{Chain, HoldsSlots}
 use Rattle.model.specs.Lookup.{found, lookIn, lookUp, pageAtPath}
 use Rattle.model.specs.Names.{Path, lastName, parent}
+use Rattle.model.specs.Plan.{Directory}
 use Rattle.model.specs.Refusal.{way}
 use Rattle.model.specs.Tree.{Root, Slot, Tree, entryPages}
 use Rattle.model.specs.View.{Link, View}
@@ -29,3 +30,6 @@ pub record Site (v : View) (table : List ℕ) (root : Root) (p : Path) (at first
   pub pages : entryPages (Slot.directory (entryOf page) chain) ≡ slotPages table (nextOf table first) 0 ((entryOf page) .length - 2)
   pub held : HoldsSlots v below (entryPages (Slot.directory (entryOf page) chain)) slots
   pub named : lookUp root p ≡ lookIn slots (lastName p ∷ [])
+
+abbrev pub directoryAt : {v : View} {table : List ℕ} {root : Root} {p : Path} {at first : ℕ} {page : List ℕ} → Site v table root p at first page → Directory
+directoryAt {at = at} {page = page} site = record { page = at; entry = entryOf page; chain = site .chain }

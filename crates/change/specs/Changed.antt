@@ -24,19 +24,19 @@ pub record Outcome : Type 0 where
 abbrev pub rulesOf : Superblock → Rules
 rulesOf s = baseRules (min (s .end) mostClusters) (omega arith)
 
--- An accepted change has a plan, so the first case never comes.
-abbrev pub imageWith : Superblock → List ℕ → Option Plan → List ℕ
-imageWith s image none = image
-imageWith s image (some plan) = imageAfter s image plan
+-- An accepted change has a plan (`writes_give_view` of the model). Without one, which never comes, what it needs would be absent: 9.
+abbrev pub outcomeWith : Superblock → List ℕ → Option Plan → Outcome
+outcomeWith s image none = record { answer = fault 9 0; image = image }
+outcomeWith s image (some plan) = record { answer = ok tt; image = imageAfter s image plan }
 
 -- by the refusal's number, 0 being none
-abbrev pub decided : ℕ → List ℕ → List ℕ → Outcome
-decided zero before after = record { answer = ok tt; image = after }
-decided (suc n) before after = record { answer = fault (suc n) 0; image = before }
+abbrev pub decided : ℕ → List ℕ → Outcome → Outcome
+decided zero image accepted = accepted
+decided (suc n) image accepted = record { answer = fault (suc n) 0; image = image }
 
 abbrev pub changedOn : Change → List ℕ → Superblock → Root → Outcome
 changedOn c image s root =
-    decided (refusal (rulesOf s) c (see s image) root) image (imageWith s image (planOf (rulesOf s) c (see s image) root))
+    decided (refusal (rulesOf s) c (see s image) root) image (outcomeWith s image (planOf (rulesOf s) c (see s image) root))
 
 abbrev pub changedBy : Change → List ℕ → Result (Superblock × Root × Marks) → Outcome
 changedBy c image (fault n p) = record { answer = fault n p; image = image }

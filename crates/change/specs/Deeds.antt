@@ -98,7 +98,7 @@ replacedTable table entry bytes =
 abbrev pub replacedWrites : List ℕ → List ℕ → ℕ → ℕ → List ℕ → List ℕ → List ℕ → List PageWrite
 replacedWrites table page at slot entry time bytes =
     let taken = take (clustersFor (length bytes)) (freeList table) in
-    writesOf [] taken bytes at (keptDirectory page) false slot (alteredPage entry ((newContents (entryOf entry) time bytes taken) .slotEntry))
+    writesOf [] taken bytes at (keptDirectory page) false slot (alteredPage entry ((newContents (entryOf entry) time bytes taken) .entry))
 
 -- removing gives back `count` clusters
 abbrev pub removedTable : List ℕ → List ℕ → ℕ → List ℕ

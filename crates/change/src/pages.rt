@@ -13,12 +13,12 @@ ghost use Prim.Native.Nat.{_+_, _-_};
 ghost use lib.ListN.{length};
 ghost use Rattle.model.specs.Bytes.{slice};
 ghost use Rattle.model.specs.Entry.{clustersFor, entryOf};
-ghost use Rattle.model.specs.Pages.{alteredPage, dataPages, newPage, zeroPage};
+ghost use Rattle.model.specs.Pages.{alteredEntry, alteredPage, dataPages, newPage, zeroPage};
 ghost use Rattle.model.specs.Plan.{killed, newEntry, withLength};
 ghost use Rattle.model.specs.View.{pagesOf};
 ghost use Rattle.model.specs.Writes.{clusterWrites};
 ghost use Rattle.change.specs.Image.{writePages};
-ghost use Rattle.change.specs.Pages.{alteredEntry, dataPage};
+ghost use Rattle.change.specs.Pages.{dataPage};
 
 pub(crate) fn zero_page() -> [u8; 512]
     ensures { λ r. ⌜ r ≡ zeroPage ⌝ }

@@ -1,4 +1,4 @@
--- The five changes on a view of a card.
+-- The abstract card of a view: what stands at each path, the room of each directory, and the free count.
 use mathlib.Core.Option.{none}
 use Rattle.model.specs.Change.{Rules}
 use Rattle.model.specs.Counts.{isFree, totalBelow}
@@ -15,8 +15,8 @@ noRoom = record { dead = 0; length = 0; back = 0 }
 module _ (y : Rules) where
   abbrev pub roomOfSlot : Slot → Tree → Room
   roomOfSlot Slot.dead s = noRoom
-  roomOfSlot (Slot.file e cs ds) s = record { dead = 0; length = 0; back = returned (y .allocEnd) (y .mayTake) cs }
-  roomOfSlot (Slot.directory e cs) s = record { dead = deadSlots s; length = e .length; back = returned (y .allocEnd) (y .mayTake) cs }
+  roomOfSlot (Slot.file e cs ds) s = record { dead = 0; length = 0; back = returned y cs }
+  roomOfSlot (Slot.directory e cs) s = record { dead = deadSlots s; length = e .length; back = returned y cs }
 
   -- The tree, the rooms and the free count of a card.
   abbrev pub abstractOf : View → Root → AbstractCard

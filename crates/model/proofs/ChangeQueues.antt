@@ -5,7 +5,6 @@ use mathlib.Core.Option.{some}
 use mathlib.Core.Path.{_∙_, _≡_, ap, refl, sym}
 use Rattle.model.specs.Change.{Change, Rules, creates, path}
 use Rattle.model.specs.Names.{Path, beginning}
-use Rattle.model.specs.Plan.{made}
 use Rattle.model.proofs.ChangeOperations.{Machine, creation, op, op-apart, op-local}
 use Rattle.model.proofs.OperationQueues.{Clear, Creations, Each, Oks, Perm, any-order, clear-perm, creations-perm, one-tree, runs}
 use Rattle.model.proofs.Operations.{AbstractCard, Operation}

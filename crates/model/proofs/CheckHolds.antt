@@ -6,15 +6,14 @@ use mathlib.Core.Option.{Option, none, some}
 use mathlib.Core.Path.{_∙_, _≡_, ap, fun-ext, refl, sym}
 use native.Mathlib.Omega.{arith}
 use lib.Dec.{eqb, ltb, ltb→lt, lt→ltb}
-use lib.ListN.{length}
-use Rattle.model.specs.Check.{Deeper, Marks, Result, andThen, checkTree, dots, fault, followChain, judgeDot, judgeDots, judgeEntry, judgeRoot, mark, marks, ok, prepend, sound, walkDirectory, walkSlots}
+use Rattle.model.specs.Check.{Deeper, Marks, Result, andThen, checkTree, dots, fault, followChain, judgeDot, judgeDots, judgeEntry, judgeRoot, marks, ok, sound, walkDirectory, walkSlots}
 use Rattle.model.specs.Entry.{Entry, directoryClusters, fileClusters, hasBit, isDirectory, isFile, isLive, isRoot, isSubdirectory}
-use Rattle.model.specs.Holds.{Chain, DotEntries, DotEntry, HoldsCard, HoldsSlot, HoldsSlots, UniqueNames, deepest}
+use Rattle.model.specs.Holds.{DotEntries, DotEntry, HoldsCard, HoldsSlot, HoldsSlots, UniqueNames, deepest}
 use Rattle.model.specs.Names.{Name, goodName, sameName}
 use Rattle.model.specs.Tree.{Root, Slot, Tree, chainOf, clusterUses, end, entryPages, hitName, nameHit, nameUses, node, reached, times}
 use Rattle.model.specs.View.{Link, View, firstLink, pagesOf}
+use Rattle.model.proofs.Chains.{follow-of, follow-ok}
 use Rattle.model.proofs.Equality.{Eq, Eq-name, Eq-number, and-l, and-r, of-T, to-T}
-use Rattle.model.proofs.Frame.{hit-self}
 
 module _ {A B : Type 0} where
   bind-ok : (r : Result A) (f : A → Result B) (b : B) → andThen r f ≡ ok b → (a : A) × (r ≡ ok a) × (f a ≡ ok b)
@@ -32,14 +31,6 @@ module _ {A B : Type 0} where
   sound-ok : (o : Option A) (f : A → B) (b : B) → sound o f ≡ ok b → (a : A) × (o ≡ some a) × (f a ≡ b)
   sound-ok none f b h = absurd (let z : _≡_ {A = ℕ} 0 1 = cc in omega arith)
   sound-ok (some a) f b h = (a, refl, cc)
-
-cons-ok : (a : ℕ) (o : Option (List ℕ)) (cs : List ℕ) → prepend a o ≡ some cs → (ds : List ℕ) × (o ≡ some ds) × (a ∷ ds ≡ cs)
-cons-ok a none cs h = absurd (let z : _≡_ {A = ℕ} 0 1 = cc in omega arith)
-cons-ok a (some ds) cs h = (ds, refl, cc)
-
-cond-ok : {A : Type 0} (b : Bool) (x : Option A) (a : A) → cond b x none ≡ some a → (b ≡ true) × (x ≡ some a)
-cond-ok true x a h = (refl, h)
-cond-ok false x a h = absurd (let z : _≡_ {A = ℕ} 0 1 = cc in omega arith)
 
 abbrev ind : {A : Type 0} → Eq A → A → A → ℕ
 ind q a b = cond (q .same a b) 1 0
@@ -74,25 +65,6 @@ file-or-dir : (e : Entry) → isSubdirectory e ≡ true → isFile e ≡ false
 file-or-dir e h = not-both (isLive e) (hasBit (e .mode) 0x10) (hasBit (e .mode) 0x20) (goodName (e .name)) (ltb 0 (e .length) || eqb (e .firstCluster) 0xFFFFFFFF) (and-r (isLive e) _ (and-l (isLive e && _) _ (and-l _ _ (and-l _ _ h))))
 
 module _ (v : View) where
-  follow-ok : (k : ℕ) (l : Link) (m : Marks) (cs : List ℕ) → ((c : ℕ) → m c ≤ 1) → followChain v k l m ≡ some cs
-      → (length cs ≡ k) × Chain v l cs × ((c : ℕ) → m c + times cs c ≤ 1)
-  follow-ok zero Link.free m cs u h = absurd (let z : _≡_ {A = ℕ} 0 1 = cc in omega arith)
-  follow-ok zero Link.last m cs u h = let e : [] ≡ cs = cc in rw (← e) (refl, refl, λ c. omega (arith, u c))
-  follow-ok zero (Link.next a) m cs u h = absurd (let z : _≡_ {A = ℕ} 0 1 = cc in omega arith)
-  follow-ok (suc k) Link.free m cs u h = absurd (let z : _≡_ {A = ℕ} 0 1 = cc in omega arith)
-  follow-ok (suc k) Link.last m cs u h = absurd (let z : _≡_ {A = ℕ} 0 1 = cc in omega arith)
-  follow-ok (suc k) (Link.next a) m cs u h =
-      let x = cond-ok (eqb (m a) 0) _ cs h in
-      let y = cons-ok a _ cs (x .1) in
-      let ih = follow-ok k (v .link a) (mark a m) (y .0) (mark-1 Eq-number m a u (Eq-number .sound (m a) 0 (x .0))) (y .1) in
-      rw (← y .2) (ap suc (ih .0), (refl, ih .1), λ c. omega (arith, ih .2 c))
-
-  follow-of : (l : Link) (m : Marks) (cs : List ℕ) → Chain v l cs → ((c : ℕ) → m c + times cs c ≤ 1) → followChain v (length cs) l m ≡ some cs
-  follow-of l m [] h u = rw h
-  follow-of l m (c ∷ cs) h u =
-      let z : m c ≡ 0 = omega (arith, u c, hit-self c) in
-      rw (h .0, z, follow-of (v .link c) (mark c m) cs (h .1) (λ d. omega (arith, u d)))
-
   dot-ok : (n : Name) (p : ℕ) → judgeDot v n p (v .entry p) ≡ ok tt → DotEntry v n p
   dot-ok n p h = go (v .entry p) refl h
     where
@@ -130,13 +102,13 @@ module _ (v : View) where
       living e x false b₂ b₃ p₁ p₂ p₃ y = let z : Slot.dead ≡ h = cc in rw (← z) ((e, x, p₁), (λ n. omega (arith, us n)), (λ c. omega (arith, um c)))
       living e x true true b₃ p₁ p₂ p₃ y =
           let a = sound-ok _ _ h y in
-          let k = follow-ok (fileClusters e) (firstLink e) m (a .0) um (a .1) in
+          let k = follow-ok v (fileClusters e) (firstLink e) m (a .0) um (a .1) in
           let g : Goal (Slot.file e (a .0) (map (v .page) (pagesOf (a .0)))) =
           ((x, and-l _ _ p₂, k .0, k .1, refl), mark-1 Eq-name seen (e .name) us (Eq-number .sound _ 0 (and-r (isFile e) _ p₂)), k .2) in
           rw (← a .2) g
       living e x true false true p₁ p₂ p₃ y =
           let a = sound-ok _ _ h y in
-          let k = follow-ok (directoryClusters e) (firstLink e) m (a .0) um (a .1) in
+          let k = follow-ok v (directoryClusters e) (firstLink e) m (a .0) um (a .1) in
           let q = and-l (isSubdirectory e && ltb 0 d) _ p₃ in
           let g : Goal (Slot.directory e (a .0)) = (
             (x, and-l _ _ q, ltb→lt 0 d (to-T (and-r (isSubdirectory e) _ q)), k .0, k .1, dots-ok (a .0) (rw (← a .2) at f)),
@@ -157,13 +129,13 @@ module _ (v : View) where
       let z : seen (e .name) ≡ 0 = omega (arith, us (e .name), one (e .name)) in
       let pf : (isFile e && eqb (seen (e .name)) 0) ≡ true = and-true (x .1) (rw z) in
       let pl : isLive e ≡ true = and-l _ _ (and-l _ _ (and-l _ _ (and-l _ _ (x .1)))) in
-      rw (x .0, pf, pl, ← x .2, follow-of (firstLink e) m cs (x .3) um, x .4)
+      rw (x .0, pf, pl, ← x .2, follow-of v (firstLink e) m cs (x .3) (λ c o. um c), x .4)
   judge-of d seen m p (Slot.directory e cs) x us um =
       let z : seen (e .name) ≡ 0 = omega (arith, us (e .name), one (e .name)) in
       let pf : (isFile e && eqb (seen (e .name)) 0) ≡ false = and-false _ (file-or-dir e (x .1)) in
       let pd : (isSubdirectory e && ltb 0 d && eqb (seen (e .name)) 0) ≡ true = and-true (and-true (x .1) (of-T (lt→ltb 0 d (x .2)))) (rw z) in
       let pl : isLive e ≡ true = and-l _ _ (and-l _ _ (and-l _ _ (and-l _ _ (x .1)))) in
-      rw (x .0, pf, pd, pl, ← x .3, follow-of (firstLink e) m cs (x .4) um)
+      rw (x .0, pf, pd, pl, ← x .3, follow-of v (firstLink e) m cs (x .4) (λ c o. um c))
 
   dots-head : (d p : ℕ) (h : Slot) → HoldsSlot v d p h → dots v h ≡ ok tt
   dots-head d p Slot.dead x = refl
@@ -275,7 +247,7 @@ module _ (v : View) where
       fin e cs t m h₁ h₂ h₃ h₄ q =
           let a = rooted-ok e h₁ in
           let s = sound-ok _ _ cs h₂ in
-          let f = follow-ok (directoryClusters e) (Link.next 0) (λ c. 0) cs (λ c. omega arith) (s .1 ∙ ap {B = Option (List ℕ)} some (s .2)) in
+          let f = follow-ok v (directoryClusters e) (Link.next 0) (λ c. 0) cs (λ c. omega arith) (s .1 ∙ ap {B = Option (List ℕ)} some (s .2)) in
           let w = walk-ok deepest (entryPages (Slot.directory e cs)) (λ n. 0) (times cs) t m (λ n. omega arith) (λ c. omega (arith, f .2 c)) h₄ in
           let c : HoldsCard v (record { rootEntry = e; chain = cs; slots = t }) =
           record { rootPage = a .0; good = a .1; long = f .0; links = f .1; dots = dots-ok cs h₃; uniq = λ n. omega (arith, w .1 n); rep = w .0; once = λ c. w .2 c } in
@@ -287,6 +259,6 @@ module _ (v : View) where
   unfolding checkTree
   holds-check r h =
       bind-of _ _ (r .rootEntry) (rw (h .rootPage) (rw (h .good)))
-      ∙ bind-of _ _ (r .chain) (rw (← h .long, follow-of (Link.next 0) (λ c. 0) (r .chain) (h .links) (λ c. omega (arith, h .once c))))
+      ∙ bind-of _ _ (r .chain) (rw (← h .long, follow-of v (Link.next 0) (λ c. 0) (r .chain) (h .links) (λ c. omega (arith, h .once c))))
       ∙ bind-of _ _ tt (dots-of (r .chain) (h .dots))
       ∙ bind-of _ _ (r .slots, reached r) (walk-of deepest (entryPages (Slot.directory (r .rootEntry) (r .chain))) (λ n. 0) (times (r .chain)) (r .slots) (h .rep) (λ n. omega (arith, h .uniq n)) (h .once))

@@ -1,4 +1,4 @@
--- Every claim of specs/Claims holds.
+-- The claims of specs/Claims hold: the check, the counts, one change and demand 3.
 use Prim.Native.Nat.{suc, zero, ℕ}
 use mathlib.Core.Bool.{Bool, cond, false, true}
 use mathlib.Core.Logic.{_⊎_, inl, inr}

@@ -6,10 +6,10 @@ use mathlib.Core.Path.{_∙_, _≡_, ap, refl}
 use native.Mathlib.Omega.{arith}
 use lib.Dec.{eqb}
 use Rattle.model.specs.Counts.{isFree, isOrphan, totalBelow}
-use Rattle.model.specs.Holds.{Chain, HoldsCard, HoldsSlot, HoldsSlots, deepest}
+use Rattle.model.specs.Holds.{HoldsCard, HoldsSlot, HoldsSlots, deepest}
 use Rattle.model.specs.Tree.{Root, Slot, Tree, chainOf, clusterUses, end, entryPages, node, reached, times}
 use Rattle.model.specs.View.{Link, View, free}
-use Rattle.model.proofs.Frame.{hit-0}
+use Rattle.model.proofs.Chains.{links-used}
 
 pub total-add : (f g : ℕ → ℕ) (k : ℕ) → totalBelow f k + totalBelow g k ≡ totalBelow (λ c. f c + g c) k
 total-add f g zero = refl
@@ -22,15 +22,6 @@ total-ext f g (suc k) h = omega (arith, total-ext f g k (λ c x. h c (omega arit
 total-one : (k : ℕ) → totalBelow (λ c. 1) k ≡ k
 total-one zero = refl
 total-one (suc k) = omega (arith, total-one k)
-
--- a chain has no free cluster
-links-used : (v : View) (l : Link) (cs : List ℕ) (c : ℕ) → v .link c ≡ Link.free → Chain v l cs → times cs c ≡ 0
-links-used v l [] c f h = refl
-links-used v l (x ∷ cs) c f h = omega (arith, links-used v (v .link x) cs c f (h .1), hit-0 x c (λ e. no-free cs (rw (e, f) at (h .1))))
-  where
-    no-free : (cs : List ℕ) → Chain v Link.free cs → ⊥
-    no-free [] h = let z : _≡_ {A = ℕ} 0 1 = cc in omega arith
-    no-free (x ∷ cs) h = let y : Link.free ≡ Link.next x = h .0 in let z : _≡_ {A = ℕ} 0 1 = cc in omega arith
 
 held-used : (v : View) (d p : ℕ) (h : Slot) (c : ℕ) → v .link c ≡ Link.free → HoldsSlot v d p h → times (chainOf h) c ≡ 0
 held-used v d p Slot.dead c f x = refl

@@ -1,42 +1,46 @@
 -- Creating a file and making a directory: each has its plan, which does what the operation says.
 use Prim.Native.Nat.{_*_, _+_, _-_, _<_, _≤_, suc, ℕ}
 use mathlib.Core.Bool.{Bool, _&&_, cond, false, true}
-use mathlib.Core.List.{List, [], _∷_}
-use mathlib.Core.Path.{_∙_, _≡_, ap, refl, sym}
+use mathlib.Core.List.{List, [], _∷_, map}
+use mathlib.Core.Option.{Option, some}
+use mathlib.Core.Path.{_∙_, _≡_, ap, ap₂, refl, sym}
 use native.Mathlib.Omega.{arith}
 use lib.Dec.{leb, leb→le, ltb, ltb→lt}
 use lib.ListN.{drop, length, length-drop, length-take, take}
-use Rattle.model.specs.Change.{Change, Rules, create, directoryMode, makeDirectory}
+use Rattle.model.specs.Change.{Change, Rules, create, makeDirectory}
 use Rattle.model.specs.Check.{ok}
-use Rattle.model.specs.Entry.{clustersFor, isFile, isSubdirectory}
+use Rattle.model.specs.Entry.{Entry, clustersFor, isFile, isSubdirectory}
 use Rattle.model.specs.Holds.{HoldsCard, deepest}
 use Rattle.model.specs.Lookup.{Found, firstDead, pageAtPath}
 use Rattle.model.specs.Names.{Path, dotDotName, dotName, goodName, goodPath, lastName, parent}
-use Rattle.model.specs.Plan.{Plan, after, firstOf, freeBelow, growthWithOne, lengthWithOne, made, newDirectory, newEntry, newFile, ownClusters, planAt, returned, takeable}
+use Rattle.model.specs.Plan.{Plan, adding, after, dotDotEntry, dotEntry, firstOf, freeClusters, growthWithOne, made, newDirectory, newFile, ownClusters, planAt, returned, takeable}
+use Rattle.model.specs.Pages.{dataPages, decoded}
 use Rattle.model.specs.Refusal.{first, static}
 use Rattle.model.specs.Time.{validTime}
-use Rattle.model.specs.Tree.{Root, nameUses, reached}
+use Rattle.model.specs.Tree.{Root, Slot, nameUses, reached, times}
 use Rattle.model.specs.View.{Link, View, pagesOf}
 use Rattle.model.proofs.AbstractCards.{abstractOf}
 use Rattle.model.proofs.Allocation.{length-free}
 use Rattle.model.proofs.ChangeOperations.{op, standingLack, standingWay}
-use Rattle.model.proofs.Directories.{Where, first-0, good-last, length-parent, must-lack, where-is}
+use Rattle.model.proofs.Directories.{Where, directoryOf, first-0, good-last, length-parent, must-lack, where-is}
 use Rattle.model.proofs.Equality.{and-l, and-r, to-T}
+use Rattle.model.proofs.CountLaws.{card-used}
+use Rattle.model.proofs.NewEntries.{decoded-new, few, first-fits, whole}
 use Rattle.model.proofs.NewClusters.{empty-or, grow-new, held-dir, held-file, p-used}
 use Rattle.model.proofs.Operations.{AbstractCard, Accepts, Room, effect, grown, need, taken, take₁, worked}
 use Rattle.model.proofs.Outcome.{Deed, Outcome, Work, created, room-at}
 use Rattle.model.proofs.PageBytes.{length-data}
 use Rattle.model.proofs.PlanActs.{back-new, fs-long, fs-low, gs-low, new-free, start-of}
 use Rattle.model.proofs.PlanFits.{rep-length}
-use Rattle.model.proofs.PlanHolds.{Fits}
+use Rattle.model.proofs.PlanHolds.{Fits, InTree}
 use Rattle.model.proofs.SlotOfName.{fd-le}
 
 module _ (y : Rules) where
   pub plus-0 : (R : Room) → _≡_ {A = Room} (record { dead = R .dead + 0; length = R .length; back = R .back }) R
   plus-0 R = ap (λ (n : ℕ). record { dead = n; length = R .length; back = R .back }) (omega arith)
 
-  pub back-fs : (v : View) (γ k : ℕ) → γ + k ≤ length (freeBelow (takeable (y .mayTake) (v .link)) (y .allocEnd)) → returned (y .allocEnd) (y .mayTake) (ownClusters (y .allocEnd) (y .mayTake) v γ k) ≡ k
-  back-fs v γ k room = back-new y v (ownClusters (y .allocEnd) (y .mayTake) v γ k) (λ c. omega (arith, new-free y v γ k c)) (fs-low y v γ k) ∙ fs-long y v γ k room
+  pub back-fs : (v : View) (γ k : ℕ) → γ + k ≤ length (freeClusters y v) → returned y (ownClusters y v γ k) ≡ k
+  back-fs v γ k room = back-new y v (ownClusters y v γ k) (λ c. omega (arith, new-free y v γ k c)) (fs-low y v γ k) ∙ fs-long y v γ k room
 
   pub static-path : (b c : Bool) → _≡_ {A = ℕ} (first (cond b 0 8) (cond c 0 14)) 0 → b ≡ true
   static-path true c e = refl
@@ -94,15 +98,15 @@ module _ (y : Rules) where
         γ = growthWithOne (wh .directoryEntry) (wh .directorySlots)
 
         fs : List ℕ
-        fs = ownClusters (y .allocEnd) (y .mayTake) v γ (clustersFor (length b))
+        fs = ownClusters y v γ (clustersFor (length b))
 
         pl : Plan
-        pl = made (y .allocEnd) (y .mayTake) v P′ (wh .directoryEntry) (wh .directoryChain) (wh .directorySlots) (firstDead (wh .directorySlots)) (lengthWithOne (wh .directoryEntry) (wh .directorySlots)) γ (clustersFor (length b)) [] (newFile (lastName p) t b)
+        pl = made y v (directoryOf y wh) (adding (directoryOf y wh) (wh .directorySlots) (clustersFor (length b)) (newFile (lastName p) t b))
 
         nd : clustersFor (length b) + γ ≡ need (op y a) σ
         nd = rw (room-at y v r a wh) (omega (arith, grow-new y (wh .directoryEntry) (wh .directorySlots)))
 
-        room : γ + clustersFor (length b) ≤ length (freeBelow (takeable (y .mayTake) (v .link)) (y .allocEnd))
+        room : γ + clustersFor (length b) ≤ length (freeClusters y v)
         room = omega (arith, nd, o .1, length-free (takeable (y .mayTake) (v .link)) (y .allocEnd))
 
         lack : nameUses (wh .directorySlots) (lastName p) ≡ 0
@@ -111,17 +115,20 @@ module _ (y : Rules) where
         fl : length fs ≡ clustersFor (length b)
         fl = fs-long y v γ (clustersFor (length b)) room
 
-        isf : isFile (pl .slotEntry) ≡ true
+        inTree : InTree
+        inTree = record { slotIndex = firstDead (wh .directorySlots); directorySlots = wh .directorySlots; newSlot = Slot.file (pl .filling .entry) fs (dataPages b) }
+
+        isf : isFile (pl .filling .entry) ≡ true
         isf = rw (ok .2) (empty-or y (length b) fs fl)
 
-        out : ((r′ : Root) × HoldsCard (after v pl) r′ × ((c : ℕ) → y .allocEnd ≤ c → (after v pl) .link c ≡ Link.free) × (abstractOf y (after v pl) r′ ≡ effect (op y a) σ)) × Fits v (reached r) pl
+        out : ((r′ : Root) × HoldsCard (after v pl) r′ × ((c : ℕ) → y .allocEnd ≤ c → (after v pl) .link c ≡ Link.free) × (abstractOf y (after v pl) r′ ≡ effect (op y a) σ)) × Fits v (reached r) pl inTree
         out =
-            created y v r h tab a wh (ok .0) (clustersFor (length b)) (newFile (lastName p) t b) refl (λ n. refl) refl refl lack room
+            created y v r h tab a wh (ok .0) (clustersFor (length b)) (newFile (lastName p) t b) (Slot.file (pl .filling .entry) fs (dataPages b)) refl (λ n. refl) refl refl lack room
             (λ ft. held-file y v r pl ft (p-used y v r (parent p) P′ (wh .directoryEntry) (wh .directoryChain) (wh .directorySlots) (deepest - length (parent p)) (wh .st)) (deepest - length (parent p)) isf fl (start-of y fs (fs-low y v γ (clustersFor (length b)))) (length-data b ∙ ap (λ n. 2 * n) (sym fl)))
             refl (ap (λ (n : ℕ). record { dead = 0; length = 0; back = n }) (back-fs v γ (clustersFor (length b)) room)) (λ R. plus-0 (take₁ (R .dead) (R .length) (R .back))) nd refl
 
         deed : Deed y v r pl
-        deed = record { entered = wh .st .entered; used = p-used y v r (parent p) (pageAtPath r (parent p)) (wh .directoryEntry) (wh .directoryChain) (wh .directorySlots) (deepest - length (parent p)) (wh .st); fit = out .1; low = λ c u. omega (arith, fs-low y v γ (clustersFor (length b)) c u, gs-low y v γ c u); work = Work.file (lastName p) t b (ok .2) (static-time (goodPath (suc deepest) p) (validTime t) (m .0)) fl refl }
+        deed = record { entered = wh .st .entered; used = p-used y v r (parent p) (pageAtPath r (parent p)) (wh .directoryEntry) (wh .directoryChain) (wh .directorySlots) (deepest - length (parent p)) (wh .st); tree = inTree; fit = out .1; low = λ c u. omega (arith, fs-low y v γ (clustersFor (length b)) c u, gs-low y v γ c u); work = Work.file (lastName p) t b (ok .2) (static-time (goodPath (suc deepest) p) (validTime t) (m .0)) fl refl }
 
     pub act-mkdir : (p : Path) (t : List ℕ) → Accepts (op y (makeDirectory p t)) σ → Outcome y v r (makeDirectory p t)
     unfolding need grown worked taken
@@ -150,15 +157,15 @@ module _ (y : Rules) where
         γ = growthWithOne (wh .directoryEntry) (wh .directorySlots)
 
         fs : List ℕ
-        fs = ownClusters (y .allocEnd) (y .mayTake) v γ 1
+        fs = ownClusters y v γ 1
 
         pl : Plan
-        pl = made (y .allocEnd) (y .mayTake) v P′ (wh .directoryEntry) (wh .directoryChain) (wh .directorySlots) (firstDead (wh .directorySlots)) (lengthWithOne (wh .directoryEntry) (wh .directorySlots)) γ 1 [] (newDirectory (lastName p) t (firstOf (wh .directoryChain)) (2 + firstDead (wh .directorySlots)))
+        pl = made y v (directoryOf y wh) (adding (directoryOf y wh) (wh .directorySlots) 1 (newDirectory (lastName p) t (firstOf (wh .directoryChain)) (2 + firstDead (wh .directorySlots))))
 
         nd : 1 + γ ≡ need (op y a) σ
         nd = rw (room-at y v r a wh) (omega (arith, grow-new y (wh .directoryEntry) (wh .directorySlots)))
 
-        room : γ + 1 ≤ length (freeBelow (takeable (y .mayTake) (v .link)) (y .allocEnd))
+        room : γ + 1 ≤ length (freeClusters y v)
         room = omega (arith, nd, o .1, length-free (takeable (y .mayTake) (v .link)) (y .allocEnd))
 
         lack : nameUses (wh .directorySlots) (lastName p) ≡ 0
@@ -167,18 +174,39 @@ module _ (y : Rules) where
         fl : length fs ≡ 1
         fl = fs-long y v γ 1 room
 
-        isd : isSubdirectory (pl .slotEntry) ≡ true
+        inTree : InTree
+        inTree = record { slotIndex = firstDead (wh .directorySlots); directorySlots = wh .directorySlots; newSlot = Slot.directory (pl .filling .entry) fs }
+
+        isd : isSubdirectory (pl .filling .entry) ≡ true
         isd = rw (ok .2)
+
+        tv : validTime t ≡ true
+        tv = static-time (goodPath deepest p) (validTime t) (m .0)
+
+        -- the new slot is within the directory's length or follows it
+        within : 2 + firstDead (wh .directorySlots) ≤ wh .directoryEntry .length
+        within = omega (arith, fd-le (wh .directorySlots), rep-length v _ _ (wh .directorySlots) (wh .st .rep), length-drop 2 (take (wh .directoryEntry .length) (pagesOf (wh .directoryChain))), length-take (wh .directoryEntry .length) (pagesOf (wh .directoryChain)), wh .st .two)
+
+        low : (c : ℕ) → y .allocEnd ≤ c → times (wh .directoryChain) c ≡ 0
+        low c u = omega (arith, wh .st .own c, card-used v r h c (tab c u))
+
+        -- `.` and `..` are read back from their pages
+        dots : map decoded (pl .filling .pages) ≡ some (dotEntry t (firstOf (wh .directoryChain)) (2 + firstDead (wh .directorySlots))) ∷ some (dotDotEntry t) ∷ []
+        dots =
+            let short = few (y .allocEnd) (wh .directoryChain) (λ c. omega (arith, wh .st .own c, h .once c)) low in
+            ap₂ (λ (d u : Option Entry). d ∷ u ∷ [])
+            (decoded-new _ (whole _ _ _ _ t dotName (omega arith) (omega arith) (first-fits y (wh .directoryChain) low) (omega (arith, within, short, wh .st .long, y .limited)) tv (omega arith) refl))
+            (decoded-new _ (whole _ _ _ _ t dotDotName (omega arith) (omega arith) (omega arith) (omega arith) tv (omega arith) refl))
 
         deep : 0 < deepest - length (parent p)
         deep = omega (arith, length-parent p, ok .0, ok .1)
 
-        out : ((r′ : Root) × HoldsCard (after v pl) r′ × ((c : ℕ) → y .allocEnd ≤ c → (after v pl) .link c ≡ Link.free) × (abstractOf y (after v pl) r′ ≡ effect (op y a) σ)) × Fits v (reached r) pl
+        out : ((r′ : Root) × HoldsCard (after v pl) r′ × ((c : ℕ) → y .allocEnd ≤ c → (after v pl) .link c ≡ Link.free) × (abstractOf y (after v pl) r′ ≡ effect (op y a) σ)) × Fits v (reached r) pl inTree
         out =
-            created y v r h tab a wh (ok .0) 1 (newDirectory (lastName p) t (firstOf (wh .directoryChain)) (2 + firstDead (wh .directorySlots))) refl (λ n. refl) refl (drop-two (pagesOf fs)) lack room
+            created y v r h tab a wh (ok .0) 1 (newDirectory (lastName p) t (firstOf (wh .directoryChain)) (2 + firstDead (wh .directorySlots))) (Slot.directory (pl .filling .entry) fs) refl (λ n. refl) refl (drop-two (pagesOf fs)) lack room
             (λ ft. held-dir y v r pl ft (p-used y v r (parent p) P′ (wh .directoryEntry) (wh .directoryChain) (wh .directorySlots) (deepest - length (parent p)) (wh .st)) (deepest - length (parent p))
-            (newEntry directoryMode 0 (firstOf (wh .directoryChain)) (2 + firstDead (wh .directorySlots)) t dotName) (newEntry directoryMode 0 0 0 t dotDotName) isd deep fl fl (start-of y fs (fs-low y v γ 1)) refl refl refl)
+            (dotEntry t (firstOf (wh .directoryChain)) (2 + firstDead (wh .directorySlots))) (dotDotEntry t) isd deep fl fl (start-of y fs (fs-low y v γ 1)) dots refl refl)
             refl (ap (λ (n : ℕ). record { dead = 0; length = 2; back = n }) (back-fs v γ 1 room)) (λ R. plus-0 (take₁ (R .dead) (R .length) (R .back))) nd refl
 
         deed : Deed y v r pl
-        deed = record { entered = wh .st .entered; used = p-used y v r (parent p) (pageAtPath r (parent p)) (wh .directoryEntry) (wh .directoryChain) (wh .directorySlots) (deepest - length (parent p)) (wh .st); fit = out .1; low = λ c u. omega (arith, fs-low y v γ 1 c u, gs-low y v γ c u); work = Work.directory (lastName p) t (ok .2) (static-time (goodPath deepest p) (validTime t) (m .0)) (omega (arith, fd-le (wh .directorySlots), rep-length v _ _ (wh .directorySlots) (wh .st .rep), length-drop 2 (take (wh .directoryEntry .length) (pagesOf (wh .directoryChain))), length-take (wh .directoryEntry .length) (pagesOf (wh .directoryChain)), wh .st .two)) refl }
+        deed = record { entered = wh .st .entered; used = p-used y v r (parent p) (pageAtPath r (parent p)) (wh .directoryEntry) (wh .directoryChain) (wh .directorySlots) (deepest - length (parent p)) (wh .st); tree = inTree; fit = out .1; low = λ c u. omega (arith, fs-low y v γ 1 c u, gs-low y v γ c u); work = Work.directory (lastName p) t (2 + firstDead (wh .directorySlots)) (ok .2) tv within refl }

@@ -13,6 +13,7 @@ use Rattle.model.specs.Entry.{Entry, isLive}
 use Rattle.model.specs.Holds.{HoldsCard, HoldsSlots, deepest}
 use Rattle.model.specs.Lookup.{Found, absent, found, isNamed, lookFrom, lookIn, pageAtPath, tell}
 use Rattle.model.specs.Names.{Name, Path, goodName, goodNames, lastName, parent}
+use Rattle.model.specs.Plan.{Directory}
 use Rattle.model.specs.Refusal.{first}
 use Rattle.model.specs.Standing.{Standing, standing}
 use Rattle.model.specs.Tree.{Root, Slot, Tree, clusterUses, deadSlots, end, nameHit, nameUses, node, rootSlot, slotCount}
@@ -117,6 +118,10 @@ module _ (y : Rules) where
     pub found-so : lookFrom (rootSlot r) (r .slots) (parent (path a)) ≡ found (Slot.directory directoryEntry directoryChain) directorySlots
     pub st : Site v r (parent (path a)) (pageAtPath r (parent (path a))) directoryEntry directoryChain directorySlots (deepest - length (parent (path a)))
     pub at : lookFrom (rootSlot r) (r .slots) (path a) ≡ lookIn directorySlots (lastName (path a) ∷ [])
+
+  -- its page, entry and chain
+  abbrev pub directoryOf : {v : View} {r : Root} {a : Change} → Where v r a → Directory
+  directoryOf {v} {r} {a} wh = record { page = pageAtPath r (parent (path a)); entry = wh .directoryEntry; chain = wh .directoryChain }
 
   pub where-is : (v : View) (r : Root) → HoldsCard v r → (a : Change) → 0 < length (path a) → standingWay ((abstractOf y v r) .look) (path a) ≡ 0 → Where v r a
   where-is v r h a k w = ⊎-elim (λ z. make (r .rootEntry) (r .chain) (r .slots) (rw z)) (λ z. let d = on-dir _ z in make (d .0) (d .1) (d .2) (d .3)) (way-parent ((abstractOf y v r) .look) (path a) w)

@@ -4,6 +4,7 @@ pub mod Slices
 pub mod Fields
 pub mod PageBytes
 pub mod Frame
+pub mod Chains
 pub mod CheckHolds
 pub mod CountLaws
 pub mod Allocation
@@ -19,6 +20,7 @@ pub mod Operations
 pub mod ChangeOperations
 pub mod AbstractCards
 pub mod SlotOfName
+pub mod NewEntries
 pub mod PlanActs
 pub mod Directories
 pub mod NewClusters

@@ -10,11 +10,11 @@ use lib.Dec.{eqb, ltb, lt→ltb}
 use lib.ListN.{length}
 use Rattle.model.specs.Change.{Rules}
 use Rattle.model.specs.Check.{dots}
-use Rattle.model.specs.Entry.{Entry, directoryClusters, endMark, entryOf, fileClusters, isDirectory, isFile, isSubdirectory}
+use Rattle.model.specs.Entry.{Entry, directoryClusters, endMark, fileClusters, isDirectory, isFile, isSubdirectory}
 use Rattle.model.specs.Holds.{DotEntries, HoldsSlot}
 use Rattle.model.specs.Lookup.{firstDead}
 use Rattle.model.specs.Names.{Path, sameName}
-use Rattle.model.specs.Pages.{zeroPage}
+use Rattle.model.specs.Pages.{decoded, zeroCluster}
 use Rattle.model.specs.Plan.{Plan, after, firstOf, growthWithOne, lengthWithOne, linkTo, setAll}
 use Rattle.model.specs.Tree.{Root, Slot, Tree, deadHit, deadSlots, end, hit, reached, slotCount, times}
 use Rattle.model.specs.View.{View, firstLink, pagesOf}
@@ -22,20 +22,20 @@ use Rattle.model.proofs.Equality.{Eq-number, bool, of-T, zero?}
 use Rattle.model.proofs.Frame.{ne, needs, parts-le, times-pages}
 use Rattle.model.proofs.Operations.{Room, grow₁, take₁}
 use Rattle.model.proofs.PlanFits.{Shape, length-pages}
-use Rattle.model.proofs.PlanHolds.{Fits, all-map, links-fs}
+use Rattle.model.proofs.PlanHolds.{Fits, InTree, all-map, links-fs}
 use Rattle.model.proofs.Sites.{Site}
 use Rattle.model.proofs.SlotLaws.{deads-set, setSlot}
 use Rattle.model.proofs.SlotOfName.{fd-dead, fd-le}
 
 module _ (y : Rules) where
   -- What stands on the new clusters.
-  module _ (v : View) (r : Root) (p : Plan) (ft : Fits v (reached r) p) (pu : (a : ℕ) → hit (p .directoryPage) a ≤ reached r (a / 2)) where
-    apart : (a : ℕ) → 1 ≤ times (pagesOf (p .taken)) a → (eqb (p .slotPage) a ≡ false) × (eqb (p .directoryPage) a ≡ false)
+  module _ (v : View) (r : Root) (p : Plan) {t : InTree} (ft : Fits v (reached r) p t) (pu : (a : ℕ) → hit (p .directory .page) a ≤ reached r (a / 2)) where
+    apart : (a : ℕ) → 1 ≤ times (pagesOf (p .taken)) a → (eqb (p .slotPage) a ≡ false) × (eqb (p .directory .page) a ≡ false)
     apart a h =
         let c = times-pages (p .taken) a in
         let z : hit (p .slotPage) a ≡ 0 = omega (arith, ft .slot a, ft .clear (a / 2), ft .own (a / 2)) in
-        let w : hit (p .directoryPage) a ≡ 0 = omega (arith, pu a, ft .clear (a / 2)) in
-        (off (p .slotPage) z, off (p .directoryPage) w)
+        let w : hit (p .directory .page) a ≡ 0 = omega (arith, pu a, ft .clear (a / 2)) in
+        (off (p .slotPage) z, off (p .directory .page) w)
       where
         off : (x : ℕ) → hit x a ≡ 0 → eqb x a ≡ false
         off x i = ⊎-elim (λ (b : eqb x a ≡ true). absurd (let j : hit x a ≡ 1 = rw b in omega arith)) (λ b. b) (bool (eqb x a))
@@ -43,22 +43,22 @@ module _ (y : Rules) where
     once : (a : ℕ) → times (pagesOf (p .taken)) a ≤ 1
     once a = omega (arith, times-pages (p .taken) a, ft .clear (a / 2))
 
-    pub new-pages : length (p .takenPages) ≡ 2 * length (p .taken) → map ((after v p) .page) (pagesOf (p .taken)) ≡ p .takenPages
-    new-pages e = all-map ((after v p) .page) (pagesOf (p .taken)) (p .takenPages) (setAll (pagesOf (p .growth)) (some zeroPage ∷ some zeroPage ∷ []) (v .page)) (e ∙ sym (length-pages (p .taken))) once (λ a h. let z = apart a h in rw (z .0, z .1))
+    pub new-pages : length (p .filling .pages) ≡ 2 * length (p .taken) → map ((after v p) .page) (pagesOf (p .taken)) ≡ p .filling .pages
+    new-pages e = all-map ((after v p) .page) (pagesOf (p .taken)) (p .filling .pages) (setAll (pagesOf (p .growth)) zeroCluster (v .page)) (e ∙ sym (length-pages (p .taken))) once (λ a h. let z = apart a h in rw (z .0, z .1))
 
-    pub new-ents : length (p .takenEntries) ≡ 2 * length (p .taken) → map ((after v p) .entry) (pagesOf (p .taken)) ≡ p .takenEntries
-    new-ents e = all-map ((after v p) .entry) (pagesOf (p .taken)) (p .takenEntries) (setAll (pagesOf (p .growth)) (some (entryOf zeroPage) ∷ some (entryOf zeroPage) ∷ []) (v .entry)) (e ∙ sym (length-pages (p .taken))) once (λ a h. let z = apart a h in rw (z .0, z .1))
+    pub new-ents : length (map decoded (p .filling .pages)) ≡ 2 * length (p .taken) → map ((after v p) .entry) (pagesOf (p .taken)) ≡ map decoded (p .filling .pages)
+    new-ents e = all-map ((after v p) .entry) (pagesOf (p .taken)) (map decoded (p .filling .pages)) (setAll (pagesOf (p .growth)) (map decoded zeroCluster) (v .entry)) (e ∙ sym (length-pages (p .taken))) once (λ a h. let z = apart a h in rw (z .0, z .1))
 
-    pub slot-ent : (after v p) .entry (p .slotPage) ≡ some (p .slotEntry)
+    pub slot-ent : (after v p) .entry (p .slotPage) ≡ some (p .filling .entry)
     slot-ent = rw (Eq-number .self (p .slotPage))
 
-    pub held-file : (D : ℕ) → isFile (p .slotEntry) ≡ true → length (p .taken) ≡ fileClusters (p .slotEntry) → firstLink (p .slotEntry) ≡ linkTo (p .taken) → length (p .takenPages) ≡ 2 * length (p .taken)
-        → HoldsSlot (after v p) D (p .slotPage) (Slot.file (p .slotEntry) (p .taken) (p .takenPages))
+    pub held-file : (D : ℕ) → isFile (p .filling .entry) ≡ true → length (p .taken) ≡ fileClusters (p .filling .entry) → firstLink (p .filling .entry) ≡ linkTo (p .taken) → length (p .filling .pages) ≡ 2 * length (p .taken)
+        → HoldsSlot (after v p) D (p .slotPage) (Slot.file (p .filling .entry) (p .taken) (p .filling .pages))
     held-file D a b c d = (slot-ent, a, b, rw c (links-fs v (reached r) p ft), sym (new-pages d))
 
-    pub held-dir : (D : ℕ) (d u : Entry) → isSubdirectory (p .slotEntry) ≡ true → 0 < D → length (p .taken) ≡ directoryClusters (p .slotEntry) → length (p .taken) ≡ 1 → firstLink (p .slotEntry) ≡ linkTo (p .taken)
-        → p .takenEntries ≡ some d ∷ some u ∷ [] → (isDirectory d && sameName (d .name) (0x2E ∷ [])) ≡ true → (isDirectory u && sameName (u .name) (0x2E ∷ 0x2E ∷ [])) ≡ true
-        → HoldsSlot (after v p) D (p .slotPage) (Slot.directory (p .slotEntry) (p .taken))
+    pub held-dir : (D : ℕ) (d u : Entry) → isSubdirectory (p .filling .entry) ≡ true → 0 < D → length (p .taken) ≡ directoryClusters (p .filling .entry) → length (p .taken) ≡ 1 → firstLink (p .filling .entry) ≡ linkTo (p .taken)
+        → map decoded (p .filling .pages) ≡ some d ∷ some u ∷ [] → (isDirectory d && sameName (d .name) (0x2E ∷ [])) ≡ true → (isDirectory u && sameName (u .name) (0x2E ∷ 0x2E ∷ [])) ≡ true
+        → HoldsSlot (after v p) D (p .slotPage) (Slot.directory (p .filling .entry) (p .taken))
     held-dir D d u a z b o c ed gd gu =
         (slot-ent, a, z, b, rw c (links-fs v (reached r) p ft), dots (p .taken) o (new-ents (ap length ed ∙ omega arith) ∙ ed))
       where

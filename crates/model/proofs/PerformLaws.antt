@@ -1,4 +1,4 @@
--- Demand 3, of every accepted card and every two changes.
+-- A change on a view, from the check to the view that it leaves, does what its operation does: views are a machine for the operations.
 use Prim.Native.Nat.{_≤_, suc, zero, ℕ}
 use mathlib.Core.Option.{Option, none, some}
 use mathlib.Core.Path.{_∙_, _≡_, ap, refl, subst, sym}

@@ -14,7 +14,7 @@ use Rattle.model.specs.Entry.{Entry, endMark}
 use Rattle.model.specs.Holds.{HoldsCard, HoldsSlot}
 use Rattle.model.specs.Lookup.{absent, isNamed, lookFrom, lookIn, tell}
 use Rattle.model.specs.Names.{Name, Path, parent, sameName, samePath}
-use Rattle.model.specs.Plan.{Filling, Plan, after, firstOf, freeBelow, growthClusters, linkTo, made, ownClusters, returned, takeable, withLength}
+use Rattle.model.specs.Plan.{Directory, Edit, Plan, after, firstOf, freeClusters, growthClusters, linkTo, made, ownClusters, returned, takeable, withLength}
 use Rattle.model.specs.Standing.{standing}
 use Rattle.model.specs.Tree.{Root, Slot, Tree, deadHit, deadSlots, end, entryPages, nameUses, reached, rootSlot, times}
 use Rattle.model.specs.View.{Link, View}
@@ -27,7 +27,7 @@ use Rattle.model.proofs.Frame.{hit-self, times-drop, times-split, times
 use Rattle.model.proofs.Operations.{AbstractCard, effect, need, worked}
 use Rattle.model.proofs.PathLaws.{level-law, path-law}
 use Rattle.model.proofs.PlanFits.{Shape}
-use Rattle.model.proofs.PlanHolds.{Fits, free-after, fresh, step}
+use Rattle.model.proofs.PlanHolds.{Fits, InTree, free-after, fresh, step}
 use Rattle.model.proofs.Sites.{Moved, Site}
 use Rattle.model.proofs.SlotLaws.{old-le, oldName, setSlot}
 use Rattle.model.proofs.SlotOfName.{total-times}
@@ -36,31 +36,31 @@ use Rattle.model.proofs.TreePlaces.{Context, down, next, plug, top}
 
 module _ (y : Rules) where
   -- the clusters taken
-  module _ (v : View) (γ k : ℕ) (room : γ + k ≤ length (freeBelow (takeable (y .mayTake) (v .link)) (y .allocEnd))) where
-    pub gs-long : length (growthClusters (y .allocEnd) (y .mayTake) v γ) ≡ γ
-    gs-long = length-take γ (freeBelow (takeable (y .mayTake) (v .link)) (y .allocEnd)) ∙ omega arith
+  module _ (v : View) (γ k : ℕ) (room : γ + k ≤ length (freeClusters y v)) where
+    pub gs-long : length (growthClusters y v γ) ≡ γ
+    gs-long = length-take γ (freeClusters y v) ∙ omega arith
 
-    pub fs-long : length (ownClusters (y .allocEnd) (y .mayTake) v γ k) ≡ k
-    fs-long = length-take k (drop γ (freeBelow (takeable (y .mayTake) (v .link)) (y .allocEnd))) ∙ omega (arith, length-drop γ (freeBelow (takeable (y .mayTake) (v .link)) (y .allocEnd)))
+    pub fs-long : length (ownClusters y v γ k) ≡ k
+    fs-long = length-take k (drop γ (freeClusters y v)) ∙ omega (arith, length-drop γ (freeClusters y v))
 
-  pub fs-low : (v : View) (γ k c : ℕ) → y .allocEnd ≤ c → times (ownClusters (y .allocEnd) (y .mayTake) v γ k) c ≡ 0
-  fs-low v γ k c h = omega (arith, free-low (takeable (y .mayTake) (v .link)) (y .allocEnd) c h, times-drop γ (freeBelow (takeable (y .mayTake) (v .link)) (y .allocEnd)) c, times-take k (drop γ (freeBelow (takeable (y .mayTake) (v .link)) (y .allocEnd))) c)
+  pub fs-low : (v : View) (γ k c : ℕ) → y .allocEnd ≤ c → times (ownClusters y v γ k) c ≡ 0
+  fs-low v γ k c h = omega (arith, free-low (takeable (y .mayTake) (v .link)) (y .allocEnd) c h, times-drop γ (freeClusters y v) c, times-take k (drop γ (freeClusters y v)) c)
 
-  pub gs-low : (v : View) (γ c : ℕ) → y .allocEnd ≤ c → times (growthClusters (y .allocEnd) (y .mayTake) v γ) c ≡ 0
-  gs-low v γ c h = omega (arith, free-low (takeable (y .mayTake) (v .link)) (y .allocEnd) c h, times-take γ (freeBelow (takeable (y .mayTake) (v .link)) (y .allocEnd)) c)
+  pub gs-low : (v : View) (γ c : ℕ) → y .allocEnd ≤ c → times (growthClusters y v γ) c ≡ 0
+  gs-low v γ c h = omega (arith, free-low (takeable (y .mayTake) (v .link)) (y .allocEnd) c h, times-take γ (freeClusters y v) c)
 
-  pub new-free : (v : View) (γ k c : ℕ) → times (ownClusters (y .allocEnd) (y .mayTake) v γ k) c + times (growthClusters (y .allocEnd) (y .mayTake) v γ) c ≤ isFree (takeable (y .mayTake) (v .link) c)
+  pub new-free : (v : View) (γ k c : ℕ) → times (ownClusters y v γ k) c + times (growthClusters y v γ) c ≤ isFree (takeable (y .mayTake) (v .link) c)
   new-free v γ k c =
-      omega (arith, free-times (takeable (y .mayTake) (v .link)) (y .allocEnd) c, times-split γ (freeBelow (takeable (y .mayTake) (v .link)) (y .allocEnd)) c, times-take k (drop γ (freeBelow (takeable (y .mayTake) (v .link)) (y .allocEnd))) c)
+      omega (arith, free-times (takeable (y .mayTake) (v .link)) (y .allocEnd) c, times-split γ (freeClusters y v) c, times-take k (drop γ (freeClusters y v)) c)
 
   -- what was taken from the pool goes back to it
-  pub back-new : (v : View) (xs : List ℕ) → ((c : ℕ) → times xs c ≤ isFree (takeable (y .mayTake) (v .link) c)) → ((c : ℕ) → y .allocEnd ≤ c → times xs c ≡ 0) → returned (y .allocEnd) (y .mayTake) xs ≡ length xs
+  pub back-new : (v : View) (xs : List ℕ) → ((c : ℕ) → times xs c ≤ isFree (takeable (y .mayTake) (v .link) c)) → ((c : ℕ) → y .allocEnd ≤ c → times xs c ≡ 0) → returned y xs ≡ length xs
   back-new v xs k low = total-ext _ (times xs) (y .allocEnd) (λ c u. one c) ∙ total-times xs (y .allocEnd) low
     where
       one : (c : ℕ) → cond (y .mayTake c) (times xs c) 0 ≡ times xs c
       one c = ⊎-elim (λ (a : y .mayTake c ≡ true). rw a) (λ (a : y .mayTake c ≡ false). let z : isFree (takeable (y .mayTake) (v .link) c) ≡ 0 = rw a in rw a (omega (arith, k c))) (bool (y .mayTake c))
 
-  pub back-append : (xs ys : List ℕ) → returned (y .allocEnd) (y .mayTake) (xs ++ ys) ≡ returned (y .allocEnd) (y .mayTake) xs + returned (y .allocEnd) (y .mayTake) ys
+  pub back-append : (xs ys : List ℕ) → returned y (xs ++ ys) ≡ returned y xs + returned y ys
   back-append xs ys = total-ext _ _ (y .allocEnd) (λ c u. one c) ∙ sym (total-add _ _ (y .allocEnd))
     where
       one : (c : ℕ) → cond (y .mayTake c) (times (xs ++ ys) c) 0 ≡ cond (y .mayTake c) (times xs c) 0 + cond (y .mayTake c) (times ys c) 0
@@ -73,10 +73,10 @@ module _ (y : Rules) where
       ⊎-elim (λ (a : eqb c endMark ≡ true). absurd (let e : c ≡ endMark = Eq-number .sound c endMark a in omega (arith, h c (omega (arith, y .limited)), hit-self c))) (λ (a : eqb c endMark ≡ false). rw a) (bool (eqb c endMark))
 
   -- The free count after a change.
-  free-law : (v : View) (r : Root) (p : Plan) → HoldsCard v r → (k : Fits v (reached r) p)
+  free-law : (v : View) (r : Root) (p : Plan) {t : InTree} → HoldsCard v r → (k : Fits v (reached r) p t)
       → ((c : ℕ) → times (p .taken) c + times (p .growth) c ≤ isFree (takeable (y .mayTake) (v .link) c)) → ((c : ℕ) → y .allocEnd ≤ c → times (p .taken) c ≡ 0) → ((c : ℕ) → y .allocEnd ≤ c → times (p .growth) c ≡ 0)
       → totalBelow (λ c. isFree (takeable (y .mayTake) ((after v p) .link) c)) (y .allocEnd) + (length (p .taken) + length (p .growth))
-      ≡ totalBelow (λ c. isFree (takeable (y .mayTake) (v .link) c)) (y .allocEnd) + returned (y .allocEnd) (y .mayTake) (p .given)
+      ≡ totalBelow (λ c. isFree (takeable (y .mayTake) (v .link) c)) (y .allocEnd) + returned y (p .given)
   free-law v r p h k fr lf lg =
       omega (
         arith,
@@ -104,7 +104,7 @@ module _ (y : Rules) where
   stable : (e e′ : Entry) (cs cs′ : List ℕ) (s s′ : Tree) (x : Slot) (l : Context) → (roomOfSlot y) x (plug l (Slot.directory e′ cs′) s′) ≡ (roomOfSlot y) x (plug l (Slot.directory e cs) s)
   stable e e′ cs cs′ s s′ Slot.dead l = refl
   stable e e′ cs cs′ s s′ (Slot.file f ds es) l = refl
-  stable e e′ cs cs′ s s′ (Slot.directory f ds) l = ap (λ (n : ℕ). record { dead = n; length = f .length; back = returned (y .allocEnd) (y .mayTake) ds }) (same l)
+  stable e e′ cs cs′ s s′ (Slot.directory f ds) l = ap (λ (n : ℕ). record { dead = n; length = f .length; back = returned y ds }) (same l)
     where
       same : (l : Context) → deadSlots (plug l (Slot.directory e′ cs′) s′) ≡ deadSlots (plug l (Slot.directory e cs) s)
       same (top b) = refl
@@ -156,45 +156,45 @@ module _ (y : Rules) where
               ∙ ap (λ x. cond (samePath z x) ((op y a) .rooms σ (path a)) (cond (samePath z q) (worked (op y a) (σ .room z)) (σ .room z))) (sym pe)
               ∙ ap (λ x. cond (samePath z (path a)) ((op y a) .rooms σ (path a)) (cond (samePath z x) (worked (op y a) (σ .room z)) (σ .room z))) (sym qe)
 
-  -- What a plan makes of the card, said of the abstract card.
-  pub acted : (v : View) (r : Root) → HoldsCard v r → ((c : ℕ) → y .allocEnd ≤ c → v .link c ≡ Link.free) → (a : Change) (q : Path) (nm : Name) (P : ℕ) (e : Entry) (cs : List ℕ) (s : Tree) (D : ℕ)
-      → Site v r q P e cs s D → path a ≡ q ++ (nm ∷ []) → parent (path a) ≡ q
-      → (i n γ k : ℕ) (oc : List ℕ) (f : List ℕ → Filling)
-      → let p = made (y .allocEnd) (y .mayTake) v P e cs s i n γ k oc f in
-      let s′ = setSlot i (p .newSlot) end s in
-      (sh : Shape e s i n γ) → (room : γ + k ≤ length (freeBelow (takeable (y .mayTake) (v .link)) (y .allocEnd))) → Fits v (reached r) p
-      → HoldsSlot (after v p) D (p .slotPage) (p .newSlot) → entryPages (p .newSlot) ≡ []
-      → ((m : Name) → isNamed (p .newSlot) m ≡ sameName nm m) ⊎ (((m : Name) → isNamed (p .newSlot) m ≡ false) × (nameUses s′ nm ≡ 0))
-      → ((m : Name) → sameName nm m ≡ false → oldName i s m ≡ 0) → ((k : Name) (z : Path) → lookIn s (nm ∷ k ∷ z) ≡ absent)
+  -- What a plan makes of the card, said of the abstract card: slot `u .index` becomes x.
+  pub acted : (v : View) (r : Root) → HoldsCard v r → ((c : ℕ) → y .allocEnd ≤ c → v .link c ≡ Link.free) → (a : Change) (q : Path) (nm : Name) (d : Directory) (s : Tree) (D : ℕ)
+      → Site v r q (d .page) (d .entry) (d .chain) s D → path a ≡ q ++ (nm ∷ []) → parent (path a) ≡ q → (u : Edit) (x : Slot)
+      → let p = made y v d u in
+      let s′ = setSlot (u .index) x end s in
+      (sh : Shape (d .entry) s (u .index) (u .newLength) (u .growing)) → (room : u .growing + u .own ≤ length (freeClusters y v))
+      → Fits v (reached r) p (record { slotIndex = u .index; directorySlots = s; newSlot = x })
+      → HoldsSlot (after v p) D (p .slotPage) x → entryPages x ≡ []
+      → ((m : Name) → isNamed x m ≡ sameName nm m) ⊎ (((m : Name) → isNamed x m ≡ false) × (nameUses s′ nm ≡ 0))
+      → ((m : Name) → sameName nm m ≡ false → oldName (u .index) s m ≡ 0) → ((k : Name) (z : Path) → lookIn s (nm ∷ k ∷ z) ≡ absent)
       → tell standing none (lookIn s′ (nm ∷ [])) ≡ (op y a) .puts (abstractOf y v r) (path a)
       → tell (roomOfSlot y) noRoom (lookIn s′ (nm ∷ [])) ≡ (op y a) .rooms (abstractOf y v r) (path a)
-      → (roomOfSlot y) (Slot.directory (withLength e n) (cs ++ p .growth)) s′ ≡ worked (op y a) ((roomOfSlot y) (Slot.directory e cs) s)
-      → k + γ ≡ need (op y a) (abstractOf y v r) → returned (y .allocEnd) (y .mayTake) oc ≡ (op y a) .freed (abstractOf y v r)
+      → (roomOfSlot y) (Slot.directory (withLength (d .entry) (u .newLength)) (d .chain ++ p .growth)) s′ ≡ worked (op y a) ((roomOfSlot y) (Slot.directory (d .entry) (d .chain)) s)
+      → u .own + u .growing ≡ need (op y a) (abstractOf y v r) → returned y (u .given) ≡ (op y a) .freed (abstractOf y v r)
       → (r′ : Root) × HoldsCard (after v p) r′ × ((c : ℕ) → y .allocEnd ≤ c → (after v p) .link c ≡ Link.free) × (abstractOf y (after v p) r′ ≡ effect (op y a) (abstractOf y v r))
-  acted v r h tab a q nm P e cs s D t pe qe i n γ k oc f sh room ft hd nx hx ho hb fn rn rq nd fd =
-      (z .0, z .1, table, abs-law v w r (z .0) a q nm P e cs s D n (cs ++ p .growth) (setSlot i (p .newSlot) end s) t pe qe (z .2) lf lr rq fq)
+  acted v r h tab a q nm d s D t pe qe u x sh room ft hd nx hx ho hb fn rn rq nd fd =
+      (z .0, z .1, table, abs-law v w r (z .0) a q nm (d .page) (d .entry) (d .chain) s D (u .newLength) (d .chain ++ p .growth) (setSlot (u .index) x end s) t pe qe (z .2) lf lr rq fq)
     where
       p : Plan
-      p = made (y .allocEnd) (y .mayTake) v P e cs s i n γ k oc f
+      p = made y v d u
 
       w : View
       w = after v p
 
-      st : Step v w (reached r) P e cs s (withLength e n) (p .growth) i (p .slotPage) (p .newSlot) end (fresh p)
+      st : Step v w (reached r) (d .page) (d .entry) (d .chain) s (withLength (d .entry) (u .newLength)) (p .growth) (u .index) (p .slotPage) x end (fresh p)
       st = step v (reached r) p ft
 
-      z : (r′ : Root) × HoldsCard w r′ × Moved r r′ q (Slot.directory e cs) s (Slot.directory (withLength e n) (cs ++ p .growth)) (setSlot i (p .newSlot) end s)
-      z = t .finish w (withLength e n) (p .growth) i (p .slotPage) (p .newSlot) end (fresh p) st (hd, (λ m. omega arith), rw nx tt)
+      z : (r′ : Root) × HoldsCard w r′ × Moved r r′ q (Slot.directory (d .entry) (d .chain)) s (Slot.directory (withLength (d .entry) (u .newLength)) (d .chain ++ p .growth)) (setSlot (u .index) x end s)
+      z = t .finish w (withLength (d .entry) (u .newLength)) (p .growth) (u .index) (p .slotPage) x end (fresh p) st (hd, (λ m. omega arith), rw nx tt)
 
       table : (c : ℕ) → y .allocEnd ≤ c → w .link c ≡ Link.free
-      table c u =
-          st .words c (omega (arith, t .own c, card-used v r h c (tab c u), old-le (p .newSlot) end i s c, fs-low v γ k c u, gs-low v γ c u)) ∙ tab c u
+      table c l =
+          st .words c (omega (arith, t .own c, card-used v r h c (tab c l), old-le x end (u .index) s c, fs-low v (u .growing) (u .own) c l, gs-low v (u .growing) c l)) ∙ tab c l
 
-      lf : (m : Name) (u : Path) → tell standing none (lookIn (setSlot i (p .newSlot) end s) (m ∷ u)) ≡ cond (samePath (m ∷ u) (nm ∷ [])) ((op y a) .puts (abstractOf y v r) (path a)) (tell standing none (lookIn s (m ∷ u)))
-      lf m u = level-law standing none i (p .newSlot) s nm (ft .low) (ft .uniq) hx ho hb m u ∙ ap (λ b. cond (samePath (m ∷ u) (nm ∷ [])) b (tell standing none (lookIn s (m ∷ u)))) fn
+      lf : (m : Name) (l : Path) → tell standing none (lookIn (setSlot (u .index) x end s) (m ∷ l)) ≡ cond (samePath (m ∷ l) (nm ∷ [])) ((op y a) .puts (abstractOf y v r) (path a)) (tell standing none (lookIn s (m ∷ l)))
+      lf m l = level-law standing none (u .index) x s nm (ft .low) (ft .uniq) hx ho hb m l ∙ ap (λ b. cond (samePath (m ∷ l) (nm ∷ [])) b (tell standing none (lookIn s (m ∷ l)))) fn
 
-      lr : (m : Name) (u : Path) → tell (roomOfSlot y) noRoom (lookIn (setSlot i (p .newSlot) end s) (m ∷ u)) ≡ cond (samePath (m ∷ u) (nm ∷ [])) ((op y a) .rooms (abstractOf y v r) (path a)) (tell (roomOfSlot y) noRoom (lookIn s (m ∷ u)))
-      lr m u = level-law (roomOfSlot y) noRoom i (p .newSlot) s nm (ft .low) (ft .uniq) hx ho hb m u ∙ ap (λ b. cond (samePath (m ∷ u) (nm ∷ [])) b (tell (roomOfSlot y) noRoom (lookIn s (m ∷ u)))) rn
+      lr : (m : Name) (l : Path) → tell (roomOfSlot y) noRoom (lookIn (setSlot (u .index) x end s) (m ∷ l)) ≡ cond (samePath (m ∷ l) (nm ∷ [])) ((op y a) .rooms (abstractOf y v r) (path a)) (tell (roomOfSlot y) noRoom (lookIn s (m ∷ l)))
+      lr m l = level-law (roomOfSlot y) noRoom (u .index) x s nm (ft .low) (ft .uniq) hx ho hb m l ∙ ap (λ b. cond (samePath (m ∷ l) (nm ∷ [])) b (tell (roomOfSlot y) noRoom (lookIn s (m ∷ l)))) rn
 
       fq : totalBelow (λ c. isFree (takeable (y .mayTake) (w .link) c)) (y .allocEnd) ≡ (abstractOf y v r) .free - need (op y a) (abstractOf y v r) + (op y a) .freed (abstractOf y v r)
-      fq = omega (arith, free-law v r p h ft (λ c. new-free v γ k c) (λ c u. fs-low v γ k c u) (λ c u. gs-low v γ c u), fs-long v γ k room, gs-long v γ k room, length-free (takeable (y .mayTake) (v .link)) (y .allocEnd))
+      fq = omega (arith, free-law v r p h ft (λ c. new-free v (u .growing) (u .own) c) (λ c l. fs-low v (u .growing) (u .own) c l) (λ c l. gs-low v (u .growing) c l), fs-long v (u .growing) (u .own) room, gs-long v (u .growing) (u .own) room, length-free (takeable (y .mayTake) (v .link)) (y .allocEnd))

@@ -1,6 +1,6 @@
 -- The plan of any change in a directory, and that it fits the card.
 use Prim.Native.Nat.{_%_, _*_, _+_, _-_, _/_, _<_, _≤_, suc, zero, ℕ}
-use mathlib.Core.Bool.{Bool, false, true}
+use mathlib.Core.Bool.{false, true}
 use mathlib.Core.List.{List, [], _++_, _∷_, append-nil}
 use mathlib.Core.Logic.{_⊎_, inl, inr, ⊎-elim}
 use mathlib.Core.Path.{_∙_, _≡_, ap, refl, sym}
@@ -8,10 +8,11 @@ use native.Mathlib.Omega.{arith}
 use lib.Dec.{eqb}
 use lib.ListN.{drop, getD, length, length-append, length-take, take}
 use lib.Seq.{drop-append-le, getD-append-seam, take-append-le, take-suc}
+use Rattle.model.specs.Change.{Rules}
 use Rattle.model.specs.Entry.{Entry, directoryClusters}
 use Rattle.model.specs.Holds.{Chain, DotEntries, HoldsCard, HoldsSlots, UniqueNames}
 use Rattle.model.specs.Names.{Path}
-use Rattle.model.specs.Plan.{Filling, freeBelow, growthClusters, linkTo, made, ownClusters, takeable, withLength}
+use Rattle.model.specs.Plan.{Directory, Edit, freeClusters, growthClusters, linkTo, made, ownClusters, takeable, withLength}
 use Rattle.model.specs.Tree.{Root, Slot, Tree, chainOf, end, entryPages, hit, node, reached, slotCount, times}
 use Rattle.model.specs.View.{Link, View, pagesOf}
 use Rattle.model.proofs.Allocation.{free-times, pool-le, times-append}
@@ -72,94 +73,94 @@ inner-more e cs gs two lc lg = (
 abbrev pub Shape : Entry → Tree → ℕ → ℕ → ℕ → Type 0
 Shape e s i n γ = ((γ ≡ 0) × (n ≡ e .length) × (i < slotCount s)) ⊎ ((i ≡ slotCount s) × (n ≡ suc (e .length)) × (γ ≡ 1 - e .length % 2))
 
-module _ (allocEnd : ℕ) (mayTake : ℕ → Bool) (v : View) (r : Root) (h : HoldsCard v r) (q : Path) (P : ℕ) (e : Entry) (cs : List ℕ) (s : Tree) (D : ℕ) (t : Site v r q P e cs s D) where
+module _ (y : Rules) (v : View) (r : Root) (h : HoldsCard v r) (q : Path) (d : Directory) (s : Tree) (D : ℕ) (t : Site v r q (d .page) (d .entry) (d .chain) s D) where
   -- The slot's page stands in the new list, which is the old one but for it.
-  listed : (i n γ : ℕ) → Shape e s i n γ → length (growthClusters allocEnd mayTake v γ) ≡ γ
-      → let L = entryPages (Slot.directory (withLength e n) (cs ++ growthClusters allocEnd mayTake v γ)) in (i < length L) × (L ≡ setPage i (getD L i 0) (entryPages (Slot.directory e cs)))
+  listed : (i n γ : ℕ) → Shape (d .entry) s i n γ → length (growthClusters y v γ) ≡ γ
+      → let L = entryPages (Slot.directory (withLength (d .entry) n) (d .chain ++ growthClusters y v γ)) in (i < length L) × (L ≡ setPage i (getD L i 0) (entryPages (Slot.directory (d .entry) (d .chain))))
   listed i n γ (inl (a, b, c)) lg =
-      rw (a, b, append-nil cs) (omega (arith, rep-length v D _ s (t .rep)), over-self i (entryPages (Slot.directory e cs)) (omega (arith, rep-length v D _ s (t .rep))))
+      rw (a, b, append-nil (d .chain)) (omega (arith, rep-length v D _ s (t .rep)), over-self i (entryPages (Slot.directory (d .entry) (d .chain))) (omega (arith, rep-length v D _ s (t .rep))))
   listed i n γ (inr (a, b, c)) lg =
-      let m = inner-more e cs (growthClusters allocEnd mayTake v γ) (t .two) (t .long) (lg ∙ c) in
-      let j : i ≡ length (entryPages (Slot.directory e cs)) = a ∙ sym (rep-length v D _ s (t .rep)) in
+      let m = inner-more (d .entry) (d .chain) (growthClusters y v γ) (t .two) (t .long) (lg ∙ c) in
+      let j : i ≡ length (entryPages (Slot.directory (d .entry) (d .chain))) = a ∙ sym (rep-length v D _ s (t .rep)) in
       rw (b, m .1, j) (
-        omega (arith, length-append (entryPages (Slot.directory e cs)) (m .0 ∷ [])),
-        rw (getD-append-seam (entryPages (Slot.directory e cs)) (m .0) [] 0) (sym (over-end (m .0) (entryPages (Slot.directory e cs)))),
+        omega (arith, length-append (entryPages (Slot.directory (d .entry) (d .chain))) (m .0 ∷ [])),
+        rw (getD-append-seam (entryPages (Slot.directory (d .entry) (d .chain))) (m .0) [] 0) (sym (over-end (m .0) (entryPages (Slot.directory (d .entry) (d .chain))))),
       )
 
-  long : (i n γ : ℕ) → Shape e s i n γ → length (growthClusters allocEnd mayTake v γ) ≡ γ → length (cs ++ growthClusters allocEnd mayTake v γ) ≡ directoryClusters (withLength e n)
-  long i n γ (inl (a, b, c)) lg = length-append cs (growthClusters allocEnd mayTake v γ) ∙ rw (lg, a, b) (omega (arith, t .long))
-  long i n γ (inr (a, b, c)) lg = length-append cs (growthClusters allocEnd mayTake v γ) ∙ rw (lg, c, b) (omega (arith, t .long))
+  long : (i n γ : ℕ) → Shape (d .entry) s i n γ → length (growthClusters y v γ) ≡ γ → length (d .chain ++ growthClusters y v γ) ≡ directoryClusters (withLength (d .entry) n)
+  long i n γ (inl (a, b, c)) lg = length-append (d .chain) (growthClusters y v γ) ∙ rw (lg, a, b) (omega (arith, t .long))
+  long i n γ (inr (a, b, c)) lg = length-append (d .chain) (growthClusters y v γ) ∙ rw (lg, c, b) (omega (arith, t .long))
 
-  two : (i n γ : ℕ) → Shape e s i n γ → 2 ≤ n
+  two : (i n γ : ℕ) → Shape (d .entry) s i n γ → 2 ≤ n
   two i n γ (inl (a, b, c)) = omega (arith, t .two)
   two i n γ (inr (a, b, c)) = omega (arith, t .two)
 
-  some-cs : (gs : List ℕ) (l : Link) → Chain v l cs → l ≡ linkTo (cs ++ gs)
-  some-cs gs l = go cs (t .dots)
+  some-cs : (gs : List ℕ) (l : Link) → Chain v l (d .chain) → l ≡ linkTo (d .chain ++ gs)
+  some-cs gs l = go (d .chain) (t .dots)
     where
       go : (cs : List ℕ) → DotEntries v cs → Chain v l cs → l ≡ linkTo (cs ++ gs)
       go [] d k = absurd d
       go (c ∷ cs) d k = k .0
 
-  needs-same : (gs : List ℕ) (n a : ℕ) → times (needs (Slot.directory e cs)) a ≡ times (needs (Slot.directory (withLength e n) (cs ++ gs))) a
-  needs-same gs n a = go cs (t .dots)
+  needs-same : (gs : List ℕ) (n a : ℕ) → times (needs (Slot.directory (d .entry) (d .chain))) a ≡ times (needs (Slot.directory (withLength (d .entry) n) (d .chain ++ gs))) a
+  needs-same gs n a = go (d .chain) (t .dots)
     where
       go : (cs : List ℕ) → DotEntries v cs → times (take 2 (pagesOf cs)) a ≡ times (take 2 (pagesOf (cs ++ gs))) a
       go [] d = absurd d
       go (c ∷ cs) d = refl
 
-  pub fits : (i n γ k : ℕ) (oc : List ℕ) (f : List ℕ → Filling) → Shape e s i n γ → γ + k ≤ length (freeBelow (takeable mayTake (v .link)) allocEnd)
-      → ((c : ℕ) → times (chainOf ((f (ownClusters allocEnd mayTake v γ k)) .newSlot)) c ≡ times (ownClusters allocEnd mayTake v γ k) c) → ((c : ℕ) → times oc c ≡ oldUses i s c) → UniqueNames (setSlot i ((f (ownClusters allocEnd mayTake v γ k)) .newSlot) end s)
-      → Fits v (reached r) (made allocEnd mayTake v P e cs s i n γ k oc f)
-  fits i n γ k oc f sh room ch old un =
+  pub fits : (u : Edit) (x : Slot) → Shape (d .entry) s (u .index) (u .newLength) (u .growing) → u .growing + u .own ≤ length (freeClusters y v)
+      → ((c : ℕ) → times (chainOf x) c ≡ times (ownClusters y v (u .growing) (u .own)) c) → ((c : ℕ) → times (u .given) c ≡ oldUses (u .index) s c) → UniqueNames (setSlot (u .index) x end s)
+      → Fits v (reached r) (made y v d u) (record { slotIndex = u .index; directorySlots = s; newSlot = x })
+  fits u x sh room ch old un =
       record {
         low = low sh;
         lists = ls .1;
         clear = clear;
-        own = λ c. omega (arith, t .own c, old-le (f fs .newSlot) end i s c);
+        own = λ c. omega (arith, t .own c, old-le x end (u .index) s c);
         chain = ch;
         old = old;
         slot = slot;
         apart = apart;
         diff = diff (t .entry);
-        long = long i n γ sh lg;
+        long = long (u .index) (u .newLength) (u .growing) sh lg;
         some-cs = some-cs gs;
-        two = two i n γ sh;
+        two = two (u .index) (u .newLength) (u .growing) sh;
         uniq = un;
       }
     where
       gs : List ℕ
-      gs = growthClusters allocEnd mayTake v γ
+      gs = growthClusters y v (u .growing)
 
       fs : List ℕ
-      fs = ownClusters allocEnd mayTake v γ k
+      fs = ownClusters y v (u .growing) (u .own)
 
       L : List ℕ
-      L = entryPages (Slot.directory (withLength e n) (cs ++ gs))
+      L = entryPages (Slot.directory (withLength (d .entry) (u .newLength)) (d .chain ++ gs))
 
-      lg : length gs ≡ γ
-      lg = length-take γ (freeBelow (takeable mayTake (v .link)) allocEnd) ∙ omega arith
+      lg : length gs ≡ u .growing
+      lg = length-take (u .growing) (freeClusters y v) ∙ omega arith
 
-      ls : (i < length L) × (L ≡ setPage i (getD L i 0) (entryPages (Slot.directory e cs)))
-      ls = listed i n γ sh lg
+      ls : (u .index < length L) × (L ≡ setPage (u .index) (getD L (u .index) 0) (entryPages (Slot.directory (d .entry) (d .chain))))
+      ls = listed (u .index) (u .newLength) (u .growing) sh lg
 
-      low : Shape e s i n γ → i ≤ slotCount s
+      low : Shape (d .entry) s (u .index) (u .newLength) (u .growing) → u .index ≤ slotCount s
       low (inl (a, b, c)) = omega arith
       low (inr (a, b, c)) = omega arith
 
       clear : (c : ℕ) → reached r c + (times fs c + times gs c) ≤ 1
-      clear c = omega (arith, used-free v r h c, free-times (takeable mayTake (v .link)) allocEnd c, pool-le mayTake (v .link) c, times-split γ (freeBelow (takeable mayTake (v .link)) allocEnd) c, times-take k (drop γ (freeBelow (takeable mayTake (v .link)) allocEnd)) c)
+      clear c = omega (arith, used-free v r h c, free-times (takeable (y .mayTake) (v .link)) (y .allocEnd) c, pool-le (y .mayTake) (v .link) c, times-split (u .growing) (freeClusters y v) c, times-take (u .own) (drop (u .growing) (freeClusters y v)) c)
 
-      slot : (a : ℕ) → hit (getD L i 0) a ≤ times cs (a / 2) + times gs (a / 2)
-      slot a = omega (arith, getD-times i L a (ls .0), parts-le (Slot.directory (withLength e n) (cs ++ gs)) a, times-append cs gs (a / 2))
+      slot : (a : ℕ) → hit (getD L (u .index) 0) a ≤ times (d .chain) (a / 2) + times gs (a / 2)
+      slot a = omega (arith, getD-times (u .index) L a (ls .0), parts-le (Slot.directory (withLength (d .entry) (u .newLength)) (d .chain ++ gs)) a, times-append (d .chain) gs (a / 2))
 
-      apart : (a : ℕ) → hit (getD L i 0) a + times (needs (Slot.directory e cs)) a ≤ 1
+      apart : (a : ℕ) → hit (getD L (u .index) 0) a + times (needs (Slot.directory (d .entry) (d .chain))) a ≤ 1
       apart a =
-          omega (arith, getD-times i L a (ls .0), parts-le (Slot.directory (withLength e n) (cs ++ gs)) a, needs-same gs n a, times-append cs gs (a / 2), clear (a / 2), t .own (a / 2))
+          omega (arith, getD-times (u .index) L a (ls .0), parts-le (Slot.directory (withLength (d .entry) (u .newLength)) (d .chain ++ gs)) a, needs-same gs (u .newLength) a, times-append (d .chain) gs (a / 2), clear (a / 2), t .own (a / 2))
 
-      diff : ((a : ℕ) → hit P a + times cs (a / 2) ≤ reached r (a / 2)) ⊎ ((a : ℕ) → hit P a ≤ times (needs (Slot.directory e cs)) a) → eqb (getD L i 0) P ≡ false
-      diff z = ⊎-elim (λ (b : eqb (getD L i 0) P ≡ true). absurd (no b z)) (λ b. b) (bool (eqb (getD L i 0) P))
+      diff : ((a : ℕ) → hit (d .page) a + times (d .chain) (a / 2) ≤ reached r (a / 2)) ⊎ ((a : ℕ) → hit (d .page) a ≤ times (needs (Slot.directory (d .entry) (d .chain))) a) → eqb (getD L (u .index) 0) (d .page) ≡ false
+      diff z = ⊎-elim (λ (b : eqb (getD L (u .index) 0) (d .page) ≡ true). absurd (no b z)) (λ b. b) (bool (eqb (getD L (u .index) 0) (d .page)))
         where
-          no : eqb (getD L i 0) P ≡ true → ((a : ℕ) → hit P a + times cs (a / 2) ≤ reached r (a / 2)) ⊎ ((a : ℕ) → hit P a ≤ times (needs (Slot.directory e cs)) a) → ⊥
-          no b (inl u) = let o : hit (getD L i 0) P ≡ 1 = rw b in omega (arith, u P, slot P, hit-self P, clear (P / 2))
-          no b (inr u) = let o : hit (getD L i 0) P ≡ 1 = rw b in omega (arith, u P, apart P, hit-self P)
+          no : eqb (getD L (u .index) 0) (d .page) ≡ true → ((a : ℕ) → hit (d .page) a + times (d .chain) (a / 2) ≤ reached r (a / 2)) ⊎ ((a : ℕ) → hit (d .page) a ≤ times (needs (Slot.directory (d .entry) (d .chain))) a) → ⊥
+          no b (inl z) = let o : hit (getD L (u .index) 0) (d .page) ≡ 1 = rw b in omega (arith, z (d .page), slot (d .page), hit-self (d .page), clear (d .page / 2))
+          no b (inr z) = let o : hit (getD L (u .index) 0) (d .page) ≡ 1 = rw b in omega (arith, z (d .page), apart (d .page), hit-self (d .page))

@@ -13,14 +13,14 @@ use Rattle.model.specs.Entry.{Entry, isLive}
 use Rattle.model.specs.Holds.{HoldsCard, HoldsSlot, HoldsSlots, deepest}
 use Rattle.model.specs.Lookup.{Found, absent, found, indexOf, lookIn, pageAtPath, tell}
 use Rattle.model.specs.Names.{Name, Path, goodName, goodPath, lastName, parent}
-use Rattle.model.specs.Plan.{Plan, after, killed, made, planAt, planFor, removal, returned, withLength}
+use Rattle.model.specs.Plan.{Plan, after, altering, editFor, killed, made, planAt, planBy, removal, returned, withLength}
 use Rattle.model.specs.Refusal.{first, static}
 use Rattle.model.specs.Tree.{Root, Slot, Tree, chainOf, clusterUses, deadHit, deadSlots, end, entryPages, nameUses, reached, slotCount}
 use Rattle.model.specs.View.{Link, View, pagesOf}
 use Rattle.model.proofs.AbstractCards.{abstractOf, noRoom, roomOfSlot}
 use Rattle.model.proofs.ChangeOperations.{op, standingEmpty, standingFile, standingWay}
 use Rattle.model.proofs.Creations.{path-pos, static-path′}
-use Rattle.model.proofs.Directories.{Where, all-dead, first-0, must-empty, must-file, where-is}
+use Rattle.model.proofs.Directories.{Where, all-dead, directoryOf, first-0, must-empty, must-file, where-is}
 use Rattle.model.proofs.Equality.{Eq-number, and-l}
 use Rattle.model.proofs.NewClusters.{p-used}
 use Rattle.model.proofs.Operations.{AbstractCard, Accepts, Room, effect, grown, need, taken, worked}
@@ -46,11 +46,11 @@ module _ (y : Rules) where
     pub removed : (a : Change) (wh : Where y v r a) (pos : 0 < length (path a)) (h₀ : Slot) (s₀ : Tree) (e₀ : Entry) → lookIn (wh .directorySlots) (lastName (path a) ∷ []) ≡ found h₀ s₀ → deadHit h₀ ≡ 0 → isLive e₀ ≡ true
         → ((c : ℕ) → clusterUses s₀ c ≡ 0) → ((m : Name) (z : Path) → lookIn s₀ (m ∷ z) ≡ absent)
         → none ≡ (op y a) .puts σ (path a) → noRoom ≡ (op y a) .rooms σ (path a)
-        → ((R : Room) → worked (op y a) R ≡ record { dead = R .dead + 1; length = R .length; back = R .back }) → 0 ≡ need (op y a) σ → returned (y .allocEnd) (y .mayTake) (chainOf h₀) ≡ (op y a) .freed σ
-        → let p = made (y .allocEnd) (y .mayTake) v (pageAtPath r (parent (path a))) (wh .directoryEntry) (wh .directoryChain) (wh .directorySlots) (indexOf (lastName (path a)) (wh .directorySlots)) (wh .directoryEntry .length) 0 0 (chainOf h₀) (removal e₀) in
-        ((r′ : Root) × HoldsCard (after v p) r′ × ((c : ℕ) → y .allocEnd ≤ c → (after v p) .link c ≡ Link.free) × (abstractOf y (after v p) r′ ≡ effect (op y a) σ)) × Fits v (reached r) p
+        → ((R : Room) → worked (op y a) R ≡ record { dead = R .dead + 1; length = R .length; back = R .back }) → 0 ≡ need (op y a) σ → returned y (chainOf h₀) ≡ (op y a) .freed σ
+        → let p = made y v (directoryOf y wh) (altering (directoryOf y wh) (wh .directorySlots) (lastName (path a)) 0 (chainOf h₀) (removal e₀)) in
+        ((r′ : Root) × HoldsCard (after v p) r′ × ((c : ℕ) → y .allocEnd ≤ c → (after v p) .link c ≡ Link.free) × (abstractOf y (after v p) r′ ≡ effect (op y a) σ)) × Fits v (reached r) p (record { slotIndex = indexOf (lastName (path a)) (wh .directorySlots); directorySlots = wh .directorySlots; newSlot = Slot.dead })
     removed a wh pos h₀ s₀ e₀ g dz lv oz bz fn rn wk nd fd =
-        changed y v r h tab a wh pos h₀ s₀ g oz bz dz 0 (removal e₀) absent refl (λ n. omega arith) (inr ((λ n. refl), refl)) refl (omega arith)
+        changed y v r h tab a wh pos h₀ s₀ g oz bz dz 0 (removal e₀) Slot.dead absent refl (λ n. omega arith) (inr ((λ n. refl), refl)) refl (omega arith)
         (λ ft. (killed e₀, rw (Eq-number .self (getD (entryPages (Slot.directory (withLength (wh .directoryEntry) (wh .directoryEntry .length)) (wh .directoryChain ++ []))) (indexOf (lastName (path a)) (wh .directorySlots)) 0)), killed-dead e₀ lv))
         fn rn wk nd fd
 
@@ -77,7 +77,7 @@ module _ (y : Rules) where
         make (e₀, oc, ds, s₀, g) =
             record {
               plan = pl;
-              planned = ap (λ (g : Found). planAt y a v (pageAtPath r (parent p)) g) (wh .found-so) ∙ ap (λ (z : Found). planFor y a v (pageAtPath r (parent p)) (wh .directoryEntry) (wh .directoryChain) (wh .directorySlots) z) g;
+              planned = ap (λ (g : Found). planAt y a v (pageAtPath r (parent p)) g) (wh .found-so) ∙ ap (λ (z : Found). planBy y v (directoryOf y wh) (editFor a (directoryOf y wh) (wh .directorySlots) z)) g;
               root = out .0 .0;
               card = out .0 .1;
               table = out .0 .2;
@@ -86,7 +86,7 @@ module _ (y : Rules) where
             }
           where
             pl : Plan
-            pl = made (y .allocEnd) (y .mayTake) v (pageAtPath r (parent p)) (wh .directoryEntry) (wh .directoryChain) (wh .directorySlots) (indexOf (lastName p) (wh .directorySlots)) (wh .directoryEntry .length) 0 0 oc (removal e₀)
+            pl = made y v (directoryOf y wh) (altering (directoryOf y wh) (wh .directorySlots) (lastName p) 0 oc (removal e₀))
 
             sl : SlotOf (lastName p) (wh .directorySlots) (Slot.file e₀ oc ds) s₀
             sl = slot-of (lastName p) (wh .directorySlots) (Slot.file e₀ oc ds) s₀ g
@@ -103,7 +103,7 @@ module _ (y : Rules) where
             at-r : σ .room p ≡ roomOfSlot y (Slot.file e₀ oc ds) s₀
             at-r = ap (tell (roomOfSlot y) noRoom) (wh .at ∙ g)
 
-            out : ((r′ : Root) × HoldsCard (after v pl) r′ × ((c : ℕ) → y .allocEnd ≤ c → (after v pl) .link c ≡ Link.free) × (abstractOf y (after v pl) r′ ≡ effect (op y a) σ)) × Fits v (reached r) pl
+            out : ((r′ : Root) × HoldsCard (after v pl) r′ × ((c : ℕ) → y .allocEnd ≤ c → (after v pl) .link c ≡ Link.free) × (abstractOf y (after v pl) r′ ≡ effect (op y a) σ)) × Fits v (reached r) pl (record { slotIndex = indexOf (lastName p) (wh .directorySlots); directorySlots = wh .directorySlots; newSlot = Slot.dead })
             out =
                 removed a wh (ok .0) (Slot.file e₀ oc ds) s₀ e₀ g refl lv (λ c. ap (λ (s : Tree). clusterUses s c) nil) (λ n z. ap (λ (s : Tree). lookIn s (n ∷ z)) nil)
                 refl refl (λ R. refl) refl (sym (ap (λ (R : Room). R .back) at-r))
@@ -112,7 +112,7 @@ module _ (y : Rules) where
             slot = rw (append-nil (wh .directoryChain)) ((sl .page v (deepest - length (parent p)) _ (wh .st .rep)) .0)
 
             deed : Deed y v r pl
-            deed = record { entered = wh .st .entered; used = p-used y v r (parent p) (pageAtPath r (parent p)) (wh .directoryEntry) (wh .directoryChain) (wh .directorySlots) (deepest - length (parent p)) (wh .st); fit = out .1; low = λ c u. omega (arith, fs-low y v 0 0 c u, gs-low y v 0 c u); work = Work.kill e₀ slot refl }
+            deed = record { entered = wh .st .entered; used = p-used y v r (parent p) (pageAtPath r (parent p)) (wh .directoryEntry) (wh .directoryChain) (wh .directorySlots) (deepest - length (parent p)) (wh .st); tree = _; fit = out .1; low = λ c u. omega (arith, fs-low y v 0 0 c u, gs-low y v 0 c u); work = Work.kill e₀ slot refl }
 
     pub act-rmdir : (p : Path) → Accepts (op y (removeDirectory p)) σ → Outcome y v r (removeDirectory p)
     unfolding need grown worked taken
@@ -137,7 +137,7 @@ module _ (y : Rules) where
         make (e₀, oc, s₀, g, el) =
             record {
               plan = pl;
-              planned = ap (λ (g : Found). planAt y a v (pageAtPath r (parent p)) g) (wh .found-so) ∙ ap (λ (z : Found). planFor y a v (pageAtPath r (parent p)) (wh .directoryEntry) (wh .directoryChain) (wh .directorySlots) z) g;
+              planned = ap (λ (g : Found). planAt y a v (pageAtPath r (parent p)) g) (wh .found-so) ∙ ap (λ (z : Found). planBy y v (directoryOf y wh) (editFor a (directoryOf y wh) (wh .directorySlots) z)) g;
               root = out .0 .0;
               card = out .0 .1;
               table = out .0 .2;
@@ -146,7 +146,7 @@ module _ (y : Rules) where
             }
           where
             pl : Plan
-            pl = made (y .allocEnd) (y .mayTake) v (pageAtPath r (parent p)) (wh .directoryEntry) (wh .directoryChain) (wh .directorySlots) (indexOf (lastName p) (wh .directorySlots)) (wh .directoryEntry .length) 0 0 oc (removal e₀)
+            pl = made y v (directoryOf y wh) (altering (directoryOf y wh) (wh .directorySlots) (lastName p) 0 oc (removal e₀))
 
             sl : SlotOf (lastName p) (wh .directorySlots) (Slot.directory e₀ oc) s₀
             sl = slot-of (lastName p) (wh .directorySlots) (Slot.directory e₀ oc) s₀ g
@@ -167,7 +167,7 @@ module _ (y : Rules) where
             at-r : σ .room p ≡ roomOfSlot y (Slot.directory e₀ oc) s₀
             at-r = ap (tell (roomOfSlot y) noRoom) (wh .at ∙ g)
 
-            out : ((r′ : Root) × HoldsCard (after v pl) r′ × ((c : ℕ) → y .allocEnd ≤ c → (after v pl) .link c ≡ Link.free) × (abstractOf y (after v pl) r′ ≡ effect (op y a) σ)) × Fits v (reached r) pl
+            out : ((r′ : Root) × HoldsCard (after v pl) r′ × ((c : ℕ) → y .allocEnd ≤ c → (after v pl) .link c ≡ Link.free) × (abstractOf y (after v pl) r′ ≡ effect (op y a) σ)) × Fits v (reached r) pl (record { slotIndex = indexOf (lastName p) (wh .directorySlots); directorySlots = wh .directorySlots; newSlot = Slot.dead })
             out =
                 removed a wh (ok .0) (Slot.directory e₀ oc) s₀ e₀ g refl lv (ad .1) (λ n z. get-none s₀ n z (ad .0 n))
                 refl refl (λ R. refl) refl (sym (ap (λ (R : Room). R .back) at-r))
@@ -176,4 +176,4 @@ module _ (y : Rules) where
             slot = rw (append-nil (wh .directoryChain)) ((sl .page v (deepest - length (parent p)) _ (wh .st .rep)) .0)
 
             deed : Deed y v r pl
-            deed = record { entered = wh .st .entered; used = p-used y v r (parent p) (pageAtPath r (parent p)) (wh .directoryEntry) (wh .directoryChain) (wh .directorySlots) (deepest - length (parent p)) (wh .st); fit = out .1; low = λ c u. omega (arith, fs-low y v 0 0 c u, gs-low y v 0 c u); work = Work.kill e₀ slot refl }
+            deed = record { entered = wh .st .entered; used = p-used y v r (parent p) (pageAtPath r (parent p)) (wh .directoryEntry) (wh .directoryChain) (wh .directorySlots) (deepest - length (parent p)) (wh .st); tree = _; fit = out .1; low = λ c u. omega (arith, fs-low y v 0 0 c u, gs-low y v 0 c u); work = Work.kill e₀ slot refl }

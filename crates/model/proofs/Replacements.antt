@@ -13,7 +13,8 @@ use Rattle.model.specs.Entry.{Entry, clustersFor, hasBit, isFile, isLive
 use Rattle.model.specs.Holds.{HoldsCard, HoldsSlot, HoldsSlots, deepest}
 use Rattle.model.specs.Lookup.{Found, found, indexOf, lookIn, pageAtPath, tell}
 use Rattle.model.specs.Names.{Path, goodName, goodPath, lastName, parent}
-use Rattle.model.specs.Plan.{Plan, after, freeBelow, made, newContents, ownClusters, planAt, planFor, takeable}
+use Rattle.model.specs.Plan.{Plan, after, altering, editFor, freeClusters, made, newContents, ownClusters, planAt, planBy, takeable}
+use Rattle.model.specs.Pages.{dataPages}
 use Rattle.model.specs.Refusal.{first, static}
 use Rattle.model.specs.Standing.{Standing, content, fieldsOf, standing}
 use Rattle.model.specs.Time.{validTime}
@@ -23,7 +24,7 @@ use Rattle.model.proofs.AbstractCards.{abstractOf, noRoom, roomOfSlot}
 use Rattle.model.proofs.Allocation.{length-free}
 use Rattle.model.proofs.ChangeOperations.{op, standingFile, standingWay}
 use Rattle.model.proofs.Creations.{back-fs, path-pos, static-path, static-time}
-use Rattle.model.proofs.Directories.{Where, first-0, must-file, where-is}
+use Rattle.model.proofs.Directories.{Where, directoryOf, first-0, must-file, where-is}
 use Rattle.model.proofs.Equality.{Eq-name, and-l}
 use Rattle.model.proofs.NewClusters.{empty-or, held-file, p-used}
 use Rattle.model.proofs.Operations.{AbstractCard, Accepts, Room, effect, grown, need, taken, worked}
@@ -61,12 +62,12 @@ module _ (y : Rules) where
         P′ = pageAtPath r (parent p)
 
         fs : List ℕ
-        fs = ownClusters (y .allocEnd) (y .mayTake) v 0 (clustersFor (length b))
+        fs = ownClusters y v 0 (clustersFor (length b))
 
         nd : clustersFor (length b) ≡ need (op y a) σ
         nd = omega arith
 
-        room : clustersFor (length b) ≤ length (freeBelow (takeable (y .mayTake) (v .link)) (y .allocEnd))
+        room : clustersFor (length b) ≤ length (freeClusters y v)
         room = omega (arith, nd, o .1, length-free (takeable (y .mayTake) (v .link)) (y .allocEnd))
 
         fl : length fs ≡ clustersFor (length b)
@@ -76,7 +77,7 @@ module _ (y : Rules) where
         make (e₀, oc, ds, s₀, g) =
             record {
               plan = pl;
-              planned = ap (λ (g : Found). planAt y a v P′ g) (wh .found-so) ∙ ap (λ (z : Found). planFor y a v P′ (wh .directoryEntry) (wh .directoryChain) (wh .directorySlots) z) g;
+              planned = ap (λ (g : Found). planAt y a v P′ g) (wh .found-so) ∙ ap (λ (z : Found). planBy y v (directoryOf y wh) (editFor a (directoryOf y wh) (wh .directorySlots) z)) g;
               root = out .0 .0;
               card = out .0 .1;
               table = out .0 .2;
@@ -85,7 +86,7 @@ module _ (y : Rules) where
             }
           where
             pl : Plan
-            pl = made (y .allocEnd) (y .mayTake) v P′ (wh .directoryEntry) (wh .directoryChain) (wh .directorySlots) (indexOf (lastName p) (wh .directorySlots)) (wh .directoryEntry .length) 0 (clustersFor (length b)) oc (newContents e₀ t b)
+            pl = made y v (directoryOf y wh) (altering (directoryOf y wh) (wh .directorySlots) (lastName p) (clustersFor (length b)) oc (newContents e₀ t b))
 
             sl : SlotOf (lastName p) (wh .directorySlots) (Slot.file e₀ oc ds) s₀
             sl = slot-of (lastName p) (wh .directorySlots) (Slot.file e₀ oc ds) s₀ g
@@ -105,13 +106,13 @@ module _ (y : Rules) where
             at-r : σ .room p ≡ roomOfSlot y (Slot.file e₀ oc ds) s₀
             at-r = ap (tell (roomOfSlot y) noRoom) (wh .at ∙ g)
 
-            isf : isFile (pl .slotEntry) ≡ true
+            isf : isFile (pl .filling .entry) ≡ true
             isf = let z : (isLive e₀ && hasBit (e₀ .mode) 0x10 && not (hasBit (e₀ .mode) 0x20) && goodName (e₀ .name)) ≡ true = and-l _ _ (hl .1 .1) in rw z (empty-or y (length b) fs fl)
 
-            out : ((r′ : Root) × HoldsCard (after v pl) r′ × ((c : ℕ) → y .allocEnd ≤ c → (after v pl) .link c ≡ Link.free) × (abstractOf y (after v pl) r′ ≡ effect (op y a) σ)) × Fits v (reached r) pl
+            out : ((r′ : Root) × HoldsCard (after v pl) r′ × ((c : ℕ) → y .allocEnd ≤ c → (after v pl) .link c ≡ Link.free) × (abstractOf y (after v pl) r′ ≡ effect (op y a) σ)) × Fits v (reached r) pl (record { slotIndex = indexOf (lastName p) (wh .directorySlots); directorySlots = wh .directorySlots; newSlot = Slot.file (pl .filling .entry) fs (dataPages b) })
             out =
                 changed y v r h tab a wh (ok .0) (Slot.file e₀ oc ds) s₀ g (λ c. ap (λ (s : Tree). clusterUses s c) nil) (λ n z. ap (λ (s : Tree). lookIn s (n ∷ z)) nil) refl
-                (clustersFor (length b)) (newContents e₀ t b) (found ((newContents e₀ t b fs) .newSlot) end) refl (λ n. omega arith) (inl ((λ n. rw nme), refl)) refl room
+                (clustersFor (length b)) (newContents e₀ t b) (Slot.file (pl .filling .entry) fs (dataPages b)) (found (Slot.file (pl .filling .entry) fs (dataPages b)) end) refl (λ n. omega arith) (inl ((λ n. rw nme), refl)) refl room
                 (λ ft. held-file y v r pl ft (p-used y v r (parent p) P′ (wh .directoryEntry) (wh .directoryChain) (wh .directorySlots) (deepest - length (parent p)) (wh .st)) (deepest - length (parent p)) isf fl (start-of y fs (fs-low y v 0 (clustersFor (length b)))) (length-data b ∙ ap (λ n. 2 * n) (sym fl)))
                 (sym (ap (replaced t b) at-p)) (ap (λ (n : ℕ). record { dead = 0; length = 0; back = n }) (back-fs y v 0 (clustersFor (length b)) (omega (arith, room))))
                 (λ R. refl) nd (sym (ap (λ (R : Room). R .back) at-r))
@@ -120,4 +121,4 @@ module _ (y : Rules) where
             slot = rw (append-nil (wh .directoryChain)) ((sl .page v (deepest - length (parent p)) _ (wh .st .rep)) .0)
 
             deed : Deed y v r pl
-            deed = record { entered = wh .st .entered; used = p-used y v r (parent p) (pageAtPath r (parent p)) (wh .directoryEntry) (wh .directoryChain) (wh .directorySlots) (deepest - length (parent p)) (wh .st); fit = out .1; low = λ c u. omega (arith, fs-low y v 0 (clustersFor (length b)) c u, gs-low y v 0 c u); work = Work.bytes e₀ t b slot (static-time y (goodPath (suc deepest) p) (validTime t) (m .0)) fl refl }
+            deed = record { entered = wh .st .entered; used = p-used y v r (parent p) (pageAtPath r (parent p)) (wh .directoryEntry) (wh .directoryChain) (wh .directorySlots) (deepest - length (parent p)) (wh .st); tree = _; fit = out .1; low = λ c u. omega (arith, fs-low y v 0 (clustersFor (length b)) c u, gs-low y v 0 c u); work = Work.bytes e₀ t b slot (static-time y (goodPath (suc deepest) p) (validTime t) (m .0)) fl refl }

@@ -7,13 +7,11 @@ use mathlib.Core.Option.{Option, none, some}
 use mathlib.Core.Path.{_∙_, _≡_, ap, refl, subst, sym}
 use native.Mathlib.Omega.{arith}
 use lib.Dec.{eqb}
-use Rattle.model.specs.Change.{Rules, directoryMode}
+use Rattle.model.specs.Change.{Rules}
 use Rattle.model.specs.Claims.{WritesGiveView}
-use Rattle.model.specs.Entry.{Entry}
 use Rattle.model.specs.Holds.{HoldsCard}
-use Rattle.model.specs.Names.{dotDotName, dotName}
-use Rattle.model.specs.Pages.{entryPage, zeroPage}
-use Rattle.model.specs.Plan.{Filling, Plan, after, firstOf, freeChain, linkTo, newEntry, setAll, writeChain}
+use Rattle.model.specs.Pages.{zeroCluster}
+use Rattle.model.specs.Plan.{Filling, Plan, after, freeChain, linkTo, setAll, writeChain}
 use Rattle.model.specs.Tree.{Root, hit, times}
 use Rattle.model.specs.View.{Link, View, pagesOf}
 use Rattle.model.specs.Writes.{PageWrite, clusterWrites, directoryWrite, linksOf, pageWrites, pagesAfter, slotWrite, wordsAfter}
@@ -57,18 +55,13 @@ clusters-after (p ∷ ps) (some d ∷ ds) h u f a =
         all-out ps ds _ a (omega (arith, u a)) ∙ rw e
     go (inr e) = all-ext ps ds _ f a (rw e) ∙ rw e
 
-dots-full : (d u : Entry) → Full (some (entryPage true none d) ∷ some (entryPage true none u) ∷ [])
-unfolding entryPage
-dots-full d u = (length-new d, (length-new u, tt))
-
 -- no page of an accepted change's new clusters stands as unreadable
 module _ (y : Rules) where
-  pages-full : (v : View) (p : Plan) → Work y v p → Full (p .takenPages)
-  pages-full v p (Work.file n t b g h l e) = subst Full (sym (ap (λ (x : Filling). x .takenPages) e)) (full-data b)
-  pages-full v p (Work.directory n t g h l e) =
-      subst Full (sym (ap (λ (x : Filling). x .takenPages) e)) (dots-full (newEntry directoryMode 0 (firstOf (p .directoryChain)) (2 + p .slotIndex) t dotName) (newEntry directoryMode 0 0 0 t dotDotName))
-  pages-full v p (Work.bytes e₀ t b g h l e) = subst Full (sym (ap (λ (x : Filling). x .takenPages) e)) (full-data b)
-  pages-full v p (Work.kill e₀ g e) = subst Full (sym (ap (λ (x : Filling). x .takenPages) e)) tt
+  pages-full : (v : View) (p : Plan) → Work y v p → Full (p .filling .pages)
+  pages-full v p (Work.file n t b g h l e) = subst Full (sym (ap (λ (x : Filling). x .pages) e)) (full-data b)
+  pages-full v p (Work.directory n t k g h l e) = subst Full (sym (ap (λ (x : Filling). x .pages) e)) (length-new _, (length-new _, tt))
+  pages-full v p (Work.bytes e₀ t b g h l e) = subst Full (sym (ap (λ (x : Filling). x .pages) e)) (full-data b)
+  pages-full v p (Work.kill e₀ g e) = subst Full (sym (ap (λ (x : Filling). x .pages) e)) tt
 
   module _ (v : View) (r : Root) (h : HoldsCard v r) (p : Plan) (d : Deed y v r p) where
     new-once : (a : ℕ) → times (pagesOf (p .taken)) a + times (pagesOf (p .growth)) a ≤ 1
@@ -76,12 +69,12 @@ module _ (y : Rules) where
 
     pub pages-written : (a : ℕ) → (after v p) .page a ≡ pagesAfter (pageWrites v p) (v .page) a
     pages-written a = sym
-        (after-append (clusterWrites (pagesOf (p .growth)) (some zeroPage ∷ some zeroPage ∷ [])) _ (v .page) a
-        ∙ after-append (clusterWrites (pagesOf (p .taken)) (p .takenPages)) _ _ a
+        (after-append (clusterWrites (pagesOf (p .growth)) zeroCluster) _ (v .page) a
+        ∙ after-append (clusterWrites (pagesOf (p .taken)) (p .filling .pages)) _ _ a
         ∙ after-ext (directoryWrite v p ∷ slotWrite v p ∷ []) _ _
-        (λ x. clusters-after (pagesOf (p .taken)) (p .takenPages) (pages-full v p (d .work)) (λ z. omega (arith, new-once z)) _ x
-        ∙ all-ext (pagesOf (p .taken)) (p .takenPages) _ _ x
-        (clusters-after (pagesOf (p .growth)) (some zeroPage ∷ some zeroPage ∷ []) (length-zero, (length-zero, tt)) (λ z. omega (arith, new-once z)) (v .page) x)) a)
+        (λ x. clusters-after (pagesOf (p .taken)) (p .filling .pages) (pages-full v p (d .work)) (λ z. omega (arith, new-once z)) _ x
+        ∙ all-ext (pagesOf (p .taken)) (p .filling .pages) _ _ x
+        (clusters-after (pagesOf (p .growth)) zeroCluster (length-zero, (length-zero, tt)) (λ z. omega (arith, new-once z)) (v .page) x)) a)
 
     write-ext : (cs : List ℕ) (f g : ℕ → Link) (x : ℕ) → f x ≡ g x → writeChain cs f x ≡ writeChain cs g x
     write-ext [] f g x e = e
@@ -94,10 +87,10 @@ module _ (y : Rules) where
     pub links-written : ((c : ℕ) → y .allocEnd ≤ c → v .link c ≡ Link.free) → (words : ℕ → ℕ) → ((c : ℕ) → v .link c ≡ linksOf (y .allocEnd) words c)
         → (c : ℕ) → (after v p) .link c ≡ linksOf (y .allocEnd) (wordsAfter p words) c
     links-written high words same c =
-        write-ext (p .directoryChain ++ p .growth) _ _ c
+        write-ext (p .directory .chain ++ p .growth) _ _ c
         (write-ext (p .taken) _ _ c (free-ext (p .given) _ _ c (same c) ∙ sym (clear-words (y .allocEnd) small (p .given) words c))
         ∙ sym (set-words (y .allocEnd) small (p .taken) _ (λ x k. omega (arith, d .low x k)) c))
-        ∙ sym (set-words (y .allocEnd) small (p .directoryChain ++ p .growth) _ (λ x k. times-append (p .directoryChain) (p .growth) x ∙ omega (arith, d .low x k, d .fit .own x, card-used v r h x (high x k))) c)
+        ∙ sym (set-words (y .allocEnd) small (p .directory .chain ++ p .growth) _ (λ x k. times-append (p .directory .chain) (p .growth) x ∙ omega (arith, d .low x k, d .fit .own x, card-used v r h x (high x k))) c)
       where
         small : y .allocEnd < 0x7FFFFFFF
         small = omega (arith, y .limited)

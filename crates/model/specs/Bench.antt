@@ -1,6 +1,6 @@
 -- The bench card of document 01 as a view: 30 allocatable clusters, only a root of length 2. Its numbers to meet.
 use Prim.Native.Nat.{ℕ}
-use mathlib.Core.Bool.{cond, false, true}
+use mathlib.Core.Bool.{cond}
 use mathlib.Core.List.{List, [], _∷_}
 use mathlib.Core.Option.{some}
 use mathlib.Core.Path.{_≡_}
@@ -14,9 +14,8 @@ use Rattle.model.specs.Names.{Name, Path, dotDotName, dotName}
 use Rattle.model.specs.Pages.{newPage, zeroPage}
 use Rattle.model.specs.Perform.{done, perform, refused}
 use Rattle.model.specs.Plan.{freeOf, newEntry}
-use Rattle.model.specs.Time.{validTime}
 use Rattle.model.specs.Tree.{Root}
-use Rattle.model.specs.View.{Link, View, linkOf}
+use Rattle.model.specs.View.{Link, View}
 
 abbrev pub benchRules : Rules
 benchRules = baseRules 30 (lit≤ tt)
@@ -74,11 +73,3 @@ pub record BenchNumbers : Type 0 where
   pub removedFirst : countsAfter (create pathA benchTime [] ∷ create pathC benchTime [] ∷ delete pathA ∷ create pathB benchTime [] ∷ []) bench ≡ 28 ∷ 2 ∷ 0 ∷ []
   pub createdFirst : countsAfter (create pathA benchTime [] ∷ create pathC benchTime [] ∷ create pathB benchTime [] ∷ delete pathA ∷ []) bench ≡ 27 ∷ 3 ∷ 0 ∷ []
   pub saved : countsAfter (makeDirectory pathSave benchTime ∷ create pathSaveA benchTime (bytes 1500) ∷ []) bench ≡ 24 ∷ 6 ∷ 0 ∷ []
-
--- Numbers that the rules of words and times give.
-pub record RuleNumbers : Type 0 where
-  pub leapDay2000 : validTime (0 ∷ 0 ∷ 0 ∷ 0 ∷ 29 ∷ 2 ∷ 0xD0 ∷ 0x07 ∷ []) ≡ true
-  pub leapDay2100 : validTime (0 ∷ 0 ∷ 0 ∷ 0 ∷ 29 ∷ 2 ∷ 0x34 ∷ 0x08 ∷ []) ≡ false
-  pub wordFree : linkOf 0x7FFFFFFF ≡ Link.free
-  pub wordNext : linkOf 0x80000001 ≡ Link.next 1
-  pub wordEnd : linkOf 0xFFFFFFFF ≡ Link.last

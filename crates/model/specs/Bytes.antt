@@ -1,4 +1,4 @@
--- Bytes of a page and the numbers in them. Numbers are little-endian (01, "Pages and their code").
+-- Bytes of a page and the numbers in them. Numbers are little-endian (RULES, "Pages and their code").
 use Prim.Native.Nat.{_%_, _*_, _+_, _/_, suc, zero, ℕ}
 use mathlib.Core.Bool.{cond}
 use mathlib.Core.List.{List, [], _∷_}
@@ -24,6 +24,13 @@ half bytes from = little (slice bytes from 2)
 
 abbrev pub word : List ℕ → ℕ → ℕ
 word bytes from = little (slice bytes from 4)
+
+-- what a word tells is below 2^32, and the pages of the clusters that words can name are below 2^33
+abbrev pub wordLimit : ℕ
+wordLimit = 4294967296
+
+abbrev pub pageLimit : ℕ
+pageLimit = 8589934592
 
 -- what stands before the first zero
 abbrev pub beforeZero : List ℕ → List ℕ

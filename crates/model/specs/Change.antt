@@ -9,7 +9,7 @@ use lib.ListN.{length}
 use Rattle.model.specs.Entry.{clustersFor}
 use Rattle.model.specs.Names.{Path, parent}
 use Rattle.model.specs.Pages.{dataPages}
-use Rattle.model.specs.Standing.{Content, Standing, content}
+use Rattle.model.specs.Standing.{Content, Fields, Standing, content}
 use Rattle.model.specs.View.{mostClusters}
 
 pub data Change : Type 0 where
@@ -64,18 +64,23 @@ directoryMode = 0x8427
 abbrev pub contentOf : List ℕ → Content
 contentOf bytes = content (length bytes) (dataPages bytes)
 
--- Replacing keeps mode, attribute and created; a new entry has both times as given, and attribute 0.
+-- a new entry has both times as given, and attribute 0
+abbrev pub newFields : ℕ → List ℕ → Fields
+newFields mode time = record { mode = mode; attribute = 0; created = time; modified = time }
+
+-- the same but for the time of change
+abbrev pub modifiedAt : List ℕ → Fields → Fields
+modifiedAt time f = record { mode = f .mode; attribute = f .attribute; created = f .created; modified = time }
+
+-- Replacing keeps mode, attribute and created.
 abbrev pub replaced : List ℕ → List ℕ → Option Standing → Option Standing
 replaced time bytes none = none
-replaced time bytes (some (Standing.file f c)) =
-    some (Standing.file (record { mode = f .mode; attribute = f .attribute; created = f .created; modified = time }) (contentOf bytes))
+replaced time bytes (some (Standing.file f c)) = some (Standing.file (modifiedAt time f) (contentOf bytes))
 replaced time bytes (some (Standing.directory f)) = none
 
 abbrev pub standingAfter : Change → Option Standing → Option Standing
-standingAfter (create p time bytes) old =
-    some (Standing.file (record { mode = fileMode; attribute = 0; created = time; modified = time }) (contentOf bytes))
-standingAfter (makeDirectory p time) old =
-    some (Standing.directory (record { mode = directoryMode; attribute = 0; created = time; modified = time }))
+standingAfter (create p time bytes) old = some (Standing.file (newFields fileMode time) (contentOf bytes))
+standingAfter (makeDirectory p time) old = some (Standing.directory (newFields directoryMode time))
 standingAfter (replace p time bytes) old = replaced time bytes old
 standingAfter (delete p) old = none
 standingAfter (removeDirectory p) old = none

@@ -1,11 +1,13 @@
--- The check of the tree (01, "Refusal numbers"): depth first, the first fault met decides, the clusters reached so far are handed on.
-use Prim.Native.Nat.{_*_, _+_, suc, zero, ℕ}
+-- The check of the tree (RULES, "Refusal numbers, in order"): depth first, the first fault met decides, the clusters reached so far are handed on.
+use Prim.Native.Nat.{_*_, _+_, _<_, _≤_, suc, zero, ℕ}
 use mathlib.Core.Bool.{_&&_, cond}
 use mathlib.Core.List.{List, [], _∷_, map}
 use mathlib.Core.Option.{Option, none, some}
+use mathlib.Core.Path.{_≡_}
 use lib.Dec.{eqb, ltb}
+use lib.ListN.{length}
 use Rattle.model.specs.Entry.{Entry, directoryClusters, fileClusters, isDirectory, isFile, isLive, isRoot, isSubdirectory}
-use Rattle.model.specs.Holds.{deepest}
+use Rattle.model.specs.Holds.{Chain, deepest}
 use Rattle.model.specs.Names.{Name, dotDotName, dotName, sameName}
 use Rattle.model.specs.Tree.{Root, Slot, Tree, chainOf, end, entryPages, hit, nameHit, node, times}
 use Rattle.model.specs.View.{Link, View, firstLink, pagesOf}
@@ -39,7 +41,19 @@ abbrev pub prepend : ℕ → Option (List ℕ) → Option (List ℕ)
 prepend a none = none
 prepend a (some cs) = some (a ∷ cs)
 
--- The chain of exactly k clusters behind a link: sound if none was reached before and the end mark stands at the k-th.
+-- A chain of k clusters behind a link is sound if every cluster is below alloc_end, is not free, has not been reached before,
+-- and the end mark stands at exactly the k-th (RULES, "Superblock and table").
+pub record SoundChain (allocEnd : ℕ) (v : View) (reached : Marks) (start : Link) (k : ℕ) (cs : List ℕ) : Type 0 where
+  pub below : (c : ℕ) → 1 ≤ times cs c → c < allocEnd
+  pub notFree : (c : ℕ) → 1 ≤ times cs c → ¬ (v .link c ≡ Link.free)
+  -- neither by an earlier chain nor by this one
+  pub notReached : (c : ℕ) → 1 ≤ times cs c → (reached c ≡ 0) × (times cs c ≡ 1)
+  -- each word leads to the next cluster, and the end mark stands at the last, which is the k-th
+  pub links : Chain v start cs
+  pub long : length cs ≡ k
+
+-- The chain of k clusters as the check follows it; words from alloc_end on count as free, so that it ends there.
+-- It is the sound chain where there is one, and there is none otherwise (`chains_are_sound`).
 abbrev pub followChain : View → ℕ → Link → Marks → Option (List ℕ)
 followChain v zero Link.free m = none
 followChain v zero Link.last m = some []

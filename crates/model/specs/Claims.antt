@@ -1,11 +1,12 @@
 -- What is claimed of the model.
 use Prim.Native.Nat.{_+_, _-_, _≤_, suc, ℕ}
 use mathlib.Core.Bool.{cond, false, true}
+use mathlib.Core.List.{List}
 use mathlib.Core.Logic.{_↔_}
 use mathlib.Core.Option.{some}
 use mathlib.Core.Path.{_≡_}
 use Rattle.model.specs.Change.{Change, Crossed, Rules, creates, path, standingAfter}
-use Rattle.model.specs.Check.{Marks, checkTree, marks, ok, sound}
+use Rattle.model.specs.Check.{Marks, SoundChain, checkTree, followChain, ok}
 use Rattle.model.specs.Counts.{freeCount, orphanCount, reachedCount}
 use Rattle.model.specs.Holds.{HoldsCard}
 use Rattle.model.specs.Lookup.{lookUp, tell}
@@ -27,6 +28,12 @@ pub record Accepted (y : Rules) (v : View) : Type 0 where
 
 -- ---- the check
 
+-- The chain that the check follows is the sound one, on a view that has no words from alloc_end on.
+abbrev pub ChainsAreSound : Type 0
+ChainsAreSound =
+    (allocEnd : ℕ) (v : View) → ((c : ℕ) → allocEnd ≤ c → v .link c ≡ Link.free)
+    → (reached : Marks) (start : Link) (k : ℕ) (cs : List ℕ) → followChain v k start reached ≡ some cs ↔ SoundChain allocEnd v reached start k cs
+
 -- The check answers a tree exactly when the view holds it, and what was reached is what its chains use.
 pub record CheckIsHolding : Type 0 where
   pub sound : (v : View) (r : Root) (m : Marks) → checkTree v ≡ ok (r, m) → HoldsCard v r × (m ≡ reached r)
@@ -42,7 +49,7 @@ ViewCountsAddUp =
 
 -- the clusters that come back where a node of the tree goes
 abbrev pub clustersBack : Rules → Slot → Tree → ℕ
-clustersBack y h s = returned (y .allocEnd) (y .mayTake) (chainOf h)
+clustersBack y h s = returned y (chainOf h)
 
 abbrev pub givenBack : Rules → Change → Root → ℕ
 givenBack y c r = cond (creates c) 0 (tell (clustersBack y) 0 (lookUp r (path c)))

@@ -1,5 +1,5 @@
 -- When a view holds a card: the rules of chains, entries and directories as statements, with no order among them.
-use Prim.Native.Nat.{_*_, _+_, _<_, _≤_, pred, ℕ}
+use Prim.Native.Nat.{_*_, _+_, _<_, _≤_, pred, suc, ℕ}
 use mathlib.Core.Bool.{_&&_, false, true}
 use mathlib.Core.List.{List, [], _∷_, map}
 use mathlib.Core.Option.{some}
@@ -14,7 +14,11 @@ use Rattle.model.specs.View.{Link, View, firstLink, pagesOf}
 abbrev pub deepest : ℕ
 deepest = 3
 
--- The clusters are a chain behind a link: each is not free, for a link leads on from it, and the end mark stands at the last.
+-- the most names of a path: a file may stand in the deepest directory
+abbrev pub mostNames : ℕ
+mostNames = suc deepest
+
+-- The clusters are a chain behind a link: each word leads to the next cluster, and the end mark stands at the last. So none is free.
 abbrev pub Chain : View → Link → List ℕ → Type 0
 Chain v l [] = l ≡ Link.last
 Chain v l (c ∷ cs) = (l ≡ Link.next c) × Chain v (v .link c) cs

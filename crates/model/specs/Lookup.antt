@@ -35,7 +35,7 @@ module _ {B : Type 0} (f : Slot → Tree → B) (otherwise : B) where
   tell absent = otherwise
   tell (found h s) = f h s
 
--- the page of the entry at a path; for the root its own first entry's
+-- the first of some pages, and those after it
 abbrev pub firstPage : List ℕ → ℕ
 firstPage [] = 0
 firstPage (p ∷ ps) = p
@@ -44,12 +44,14 @@ abbrev pub laterPages : List ℕ → List ℕ
 laterPages [] = []
 laterPages (p ∷ ps) = ps
 
+-- the page of the entry at a path, in slots whose pages these are
 abbrev pub pageAmong : List ℕ → Tree → Path → ℕ
 pageAmong ps end q = 0
 pageAmong ps (node h s t) [] = 0
 pageAmong ps (node h s t) (n ∷ []) = cond (isNamed h n) (firstPage ps) (pageAmong (laterPages ps) t (n ∷ []))
 pageAmong ps (node h s t) (n ∷ m ∷ q) = cond (isNamed h n) (pageAmong (entryPages h) s (m ∷ q)) (pageAmong (laterPages ps) t (n ∷ m ∷ q))
 
+-- the page of the entry at a path; for the root its own first entry's
 abbrev pub pageAtPath : Root → Path → ℕ
 pageAtPath r [] = 0
 pageAtPath r (n ∷ q) = pageAmong (entryPages (rootSlot r)) (r .slots) (n ∷ q)

@@ -1,4 +1,4 @@
--- What the pages that a change writes hold (01, "Changes").
+-- What the pages that a change writes hold (RULES, "Changes").
 use Prim.Native.Nat.{_*_, _-_, suc, zero, ℕ}
 use mathlib.Core.Bool.{Bool, false, true}
 use mathlib.Core.List.{List, [], _++_, _∷_}
@@ -11,6 +11,10 @@ use Rattle.model.specs.Names.{Name}
 
 unfoldable pub zeroPage : List ℕ
 zeroPage = replicate 512 0
+
+-- a cluster that is added to a directory is zero
+abbrev pub zeroCluster : List (Option (List ℕ))
+zeroCluster = some zeroPage ∷ some zeroPage ∷ []
 
 abbrev pub decoded : Option (List ℕ) → Option Entry
 decoded none = none
@@ -27,6 +31,20 @@ fill page [] = page
 fill page (f ∷ fs) = sets (fill page fs) (f .from) (f .bytes)
 
 -- Replacing and removing, and growing a directory, alter these fields of an entry and keep every other byte of its page.
+abbrev pub alteredEntry : Entry → ℕ → ℕ → ℕ → List ℕ → Entry
+alteredEntry e mode length first modified =
+    record {
+      mode = mode;
+      length = length;
+      created = e .created;
+      firstCluster = first;
+      dirEntry = e .dirEntry;
+      modified = modified;
+      attribute = e .attribute;
+      nameField = e .nameField;
+      name = e .name;
+    }
+
 abbrev pub alteredFields : Entry → List Field
 alteredFields e =
     record { from = 0x00; count = 2; bytes = littleBytes 2 (e .mode) }

@@ -12,9 +12,9 @@ pub data Answer : Type 0 where
   refused : ℕ → ℕ → Answer
   done : View → Answer
 
--- An accepted change has a plan, so the first case never comes.
+-- An accepted change has a plan (`writes_give_view`). Without one, which never comes, what the change needs would be absent: 9.
 abbrev pub write : View → Option Plan → Answer
-write v none = refused 0 0
+write v none = refused 9 0
 write v (some p) = done (after v p)
 
 abbrev pub decide : ℕ → Answer → Answer

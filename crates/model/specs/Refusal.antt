@@ -4,7 +4,7 @@ use mathlib.Core.Bool.{cond}
 use mathlib.Core.List.{List, [], _∷_}
 use lib.Dec.{eqb, leb}
 use Rattle.model.specs.Change.{Change, Rules, create, creates, delete, makeDirectory, path, removeDirectory, replace, size}
-use Rattle.model.specs.Holds.{deepest}
+use Rattle.model.specs.Holds.{deepest, mostNames}
 use Rattle.model.specs.Lookup.{Found, absent, found, lookUp}
 use Rattle.model.specs.Names.{Path, goodPath, parent}
 use Rattle.model.specs.Plan.{freeOf, growthWithOne}
@@ -26,11 +26,11 @@ abbrev pub timeRefusal : List ℕ → ℕ
 timeRefusal time = cond (validTime time) 0 14
 
 abbrev pub static : Change → ℕ
-static (create p time bytes) = first (pathRefusal (suc deepest) p) (timeRefusal time)
+static (create p time bytes) = first (pathRefusal mostNames p) (timeRefusal time)
 static (makeDirectory p time) = first (pathRefusal deepest p) (timeRefusal time)
-static (replace p time bytes) = first (pathRefusal (suc deepest) p) (timeRefusal time)
-static (delete p) = pathRefusal (suc deepest) p
-static (removeDirectory p) = pathRefusal (suc deepest) p
+static (replace p time bytes) = first (pathRefusal mostNames p) (timeRefusal time)
+static (delete p) = pathRefusal mostNames p
+static (removeDirectory p) = pathRefusal mostNames p
 
 -- 9: a name on the way is absent. 10: a file stands where a directory is needed. Names are looked up from the left.
 abbrev pub onWay : Found → ℕ

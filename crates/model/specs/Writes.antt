@@ -1,4 +1,4 @@
--- What an accepted change rewrites (01, "Changes"): all pages of newly taken clusters and a new entry's page always,
+-- What an accepted change rewrites (RULES, "Changes"): all pages of newly taken clusters and a new entry's page always,
 -- the page of the directory's entry, an entry that stands and the table's pages only where their data, as read, changes.
 use Prim.Native.Nat.{_%_, _+_, ℕ}
 use mathlib.Core.Bool.{Bool, cond, false, true}
@@ -6,8 +6,8 @@ use mathlib.Core.List.{List, [], _++_, _∷_}
 use mathlib.Core.Option.{Option, none, some}
 use lib.Dec.{eqb, ltb}
 use Rattle.model.specs.Entry.{endMark}
-use Rattle.model.specs.Pages.{entryPage, zeroPage}
-use Rattle.model.specs.Plan.{Plan, withLength}
+use Rattle.model.specs.Pages.{zeroCluster}
+use Rattle.model.specs.Plan.{Plan, directoryBytes, slotBytes}
 use Rattle.model.specs.View.{Link, View, linkOf, pagesOf, topBit}
 
 pub record PageWrite : Type 0 where
@@ -22,17 +22,16 @@ clusterWrites (p ∷ ps) (none ∷ ds) = clusterWrites ps ds
 clusterWrites (p ∷ ps) (some d ∷ ds) = record { always = true; page = p; bytes = d } ∷ clusterWrites ps ds
 
 abbrev pub directoryWrite : View → Plan → PageWrite
-directoryWrite v p =
-    record { always = false; page = p .directoryPage; bytes = entryPage false (v .page (p .directoryPage)) (withLength (p .directoryEntry) (p .newLength)) }
+directoryWrite v p = record { always = false; page = p .directory .page; bytes = directoryBytes v p }
 
 abbrev pub slotWrite : View → Plan → PageWrite
-slotWrite v p = record { always = p .isNew; page = p .slotPage; bytes = entryPage (p .isNew) (v .page (p .slotPage)) (p .slotEntry) }
+slotWrite v p = record { always = p .filling .isNew; page = p .slotPage; bytes = slotBytes v p }
 
 -- the pages of the allocatable clusters that are written, in this order
 abbrev pub pageWrites : View → Plan → List PageWrite
 pageWrites v p =
-    clusterWrites (pagesOf (p .growth)) (some zeroPage ∷ some zeroPage ∷ [])
-    ++ (clusterWrites (pagesOf (p .taken)) (p .takenPages) ++ (directoryWrite v p ∷ slotWrite v p ∷ []))
+    clusterWrites (pagesOf (p .growth)) zeroCluster
+    ++ (clusterWrites (pagesOf (p .taken)) (p .filling .pages) ++ (directoryWrite v p ∷ slotWrite v p ∷ []))
 
 -- the pages after writes in turn
 abbrev pub pagesAfter : List PageWrite → (ℕ → Option (List ℕ)) → ℕ → Option (List ℕ)
@@ -60,4 +59,4 @@ clearedWords [] words x = words x
 clearedWords (c ∷ cs) words x = cond (eqb c x) (words x % topBit) (clearedWords cs words x)
 
 abbrev pub wordsAfter : Plan → (ℕ → ℕ) → ℕ → ℕ
-wordsAfter p words = chainWords (p .directoryChain ++ p .growth) (chainWords (p .taken) (clearedWords (p .given) words))
+wordsAfter p words = chainWords (p .directory .chain ++ p .growth) (chainWords (p .taken) (clearedWords (p .given) words))

@@ -1,6 +1,6 @@
 // The model of a card is in specs/. Each claim about it is the contract of a function that does nothing.
-ghost use Rattle.model.specs.Claims.{CheckIsHolding, ViewCountsAddUp, AcceptedExactly, ViewChangeKeeps, WritesGiveView, ViewDemand3};
-ghost use Rattle.model.specs.Bench.{BenchNumbers, RuleNumbers};
+ghost use Rattle.model.specs.Claims.{ChainsAreSound, CheckIsHolding, ViewCountsAddUp, AcceptedExactly, ViewChangeKeeps, WritesGiveView, ViewDemand3};
+ghost use Rattle.model.specs.Bench.{BenchNumbers};
 
 // The limits of document 01, each with its one name in code: the largest N, how far below the root a directory may lie, and the most names of a path.
 pub const MOST_CLUSTERS: usize = 8192;
@@ -8,6 +8,11 @@ pub const MOST_CLUSTERS: usize = 8192;
 pub const DEEPEST: u32 = 3;
 
 pub const MOST_NAMES: usize = 4;
+
+// The check follows exactly the sound chains: below alloc_end, not free, not reached before, the end mark at exactly the k-th.
+pub fn chains_are_sound()
+    ensures { λ _. ⌜ ChainsAreSound ⌝ }
+{}
 
 // The check answers a tree exactly when the view holds it.
 pub fn check_is_holding()
@@ -39,11 +44,7 @@ pub fn demand_3()
     ensures { λ _. ⌜ ViewDemand3 ⌝ }
 {}
 
-// The numbers of the bench card, and of words and times.
+// The numbers of the bench card.
 pub fn bench_numbers()
     ensures { λ _. ⌜ BenchNumbers ⌝ }
-{}
-
-pub fn rule_numbers()
-    ensures { λ _. ⌜ RuleNumbers ⌝ }
 {}
