@@ -1,35 +1,32 @@
-/* Raw PlayStation 2 memory card images: the functions of libstation.a.
+/* ps2card.h: raw PlayStation 2 memory card images, read and changed by the proved library libps2card.a.
  *
  * Every function is proved to meet its contract for every input: it reads and writes nothing outside what it is lent,
- * keeps no state, takes no memory and ends. What must hold of the caller is what the types say: a pointer with a
- * length lends so many bytes (a length of 0 takes any pointer but NULL), a pointer to one number lends that number,
- * time, created and modified are 8 bytes, name is 32 bytes, and no two of the things lent overlap unless both are
- * only read.
+ * takes no memory and ends. docs/example.c is a whole program over this header.
  *
- * image, image_length: the raw image with its spare bytes, 528 for each page, of any content and length. Every call
- *   checks the whole card first.
- * path, path_length: a path on the card as bytes, without a zero at the end: a single slash, or one to four names each
- *   after a slash.
- * time: 8 bytes, as an entry holds them: zero, second, minute, hour, day, month, year in two bytes, low one first.
+ * Link: x86-64 Linux, any compiler of C99 or C++11:  cc program.c -lps2card
+ *   where `./install --prefix DIR` put it:           cc program.c $(pkg-config --cflags --libs ps2card)
+ *   The archive needs memcpy and memset of the C library, and no other.
  *
- * The answer is 0, or the number of a refusal. On a refusal the image and every output stay as they were; only number 2
- * writes the unreadable page's index in the image to page, and nothing else writes to page.
+ * What the caller owes: a pointer with a length lends so many bytes, at any address; a pointer to one number lends that
+ *   number, aligned as C asks; time, created and modified are 8 bytes, name is 32 bytes; no two of the things lent
+ *   overlap, unless both are only read.
+ * NULL: image, path, bytes and out may be NULL where their length is 0. No other pointer may be NULL, page included.
+ * Threads: no state is kept. Calls may run at once, on one image too as long as none of them changes it.
  *
- *    1  the image's length is that of no card
- *    2  a needed page is unreadable
- *    3  the format text differs
- *    4  another rule of the superblock is broken
- *    5  the name of a table cluster breaks its rule
- *    6  a chain of clusters isn't sound
- *    7  a directory entry breaks its rule
- *    8  the path is malformed, names the root in a change, or a new directory has four names
- *    9  a name on the way is absent, or the last one where it must exist
- *   10  a file stands where a directory is needed, or the reverse
- *   11  the path to create exists
- *   12  fewer free clusters than needed
- *   13  the directory to remove has a live entry after its first two
- *   14  the time is invalid
- *   15  the read's offset lies beyond the file's length
+ * image, image_length: the raw image with its spare bytes, of any content and length. A page is 512 bytes of data and
+ *   16 spare bytes, a cluster two pages. A card has 32 to 8,192 clusters, in steps of 8: an image of any other length
+ *   than 1,056 bytes for each of them is refused. Every call checks the whole card first.
+ * The check reads the superblock, the table and every directory, but NO FILE DATA: a card that it accepts may have
+ *   files with unreadable pages. Only ps2card_read of all of a file's bytes shows that they can be read.
+ * path, path_length: a path on the card as bytes, without a zero at the end: "/" alone, or one to four names, each
+ *   after a "/". A name has 1 to 31 bytes from 0x20 to 0x7E, none of them * / or ?, and is neither "." nor "..". Names
+ *   are compared whole: case and blanks count. Directories have one to three names, files one to four.
+ * time: 8 bytes, as an entry holds them: zero, second, minute, hour, day, month, year in two bytes, low one first; a
+ *   date that the calendar has, of the years 1980 to 9999. Cards hold Japan's time (UTC+9, all year), whatever the
+ *   console's own zone; the library takes the bytes as they are and asks no clock.
+ *
+ * The answer is 0, or the number of a refusal (enum ps2card_refusal). On a refusal the image and every output stay as
+ * they were; only number 2 writes the unreadable page's index in the image to page, and nothing else writes to page.
  *
  * Stack: a bound on x86-64 for a function's frame and all below it. Measured by painting the stack, on cards with
  * directories on every level: 207 KiB for check, find, step and read, 240 KiB for the others; the bound leaves room for
@@ -41,6 +38,50 @@
 #include <stddef.h>
 #include <stdint.h>
 
+#define PS2CARD_VERSION "0.1.0"
+/* 10,000 for each major, 100 for each minor version, and the patch. */
+#define PS2CARD_VERSION_NUMBER 100
+
+/* Bytes of a cluster with its spare bytes, and of the largest card. */
+#define PS2CARD_CLUSTER_BYTES 1056
+#define PS2CARD_MOST_BYTES (8192 * PS2CARD_CLUSTER_BYTES)
+
+/* The refusals, in their order: of several that apply, the first is told. Among 1 to 7 that is the first fault that the
+ * check meets on its way. The page of a file's data (2, by ps2card_read) comes after all others. */
+enum ps2card_refusal {
+    PS2CARD_DONE = 0,            /* no refusal */
+    PS2CARD_BAD_LENGTH = 1,      /* the image's length is that of no card */
+    PS2CARD_UNREADABLE_PAGE = 2, /* a needed page is damaged beyond correction */
+    PS2CARD_BAD_TEXT = 3,        /* the format text differs */
+    PS2CARD_BAD_SUPERBLOCK = 4,  /* another rule of the superblock is broken */
+    PS2CARD_BAD_TABLE_NAME = 5,  /* the name of a table cluster breaks its rule */
+    PS2CARD_BAD_CHAIN = 6,       /* a chain of clusters isn't sound */
+    PS2CARD_BAD_ENTRY = 7,       /* a directory entry breaks its rule */
+    PS2CARD_BAD_PATH = 8,        /* the path is malformed, the root in a change, or four names for a new directory */
+    PS2CARD_BAD_TIME = 14,       /* the time is invalid */
+    PS2CARD_ABSENT = 9,          /* a name on the way is absent, or the last one where it must exist */
+    PS2CARD_WRONG_KIND = 10,     /* a file stands where a directory is needed, or the reverse */
+    PS2CARD_EXISTS = 11,         /* the path to create exists */
+    PS2CARD_NOT_EMPTY = 13,      /* the directory to remove has a live entry after its first two */
+    PS2CARD_BAD_OFFSET = 15,     /* the read's offset lies beyond the file's length */
+    PS2CARD_NO_ROOM = 12         /* fewer free clusters than needed */
+};
+
+/* Mode bits of an entry. A live one has EXISTS and exactly one of FILE and DIRECTORY; no other bit is judged. A new
+ * file has the mode 0x8417, a new directory 0x8427. */
+enum ps2card_mode {
+    PS2CARD_MODE_READ = 0x0001,
+    PS2CARD_MODE_WRITE = 0x0002,
+    PS2CARD_MODE_EXECUTE = 0x0004,
+    PS2CARD_MODE_PROTECTED = 0x0008, /* the console's browser does not copy it */
+    PS2CARD_MODE_FILE = 0x0010,
+    PS2CARD_MODE_DIRECTORY = 0x0020,
+    PS2CARD_MODE_POCKETSTATION = 0x0800,
+    PS2CARD_MODE_PSX = 0x1000, /* a save of a PlayStation */
+    PS2CARD_MODE_HIDDEN = 0x2000,
+    PS2CARD_MODE_EXISTS = 0x8000
+};
+
 #ifdef __cplusplus
 extern "C" {
 #endif
@@ -48,21 +89,23 @@ extern "C" {
 /* Checks the card: its clusters, and how many of the allocatable ones are free, reached by a chain, and neither.
  * Refusals: 1 to 7. Untouched on a refusal: clusters, free, reached, orphaned.
  * Stack: at most 224 KiB. */
-uint32_t station_check(const uint8_t *image, size_t image_length, size_t *page, uint32_t *clusters, size_t *free,
+uint32_t ps2card_check(const uint8_t *image, size_t image_length, size_t *page, uint32_t *clusters, size_t *free,
                        size_t *reached, size_t *orphaned);
 
-/* Finds the entry at a path, for the root its first one, and hands out its fields.
+/* Finds the entry at a path, for the root its first one, and hands out its fields: ps2card_find_entry below has them as
+ * a struct.
  * Refusals: 1 to 10. Untouched on a refusal: every field.
  * Stack: at most 224 KiB. */
-uint32_t station_find(const uint8_t *image, size_t image_length, const uint8_t *path, size_t path_length, size_t *page,
+uint32_t ps2card_find(const uint8_t *image, size_t image_length, const uint8_t *path, size_t path_length, size_t *page,
                       uint16_t *mode, uint32_t *length, uint8_t *created, uint32_t *first, uint32_t *dir_entry,
                       uint8_t *modified, uint32_t *attribute, uint8_t *name);
 
 /* Finds the first live entry of a directory from a slot on, never before slot 2: found is 1, at its slot, and its
- * fields are handed out. At the end found is 0, and at and the fields stay as they were.
+ * fields are handed out, by ps2card_step_entry below as a struct. At the end found is 0, and at and the fields stay as
+ * they were.
  * Refusals: 1 to 10. Untouched on a refusal: found, at and every field.
  * Stack: at most 224 KiB. */
-uint32_t station_step(const uint8_t *image, size_t image_length, const uint8_t *path, size_t path_length, uint32_t slot,
+uint32_t ps2card_step(const uint8_t *image, size_t image_length, const uint8_t *path, size_t path_length, uint32_t slot,
                       size_t *page, uint32_t *found, uint32_t *at, uint16_t *mode, uint32_t *length, uint8_t *created,
                       uint32_t *first, uint32_t *dir_entry, uint8_t *modified, uint32_t *attribute, uint8_t *name);
 
@@ -70,47 +113,112 @@ uint32_t station_step(const uint8_t *image, size_t image_length, const uint8_t *
  * stays as it was.
  * Refusals: 1 to 10, 15; 2 also for a page with a byte to copy. Untouched on a refusal: out and count.
  * Stack: at most 224 KiB. */
-uint32_t station_read(const uint8_t *image, size_t image_length, const uint8_t *path, size_t path_length, size_t offset,
+uint32_t ps2card_read(const uint8_t *image, size_t image_length, const uint8_t *path, size_t path_length, size_t offset,
                       uint8_t *out, size_t out_length, size_t *page, size_t *count);
 
-/* Writes the listing into out, as much of it as fits: the counts, then a line for each entry in tree order; or the one
- * line of a refusal, "refused N" or "refused 2 PAGE". The answer is the whole text's length, without a zero at the end:
- * a call with out_length 0 tells how much room it needs. The rest of out stays as it was.
+/* Writes the listing into out, as much of it as fits. The answer is the whole text's length, without a zero at the end:
+ * a call with out_length 0 tells how much room it needs. The rest of out stays as it was. The lines, each with a
+ * newline at its end:
+ *   card CLUSTERS
+ *   free COUNT
+ *   reached COUNT
+ *   orphaned COUNT
+ *   d ENTRIES PATH       a directory; its first two entries and dead ones count too
+ *   f BYTES PATH         a file
+ * the last two for each entry in tree order: slot order, a directory before its inside; the root has no line. On a
+ * refusal the text is one line, "refused N" or "refused 2 PAGE".
  * Stack: at most 256 KiB. */
-size_t station_list(const uint8_t *image, size_t image_length, uint8_t *out, size_t out_length);
+size_t ps2card_list(const uint8_t *image, size_t image_length, uint8_t *out, size_t out_length);
 
 /* Creates a file with these bytes at a path; both its times become the given one.
  * Refusals: 1 to 12, 14. Untouched on a refusal: the whole image.
  * Stack: at most 256 KiB. */
-uint32_t station_create(uint8_t *image, size_t image_length, const uint8_t *path, size_t path_length,
+uint32_t ps2card_create(uint8_t *image, size_t image_length, const uint8_t *path, size_t path_length,
                         const uint8_t *time, const uint8_t *bytes, size_t bytes_length, size_t *page);
 
 /* Replaces the bytes of the file at a path; its time of change becomes the given one. The new bytes need room beside
  * the old ones.
  * Refusals: 1 to 10, 12, 14. Untouched on a refusal: the whole image.
  * Stack: at most 256 KiB. */
-uint32_t station_replace(uint8_t *image, size_t image_length, const uint8_t *path, size_t path_length,
+uint32_t ps2card_replace(uint8_t *image, size_t image_length, const uint8_t *path, size_t path_length,
                          const uint8_t *time, const uint8_t *bytes, size_t bytes_length, size_t *page);
 
 /* Deletes the file at a path.
  * Refusals: 1 to 10. Untouched on a refusal: the whole image.
  * Stack: at most 256 KiB. */
-uint32_t station_delete(uint8_t *image, size_t image_length, const uint8_t *path, size_t path_length, size_t *page);
+uint32_t ps2card_delete(uint8_t *image, size_t image_length, const uint8_t *path, size_t path_length, size_t *page);
 
 /* Makes an empty directory at a path of one to three names; its times become the given one.
  * Refusals: 1 to 12, 14. Untouched on a refusal: the whole image.
  * Stack: at most 256 KiB. */
-uint32_t station_make_dir(uint8_t *image, size_t image_length, const uint8_t *path, size_t path_length,
+uint32_t ps2card_make_dir(uint8_t *image, size_t image_length, const uint8_t *path, size_t path_length,
                           const uint8_t *time, size_t *page);
 
 /* Removes the directory at a path, which must have no live entry after its first two.
  * Refusals: 1 to 10, 13. Untouched on a refusal: the whole image.
  * Stack: at most 256 KiB. */
-uint32_t station_remove_dir(uint8_t *image, size_t image_length, const uint8_t *path, size_t path_length,
+uint32_t ps2card_remove_dir(uint8_t *image, size_t image_length, const uint8_t *path, size_t path_length,
                             size_t *page);
 
 #ifdef __cplusplus
 }
 #endif
+
+/* The same with structs. */
+
+/* What the check counts. */
+typedef struct ps2card_counts {
+    uint32_t clusters;
+    size_t free, reached, orphaned;
+} ps2card_counts;
+
+/* A directory entry. */
+typedef struct ps2card_entry {
+    uint32_t length;    /* a file's bytes; a directory's entries, its first two and dead ones too */
+    uint32_t first;     /* first cluster, from the first allocatable one on; 0xFFFFFFFF for an empty file */
+    uint32_t dir_entry; /* in a directory's own first entry: its slot in the parent */
+    uint32_t attribute;
+    uint16_t mode;      /* enum ps2card_mode */
+    uint8_t created[8]; /* both times may be any bytes: a change judges its own time, the check none */
+    uint8_t modified[8];
+    uint8_t name[32];   /* the name, a zero, and whatever follows it */
+} ps2card_entry;
+
+/* ps2card_check with its counts. Untouched on a refusal: counts. */
+static inline uint32_t ps2card_check_counts(const uint8_t *image, size_t image_length, size_t *page,
+                                            ps2card_counts *counts) {
+    return ps2card_check(image, image_length, page, &counts->clusters, &counts->free, &counts->reached,
+                         &counts->orphaned);
+}
+
+/* ps2card_find with an entry. Untouched on a refusal: entry. */
+static inline uint32_t ps2card_find_entry(const uint8_t *image, size_t image_length, const uint8_t *path,
+                                          size_t path_length, size_t *page, ps2card_entry *entry) {
+    return ps2card_find(image, image_length, path, path_length, page, &entry->mode, &entry->length, entry->created,
+                        &entry->first, &entry->dir_entry, entry->modified, &entry->attribute, entry->name);
+}
+
+/* ps2card_step with an entry. Untouched on a refusal: found, at and entry; at the end: at and entry. */
+static inline uint32_t ps2card_step_entry(const uint8_t *image, size_t image_length, const uint8_t *path,
+                                          size_t path_length, uint32_t slot, size_t *page, uint32_t *found,
+                                          uint32_t *at, ps2card_entry *entry) {
+    return ps2card_step(image, image_length, path, path_length, slot, page, found, at, &entry->mode, &entry->length,
+                        entry->created, &entry->first, &entry->dir_entry, entry->modified, &entry->attribute,
+                        entry->name);
+}
+
+/* Whether an entry is a directory; what find and step hand out is a file otherwise. */
+static inline int ps2card_is_directory(const ps2card_entry *entry) {
+    return (entry->mode & PS2CARD_MODE_DIRECTORY) != 0;
+}
+
+/* The length of an entry's name. */
+static inline size_t ps2card_name_length(const ps2card_entry *entry) {
+    size_t length = 0;
+    while (length < sizeof entry->name && entry->name[length] != 0) {
+        length++;
+    }
+    return length;
+}
 
 #endif

@@ -1,6 +1,6 @@
 //! The five changes. Each works on a copy of the image between guard bytes; the image becomes what the call made of it.
 
-use ps2card::calls::{station_create, station_delete, station_make_dir, station_remove_dir, station_replace};
+use ps2card_sys::{ps2card_create, ps2card_delete, ps2card_make_dir, ps2card_remove_dir, ps2card_replace};
 use reader::time::Time;
 use reader::{Change, Refusal};
 
@@ -64,7 +64,7 @@ pub fn create(image: &mut [u8], path: &[u8], time: &Time, data: &[u8]) -> Result
     // SAFETY: the image is a slice of its own, which the library may write; path, time and data are only read;
     // the page's number is a separate place. All live until the call is over.
     lend(image, &CREATING, |at, length, page| unsafe {
-        station_create(at, length, path.as_ptr(), path.len(), time.as_ptr(), data.as_ptr(), data.len(), page)
+        ps2card_create(at, length, path.as_ptr(), path.len(), time.as_ptr(), data.as_ptr(), data.len(), page)
     })
 }
 
@@ -72,21 +72,21 @@ pub fn create(image: &mut [u8], path: &[u8], time: &Time, data: &[u8]) -> Result
 pub fn replace(image: &mut [u8], path: &[u8], time: &Time, data: &[u8]) -> Result<(), Refusal> {
     // SAFETY: as in `create`.
     lend(image, &REPLACING, |at, length, page| unsafe {
-        station_replace(at, length, path.as_ptr(), path.len(), time.as_ptr(), data.as_ptr(), data.len(), page)
+        ps2card_replace(at, length, path.as_ptr(), path.len(), time.as_ptr(), data.as_ptr(), data.len(), page)
     })
 }
 
 /// Deletes a file.
 pub fn delete(image: &mut [u8], path: &[u8]) -> Result<(), Refusal> {
     // SAFETY: as in `create`.
-    lend(image, &DELETING, |at, length, page| unsafe { station_delete(at, length, path.as_ptr(), path.len(), page) })
+    lend(image, &DELETING, |at, length, page| unsafe { ps2card_delete(at, length, path.as_ptr(), path.len(), page) })
 }
 
 /// Makes an empty directory.
 pub fn make_dir(image: &mut [u8], path: &[u8], time: &Time) -> Result<(), Refusal> {
     // SAFETY: as in `create`.
     lend(image, &CREATING, |at, length, page| unsafe {
-        station_make_dir(at, length, path.as_ptr(), path.len(), time.as_ptr(), page)
+        ps2card_make_dir(at, length, path.as_ptr(), path.len(), time.as_ptr(), page)
     })
 }
 
@@ -94,7 +94,7 @@ pub fn make_dir(image: &mut [u8], path: &[u8], time: &Time) -> Result<(), Refusa
 pub fn remove_dir(image: &mut [u8], path: &[u8]) -> Result<(), Refusal> {
     // SAFETY: as in `create`.
     lend(image, &REMOVING, |at, length, page| unsafe {
-        station_remove_dir(at, length, path.as_ptr(), path.len(), page)
+        ps2card_remove_dir(at, length, path.as_ptr(), path.len(), page)
     })
 }
 

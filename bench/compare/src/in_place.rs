@@ -1,6 +1,6 @@
 //! Calls straight on the caller's image, with no copy and no guard bytes, for taking times.
 
-use ps2card::calls::{station_create, station_read};
+use ps2card_sys::{ps2card_create, ps2card_read};
 use reader::time::Time;
 
 /// How many bytes were copied; nothing where the call is refused.
@@ -8,7 +8,7 @@ pub fn read(image: &[u8], path: &[u8], offset: usize, out: &mut [u8]) -> Option<
     let (mut page, mut count) = (0, 0);
     // SAFETY: pointers and lengths are those of slices that do not overlap, and both numbers live here.
     let number = unsafe {
-        station_read(
+        ps2card_read(
             image.as_ptr(),
             image.len(),
             path.as_ptr(),
@@ -28,7 +28,7 @@ pub fn create(image: &mut [u8], path: &[u8], time: &Time, bytes: &[u8]) -> bool 
     let mut page = 0;
     // SAFETY: as in `read`; the image alone is written.
     let number = unsafe {
-        station_create(
+        ps2card_create(
             image.as_mut_ptr(),
             image.len(),
             path.as_ptr(),

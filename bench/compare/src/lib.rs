@@ -12,7 +12,7 @@ pub mod listing;
 pub mod lookup;
 
 use answer::{verdict, Broken, NO_PAGE};
-use ps2card::calls::station_check;
+use ps2card_sys::ps2card_check;
 use reader::{Counts, Refusal};
 
 pub use change::{create, delete, make_dir, remove_dir, replace};
@@ -55,7 +55,7 @@ pub fn check(image: &[u8]) -> Result<Counts, Refusal> {
     // SAFETY: pointer and length are those of one slice, which the library only reads; each output
     // is a separate place that lives until the call is over.
     let number = unsafe {
-        station_check(
+        ps2card_check(
             image.as_ptr(),
             image.len(),
             &mut out.page,

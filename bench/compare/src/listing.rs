@@ -1,6 +1,6 @@
 //! The listing.
 
-use ps2card::calls::station_list;
+use ps2card_sys::ps2card_list;
 
 /// What the buffer holds before the call; no byte of a listing.
 const BLANK: u8 = 0xEE;
@@ -13,7 +13,7 @@ const GUARD: usize = 16;
 pub fn list(image: &[u8], room: usize) -> (Vec<u8>, usize) {
     let mut buffer = vec![BLANK; room + 2 * GUARD];
     // SAFETY: pointers and lengths are those of slices that live until the call is over and do not overlap.
-    let length = unsafe { station_list(image.as_ptr(), image.len(), buffer[GUARD..].as_mut_ptr(), room) };
+    let length = unsafe { ps2card_list(image.as_ptr(), image.len(), buffer[GUARD..].as_mut_ptr(), room) };
     let end = GUARD + length.min(room);
     assert!(buffer[..GUARD].iter().chain(&buffer[end..]).all(|&byte| byte == BLANK), "a byte outside the text changed");
     (buffer[GUARD..end].to_vec(), length)

@@ -1,6 +1,6 @@
 //! Find, directory step and file read.
 
-use ps2card::calls::{station_find, station_read, station_step};
+use ps2card_sys::{ps2card_find, ps2card_read, ps2card_step};
 use reader::{Entry, Refusal};
 
 use crate::answer::{verdict, Broken, NO_PAGE};
@@ -44,7 +44,7 @@ pub fn find(image: &[u8], path: &[u8]) -> Result<Entry, Refusal> {
     // SAFETY: each pointer with a length is one slice, which the library only reads; each output is a
     // separate place that lives until the call is over.
     let number = unsafe {
-        station_find(
+        ps2card_find(
             image.as_ptr(),
             image.len(),
             path.as_ptr(),
@@ -97,7 +97,7 @@ pub fn step(image: &[u8], path: &[u8], slot: u32) -> Result<Next, Refusal> {
     let entry = &mut out.entry;
     // SAFETY: as in `find`.
     let number = unsafe {
-        station_step(
+        ps2card_step(
             image.as_ptr(),
             image.len(),
             path.as_ptr(),
@@ -160,7 +160,7 @@ pub fn read(image: &[u8], path: &[u8], offset: usize, buffer: &mut [u8]) -> Resu
     let lent = &mut out.lent[GUARD..][..buffer.len()];
     // SAFETY: as in `find`; the buffer is a slice of its own, which the library may write.
     let number = unsafe {
-        station_read(
+        ps2card_read(
             image.as_ptr(),
             image.len(),
             path.as_ptr(),

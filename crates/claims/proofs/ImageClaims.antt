@@ -1,53 +1,40 @@
 -- The claims on images, from those of the model: an image and its view are changed together.
-use Prim.Native.Nat.{ℕ, zero, suc, _*_}
+use Prim.Native.Nat.{ℕ, zero, suc, _*_, _+_, _-_}
 use mathlib.Core.Bool.{cond, false}
 use mathlib.Core.List.{List}
 use mathlib.Core.Option.{Option, none, some}
 use mathlib.Core.Path.{_∙_, _≡_, ap, refl, sym}
 use lib.ListN.{length}
 use Rattle.change.proofs.ChangedLaws.{Done, accepted, answered, checked-parts, performs}
-use Rattle.change.proofs.ChangedView.{end-is}
+use Rattle.change.proofs.ChangedView.{end-is, no-words}
 use Rattle.change.specs.Changed as change
 use Rattle.change.specs.Changed.{changed, changedBy, decided, outcomeWith, rulesOf}
-use Rattle.ecc.proofs.Numbers.{code-numbers}
 use Rattle.layout.specs.declared.Superblock.{Superblock}
 use Rattle.layout.specs.See.{checkImage, see}
+use Rattle.page.specs.Page.{clusterBytes}
 use Rattle.layout.proofs.OpenFacts.{open-facts}
 use Rattle.layout.proofs.Stages.{not-ok}
-use Rattle.model.proofs.BenchHolds.{rule-numbers}
+use Rattle.model.proofs.CheckHolds.{check-holds}
 use Rattle.model.proofs.ClaimsHold.{change-keeps, demand-3-holds}
-use Rattle.model.specs.Change.{Change, path, standingAfter}
+use Rattle.model.proofs.SlotOfName.{total-times}
+use Rattle.model.specs.Change.{Change, creates, path, standingAfter}
 use Rattle.model.specs.Check.{Marks, Result, andThen, fault, ok}
 use Rattle.model.specs.Claims as model
+use Rattle.model.specs.Claims.{clustersBack, givenBack}
 use Rattle.model.specs.Counts.{isFree, totalBelow}
+use Rattle.model.specs.Lookup.{Found, absent, found, lookUp, tell}
 use Rattle.model.specs.Names.{Path, beginning, samePath}
 use Rattle.model.specs.Perform.{done, perform}
 use Rattle.model.specs.Plan.{Plan, freeOf, planOf}
-use Rattle.model.specs.Refusal.{refusal}
+use Rattle.model.specs.Refusal.{needed, refusal}
 use Rattle.model.specs.Standing.{standingsOf, treeOf}
-use Rattle.model.specs.Tree.{Root}
+use Rattle.model.specs.Tree.{Root, chainOf}
 use Rattle.model.specs.View.{View}
 use Rattle.tree.specs.Counted.{checkOf, countsIn}
 use Rattle.tree.specs.declared.Counts.{Counts}
-use Rattle.claims.specs.Claims.{Accepts, ChangeKeeps, Commute, Demand3, Kept, Order, RefusalLeaves, imageLeft, final}
-use Rattle.claims.specs.Numbers.{MarkedNumbers}
+use Rattle.claims.proofs.PathFinds.{not-free}
+use Rattle.claims.specs.Claims.{Accepts, ChangeKeeps, Commute, Demand3, Kept, Order, RefusalLeaves, byTree, clustersOf, final, givenBackBy, imageLeft, takenBy}
 use Rattle.claims.specs.Seen.{freeIn, freeBy, standingIn, treeIn}
-
-pub marked-numbers : MarkedNumbers
-marked-numbers =
-    record {
-      zero-chunk = code-numbers .zero-chunk;
-      only-byte-0 = code-numbers .only-byte-0;
-      only-byte-127 = code-numbers .only-byte-127;
-      only-byte-5 = code-numbers .only-byte-5;
-      bytes-0-and-1 = code-numbers .bytes-0-and-1;
-      all-ones = code-numbers .all-ones;
-      leap-day-2000 = rule-numbers .leapDay2000;
-      leap-day-2100 = rule-numbers .leapDay2100;
-      word-free = rule-numbers .wordFree;
-      word-next = rule-numbers .wordNext;
-      word-end = rule-numbers .wordEnd;
-    }
 
 -- ---- an accepted image
 pub record Card (image : List ℕ) : Type 0 where
@@ -56,7 +43,7 @@ pub record Card (image : List ℕ) : Type 0 where
   pub marks : Marks
   pub checked : checkImage image ≡ ok (superblock, root, marks)
 
-card-of : (image : List ℕ) (counts : Counts) → checkOf image ≡ ok counts → Card image
+pub card-of : (image : List ℕ) (counts : Counts) → checkOf image ≡ ok counts → Card image
 unfolding checkOf andThen
 card-of image counts e = go (checkImage image) refl e
   where
@@ -81,8 +68,32 @@ module _ (image : List ℕ) (s : Superblock) (root : Root) (m : Marks) (checked 
       ap freeBy counted
       ∙ ap (λ n. totalBelow (λ c. isFree ((see s image) .link c)) n) (sym (end-is image s ((checked-parts image s root m checked) .0)))
 
-  pub long-is : length image ≡ 1056 * s .clusters
+  pub long-is : length image ≡ clusterBytes * s .clusters
   long-is = (open-facts image s ((checked-parts image s root m checked) .0)) .long
+
+  -- what a change takes and gives back
+  pub taken-is : (c : Change) → takenBy c image ≡ needed c root
+  unfolding takenBy
+  taken-is c = ap (byTree (needed c)) checked
+
+  pub back-is : (c : Change) → givenBackBy c image ≡ givenBack (rulesOf s) c root
+  unfolding givenBackBy
+  back-is c =
+      ap (byTree (λ r. cond (creates c) 0 (tell clustersOf 0 (lookUp r (path c))))) checked
+      ∙ ap (λ (n : ℕ). cond (creates c) 0 n) (go (lookUp root (path c)) refl)
+    where
+      go : (f : Found) → lookUp root (path c) ≡ f → tell clustersOf 0 f ≡ tell (clustersBack (rulesOf s)) 0 f
+      go absent e = refl
+      go (found h t) e =
+          let parts = checked-parts image s root m checked in
+          let card = (check-holds (see s image) root m (parts .1)) .0 in
+          sym
+          (total-times (chainOf h) ((rulesOf s) .allocEnd)
+          (λ x l. not-free (see s image) root card (path c) h t e x (no-words image s (parts .0) x l)))
+
+  pub room-is : (c : Change)
+      → freeIn image - takenBy c image + givenBackBy c image ≡ freeOf (rulesOf s) (see s image) - needed c root + givenBack (rulesOf s) c root
+  room-is c = rw (free-is, taken-is c, back-is c)
 
 -- ---- one change
 module _ (image : List ℕ) (s : Superblock) (root : Root) (m : Marks) (checked : checkImage image ≡ ok (s, root, m)) (c : Change) (d : Done image s root m checked c) where
@@ -94,7 +105,9 @@ module _ (image : List ℕ) (s : Superblock) (root : Root) (m : Marks) (checked 
 
   pub kept : Kept image c
   kept =
-      let k = change-keeps (rulesOf s) (see s image) (accepted image s root m checked) c (see s (d .after)) (d .performed) in
+      let parts = checked-parts image s root m checked in
+      let held : model.Accepted (rulesOf s) (see s image) = record { root = root; marks = m; checked = parts .1; noWords = no-words image s (parts .0) } in
+      let k = change-keeps (rulesOf s) (see s image) held c (see s (d .after)) (d .performed) in
       record {
         counts = countsIn (s .clusters) (s .end) (see s (d .after)) (d .newRoot);
         again = ap checkOf left ∙ counted (d .after) s (d .newRoot) (d .newMarks) (d .again);
@@ -102,6 +115,8 @@ module _ (image : List ℕ) (s : Superblock) (root : Root) (m : Marks) (checked 
         paths = λ q.
             ap (λ i. treeIn i q) left ∙ tree-is (d .after) s (d .newRoot) (d .newMarks) (d .again) q ∙ k .paths q
             ∙ ap (λ o. cond (samePath q (path c)) (standingAfter c o) o) (sym (tree-is image s root m checked q));
+        room = rw (taken-is image s root m checked c, free-is image s root m checked) (k .room);
+        free = ap freeIn left ∙ free-is (d .after) s (d .newRoot) (d .newMarks) (d .again) ∙ k .free ∙ sym (room-is image s root m checked c);
       }
 
 pub keeps : ChangeKeeps

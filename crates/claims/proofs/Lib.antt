@@ -1,2 +1,7 @@
 -- Every claim holds.
+pub mod MarkedNumbers
+pub mod PathFinds
 pub mod ImageClaims
+pub mod Witness
+pub mod FilePages
+pub mod ReadsTree

@@ -1,14 +1,19 @@
 -- The claims on images. An accepted image is one for which the check tells counts.
-use Prim.Native.Nat.{ℕ}
+use Prim.Native.Nat.{ℕ, _+_, _-_, _≤_}
 use mathlib.Core.Bool.{cond, false, true}
 use mathlib.Core.List.{List}
 use mathlib.Core.Logic.{_↔_}
 use mathlib.Core.Path.{_≡_}
 use lib.ListN.{length}
 use Rattle.change.specs.Changed.{changed}
+use Rattle.layout.specs.declared.Superblock.{Superblock}
+use Rattle.layout.specs.See.{checkImage}
 use Rattle.model.specs.Change.{Change, Crossed, creates, path, standingAfter}
-use Rattle.model.specs.Check.{fault, ok}
+use Rattle.model.specs.Check.{Marks, Result, fault, ok}
+use Rattle.model.specs.Lookup.{lookUp, tell}
 use Rattle.model.specs.Names.{Path, beginning, samePath}
+use Rattle.model.specs.Refusal.{needed}
+use Rattle.model.specs.Tree.{Root, Slot, Tree, chainOf}
 use Rattle.tree.specs.Counted.{checkOf}
 use Rattle.tree.specs.declared.Counts.{Counts}
 use Rattle.claims.specs.Seen.{freeIn, treeIn}
@@ -22,12 +27,31 @@ imageLeft c image = (changed c image) .image
 abbrev pub Accepts : List ℕ → Change → Type 0
 Accepts image c = (changed c image) .answer ≡ ok tt
 
--- The image is accepted again and has its length; the change's own path is what the rules say, and every other path stays.
+-- a number by the tree that the check gives
+abbrev pub byTree : (Root → ℕ) → Result (Superblock × Root × Marks) → ℕ
+byTree count (fault n p) = 0
+byTree count (ok x) = count (x .1)
+
+-- The clusters that a change takes: for its data, one for a new directory, none for a removal, and its directory's growth.
+unfoldable pub takenBy : Change → List ℕ → ℕ
+takenBy c image = byTree (needed c) (checkImage image)
+
+-- The clusters that come back: those of the chain that was at the path, where the change is no creation.
+abbrev pub clustersOf : Slot → Tree → ℕ
+clustersOf slot inside = length (chainOf slot)
+
+unfoldable pub givenBackBy : Change → List ℕ → ℕ
+givenBackBy c image = byTree (λ root. cond (creates c) 0 (tell clustersOf 0 (lookUp root (path c)))) (checkImage image)
+
+-- The image is accepted again and has its length; the change's own path is what the rules say, and every other path stays;
+-- there were enough free clusters, and of these what was taken is gone and what came back is there again.
 pub record Kept (image : List ℕ) (c : Change) : Type 0 where
   pub counts : Counts
   pub again : checkOf (imageLeft c image) ≡ ok counts
   pub long : length (imageLeft c image) ≡ length image
   pub paths : (q : Path) → treeIn (imageLeft c image) q ≡ cond (samePath q (path c)) (standingAfter c (treeIn image q)) (treeIn image q)
+  pub room : takenBy c image ≤ freeIn image
+  pub free : freeIn (imageLeft c image) ≡ freeIn image - takenBy c image + givenBackBy c image
 
 abbrev pub ChangeKeeps : Type 0
 ChangeKeeps = (image : List ℕ) (counts : Counts) → checkOf image ≡ ok counts → (c : Change) → Accepts image c → Kept image c

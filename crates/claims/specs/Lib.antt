@@ -1,4 +1,6 @@
 -- What is claimed of images, with the definitions that the calls' contracts cite.
 pub mod Seen
+pub mod Witness
 pub mod Numbers
+pub mod ReadsTree
 pub mod Claims

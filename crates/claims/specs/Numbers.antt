@@ -3,8 +3,7 @@ use mathlib.Core.Bool.{false, true}
 use mathlib.Core.List.{[], _∷_}
 use mathlib.Core.Path.{_≡_}
 use lib.ListN.{replicate, set}
-use Rattle.ecc.specs.Claims.{codeOfBytes, zeros}
-use Rattle.ecc.specs.Code.{codeOf}
+use Rattle.ecc.specs.Code.{codeOf, codeOfBytes, zeros}
 use Rattle.ecc.specs.Judge.{judge}
 use Rattle.ecc.specs.declared.Verdict.the-variants.{Good, Unreadable}
 use Rattle.model.specs.Time.{validTime}

@@ -2,6 +2,8 @@
 ghost use Rattle.ecc.specs.Claims.{TwoFlipsUnreadable};
 ghost use Rattle.tree.specs.Counted.{CountsAddUp};
 ghost use Rattle.claims.specs.Numbers.{MarkedNumbers};
+ghost use Rattle.claims.specs.ReadsTree.{TreeIsReading};
+ghost use Rattle.claims.specs.Witness.{BenchAccepted};
 ghost use Rattle.claims.specs.Claims.{ChangeKeeps, Demand3, RefusalLeaves};
 
 // The numbers marked P in document 01.
@@ -32,4 +34,14 @@ pub fn change_keeps()
 // Demand 3: any two changes at paths of which neither is a beginning of the other commute on every accepted image.
 pub fn demand_3()
     ensures { λ _. ⌜ Demand3 ⌝ }
+{}
+
+// The claims are of something: the check accepts the bench card, with the counts that document 01 gives.
+pub fn bench_accepted()
+    ensures { λ _. ⌜ BenchAccepted ⌝ }
+{}
+
+// The tree of an accepted image is what find and reads answer at every path.
+pub fn tree_is_reading()
+    ensures { λ _. ⌜ TreeIsReading ⌝ }
 {}

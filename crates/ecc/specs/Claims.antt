@@ -3,9 +3,9 @@ use mathlib.Core.Path.{_≡_}
 use mathlib.Core.List.{List}
 use Prim.Native.Nat.{ℕ, _≤_}
 use lib.Dec.{T}
-use lib.ListN.{length, set, replicate}
+use lib.ListN.{length}
 use Rattle.ecc.specs.declared.Code.{Code}
-use Rattle.ecc.specs.declared.Verdict.the-variants.{Good, Unreadable}
+use Rattle.ecc.specs.declared.Verdict.the-variants.{Unreadable}
 use Rattle.ecc.specs.Code.{codeOf}
 use Rattle.ecc.specs.Judge.{counted, matches, judge, corrected}
 use Rattle.ecc.specs.Flip.{Flip, Counts, flippedData, flippedCode, flipVerdict}
@@ -43,19 +43,3 @@ abbrev pub TwoFlipsUnreadable : Type 0
 TwoFlipsUnreadable =
     (chunk : List ℕ) (stored : Code) (one other : Flip) → RightlyCoded chunk stored → Counts one → Counts other → (one ≡ other → ⊥)
     → judge (flippedData other (flippedData one chunk)) (flippedCode other (flippedCode one stored)) ≡ Unreadable
-
--- ---- the numbers to meet (01, "Numbers to meet", marked P)
-
-abbrev pub codeOfBytes : ℕ → ℕ → ℕ → Code
-codeOfBytes x y z = record { byte0 = x; byte1 = y; byte2 = z }
-
-abbrev pub zeros : List ℕ
-zeros = replicate 128 0x00
-
-pub record CodeNumbers : Type 0 where
-  pub zero-chunk : codeOf zeros ≡ codeOfBytes 0x77 0x7F 0x7F
-  pub only-byte-0 : codeOf (set zeros 0 0x01) ≡ codeOfBytes 0x70 0x00 0x7F
-  pub only-byte-127 : codeOf (set zeros 127 0x80) ≡ codeOfBytes 0x07 0x7F 0x00
-  pub only-byte-5 : codeOf (set zeros 5 0x10) ≡ codeOfBytes 0x34 0x05 0x7A
-  pub bytes-0-and-1 : judge (set (set zeros 0 0x01) 1 0x01) (codeOfBytes 0x77 0x7F 0x7F) ≡ Unreadable
-  pub all-ones : judge (replicate 128 0xFF) (codeOfBytes 0xFF 0xFF 0xFF) ≡ Good

@@ -3,7 +3,15 @@ use mathlib.Core.List.{List, [], _∷_}
 use Prim.Native.Nat.{ℕ, zero, suc, _+_, _-_, _*_, _%_}
 use lib.Bits.{bitAnd, bitXor}
 use lib.Count.{onesIn}
+use lib.ListN.{replicate}
 use Rattle.ecc.specs.declared.Code.{Code}
+
+-- Three bytes as a code, and a chunk of zeros.
+abbrev pub codeOfBytes : ℕ → ℕ → ℕ → Code
+codeOfBytes x y z = record { byte0 = x; byte1 = y; byte2 = z }
+
+abbrev pub zeros : List ℕ
+zeros = replicate 128 0x00
 
 -- 1 where the byte has an odd number of ones, else 0.
 unfoldable pub parity : ℕ → ℕ
@@ -32,7 +40,7 @@ contribution index byte =
 
 -- Byte 0 starts at 0x77, bytes 1 and 2 at 0x7F.
 abbrev pub start : Code
-start = record { byte0 = 0x77; byte1 = 0x7F; byte2 = 0x7F }
+start = codeOfBytes 0x77 0x7F 0x7F
 
 -- The code after the bytes, the first of which stands at the index.
 abbrev pub codeFrom : ℕ → List ℕ → Code → Code

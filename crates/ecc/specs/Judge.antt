@@ -9,7 +9,7 @@ use lib.ListN.{length, getD, set}
 use Rattle.ecc.specs.declared.Code.{Code}
 use Rattle.ecc.specs.declared.Verdict.{Verdict}
 use Rattle.ecc.specs.declared.Verdict.the-variants.{Good, DataBit, CodeBit, Unreadable}
-use Rattle.ecc.specs.Code.{codeOf, _⊕_}
+use Rattle.ecc.specs.Code.{codeOf, codeOfBytes, _⊕_}
 
 -- The 20 code bits that count: all but bits 3 and 7 of byte 0 and bit 7 of bytes 1 and 2.
 unfoldable pub counted : Code → Code
@@ -33,16 +33,16 @@ flipBit chunk k = flipAt chunk (k / 8) (k % 8)
 
 -- A code with one bit set, in byte 0, 1 or 2, and one with none.
 abbrev pub inByte0 : ℕ → Code
-inByte0 bit = record { byte0 = 2 ^ bit; byte1 = 0; byte2 = 0 }
+inByte0 bit = codeOfBytes (2 ^ bit) 0 0
 
 abbrev pub inByte1 : ℕ → Code
-inByte1 bit = record { byte0 = 0; byte1 = 2 ^ bit; byte2 = 0 }
+inByte1 bit = codeOfBytes 0 (2 ^ bit) 0
 
 abbrev pub inByte2 : ℕ → Code
-inByte2 bit = record { byte0 = 0; byte1 = 0; byte2 = 2 ^ bit }
+inByte2 bit = codeOfBytes 0 0 (2 ^ bit)
 
 abbrev pub noBits : Code
-noBits = record { byte0 = 0; byte1 = 0; byte2 = 0 }
+noBits = codeOfBytes 0 0 0
 
 -- The 20 code bits that count, one by one; to flip the k-th is to XOR with codeBit k.
 unfoldable pub codeBits : List Code

@@ -1,5 +1,5 @@
 // What is claimed of the code. Each function does nothing; its contract is the claim.
-ghost use Rattle.ecc.specs.Claims.{IgnoredBitsZero, OneFlipFound, OneFlipUnique, TwoFlipsUnreadable, CodeNumbers};
+ghost use Rattle.ecc.specs.Claims.{IgnoredBitsZero, OneFlipFound, OneFlipUnique, TwoFlipsUnreadable};
 
 // The code bits that are ignored on reading are written as zero.
 pub fn ignored_bits_zero()
@@ -19,9 +19,4 @@ pub fn one_flip_unique()
 // Two flipped bits of a rightly coded chunk make it unreadable.
 pub fn two_flips_unreadable()
     ensures { λ _. ⌜ TwoFlipsUnreadable ⌝ }
-{}
-
-// The numbers to meet on codes.
-pub fn code_numbers()
-    ensures { λ _. ⌜ CodeNumbers ⌝ }
 {}

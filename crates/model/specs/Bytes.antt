@@ -1,4 +1,4 @@
--- Bytes of a page and the numbers in them. Numbers are little-endian (01, "Pages and their code").
+-- Bytes of a page and the numbers in them. Numbers are little-endian (RULES, "Pages and their code").
 use Prim.Native.Nat.{_%_, _*_, _+_, _/_, suc, zero, ℕ}
 use mathlib.Core.Bool.{cond}
 use mathlib.Core.List.{List, [], _∷_}

@@ -1,4 +1,4 @@
--- The check of the tree (01, "Refusal numbers"): depth first, the first fault met decides, the clusters reached so far are handed on.
+-- The check of the tree (RULES, "Refusal numbers, in order"): depth first, the first fault met decides, the clusters reached so far are handed on.
 use Prim.Native.Nat.{_*_, _+_, _<_, _≤_, suc, zero, ℕ}
 use mathlib.Core.Bool.{_&&_, cond}
 use mathlib.Core.List.{List, [], _∷_, map}
@@ -42,7 +42,7 @@ prepend a none = none
 prepend a (some cs) = some (a ∷ cs)
 
 -- A chain of k clusters behind a link is sound if every cluster is below alloc_end, is not free, has not been reached before,
--- and the end mark stands at exactly the k-th (01, "Superblock and table").
+-- and the end mark stands at exactly the k-th (RULES, "Superblock and table").
 pub record SoundChain (allocEnd : ℕ) (v : View) (reached : Marks) (start : Link) (k : ℕ) (cs : List ℕ) : Type 0 where
   pub below : (c : ℕ) → 1 ≤ times cs c → c < allocEnd
   pub notFree : (c : ℕ) → 1 ≤ times cs c → ¬ (v .link c ≡ Link.free)

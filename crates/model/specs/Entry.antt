@@ -1,4 +1,4 @@
--- A directory entry is one page (01, "Directories").
+-- A directory entry is one page (RULES, "Directories").
 --
 --   0x00 half  mode        0x8000 exists, 0x20 directory, 0x10 file
 --   0x04 word  length      bytes of a file, entries of a directory

@@ -1,4 +1,4 @@
--- The model of a card, in the order of document 01: what a reader must believe.
+-- The model of a card, in the order of docs/RULES.md, which comments cite by section: what a reader must believe.
 pub mod Names
 pub mod Bytes
 pub mod Entry

@@ -1,4 +1,4 @@
--- Names and paths (01, "Directories" and "Changes"): byte strings, compared whole.
+-- Names and paths (RULES, "Directories" and "Changes"): byte strings, compared whole.
 use Prim.Native.Nat.{ℕ}
 use mathlib.Core.Bool.{Bool, _&&_, _||_, false, not, true}
 use mathlib.Core.List.{List, [], _∷_}

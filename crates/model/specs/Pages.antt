@@ -1,4 +1,4 @@
--- What the pages that a change writes hold (01, "Changes").
+-- What the pages that a change writes hold (RULES, "Changes").
 use Prim.Native.Nat.{_*_, _-_, suc, zero, ℕ}
 use mathlib.Core.Bool.{Bool, false, true}
 use mathlib.Core.List.{List, [], _++_, _∷_}

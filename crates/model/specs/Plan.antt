@@ -1,4 +1,4 @@
--- What an accepted change writes, and the view after it (01, "Changes").
+-- What an accepted change writes, and the view after it (RULES, "Changes").
 use Prim.Native.Nat.{_%_, _+_, _-_, suc, zero, ℕ}
 use mathlib.Core.Bool.{Bool, cond, false, true}
 use mathlib.Core.List.{List, [], _++_, _∷_, map}
@@ -49,6 +49,7 @@ returned y cs = totalBelow (λ c. cond (y .mayTake c) (times cs c) 0) (y .allocE
 abbrev pub freeOf : Rules → View → ℕ
 freeOf y v = totalBelow (λ c. isFree (takeable (y .mayTake) (v .link) c)) (y .allocEnd)
 
+-- the link that leads to these clusters
 abbrev pub linkTo : List ℕ → Link
 linkTo [] = Link.last
 linkTo (c ∷ cs) = Link.next c
@@ -103,6 +104,7 @@ pub record Plan : Type 0 where
 abbrev pub withLength : Entry → ℕ → Entry
 withLength e n = alteredEntry e (e .mode) n (e .firstCluster) (e .modified)
 
+-- The plan of an edit: which clusters are taken, and the slot's page among those of the directory's entries, its growth counted.
 abbrev pub made : Rules → View → Directory → Edit → Plan
 made y v d u =
     let grown = growthClusters y v (u .growing) in
@@ -119,6 +121,7 @@ made y v d u =
 
 -- ---- what each change puts into its slot
 
+-- the first cluster that an entry names: 0xFFFFFFFF where it has none
 abbrev pub firstOf : List ℕ → ℕ
 firstOf [] = endMark
 firstOf (c ∷ cs) = c
@@ -138,6 +141,7 @@ newEntry mode length first dirEntry time n =
       name = n;
     }
 
+-- A new file has its data on the clusters taken.
 abbrev pub newFile : Name → List ℕ → List ℕ → List ℕ → Filling
 newFile n time bytes own =
     record { entry = newEntry fileMode (length bytes) (firstOf own) 0 time n; isNew = true; pages = dataPages bytes }
@@ -194,7 +198,7 @@ abbrev pub altering : Directory → Tree → Name → ℕ → List ℕ → (List
 altering d s n own given filling =
     record { index = indexOf n s; newLength = d .entry .length; growing = 0; own = own; given = given; filling = filling }
 
--- of the file that stands at the last name, and of the directory there
+-- for the file that stands at the last name, and for the directory there; for anything else none
 abbrev pub ofFile : (Entry → List ℕ → Edit) → Found → Option Edit
 ofFile f absent = none
 ofFile f (found Slot.dead s) = none
@@ -207,7 +211,7 @@ ofDirectory f (found Slot.dead s) = none
 ofDirectory f (found (Slot.file e cs ds) s) = none
 ofDirectory f (found (Slot.directory e cs) s) = some (f e cs)
 
--- by what stands at the last name; a change that is refused there has none
+-- what a change does, by what stands at its last name; a change that is refused there does nothing
 abbrev pub editFor : Change → Directory → Tree → Found → Option Edit
 editFor (create p time bytes) d s g = some (adding d s (clustersFor (length bytes)) (newFile (lastName p) time bytes))
 editFor (makeDirectory p time) d s g = some (adding d s 1 (newDirectory (lastName p) time (firstOf (d .chain)) (2 + firstDead s)))
@@ -220,7 +224,7 @@ module _ (y : Rules) where
   planBy v d none = none
   planBy v d (some u) = some (made y v d u)
 
-  -- in what was found at the change's directory, whose entry is in this page
+  -- in what was found on the way to the last name, whose entry is in this page
   abbrev pub planAt : Change → View → ℕ → Found → Option Plan
   planAt c v page absent = none
   planAt c v page (found Slot.dead s) = none
@@ -235,7 +239,7 @@ module _ (y : Rules) where
 
 -- ---- the view after it
 
--- the directory's entry, and the data of its page and of the slot's page
+-- the directory's entry afterwards, and the data of its page and of the slot's page
 abbrev pub directoryAfter : Plan → Entry
 directoryAfter p = withLength (p .directory .entry) (p .newLength)
 

@@ -1,4 +1,4 @@
--- When a time that is handed in is valid (01, "Changes").
+-- When a time that is handed in is valid (RULES, "Changes").
 use Prim.Native.Nat.{_%_, _-_, ℕ}
 use mathlib.Core.Bool.{Bool, _&&_, _||_, false, not, true}
 use mathlib.Core.List.{List, [], _∷_}

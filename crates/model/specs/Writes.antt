@@ -1,4 +1,4 @@
--- What an accepted change rewrites (01, "Changes"): all pages of newly taken clusters and a new entry's page always,
+-- What an accepted change rewrites (RULES, "Changes"): all pages of newly taken clusters and a new entry's page always,
 -- the page of the directory's entry, an entry that stands and the table's pages only where their data, as read, changes.
 use Prim.Native.Nat.{_%_, _+_, ℕ}
 use mathlib.Core.Bool.{Bool, cond, false, true}

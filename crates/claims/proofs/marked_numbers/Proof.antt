@@ -1,5 +1,5 @@
--- `claims::marked_numbers` meets its contract: the claim is proved in proofs/ImageClaims.
-use Rattle.claims.proofs.ImageClaims.{marked-numbers}
+-- `claims::marked_numbers` meets its contract: the claim is proved in proofs/MarkedNumbers.
+use Rattle.claims.proofs.MarkedNumbers.{marked-numbers}
 use Rattle.claims.proofs.marked_numbers.Statement.{statement}
 use Rattle.claims.proofs.marked_numbers.Tie as tie
 

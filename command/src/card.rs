@@ -1,0 +1,75 @@
+//! A card over an image, owned or borrowed.
+
+use crate::Refusal;
+
+/// Bytes of the largest card.
+pub const MOST_BYTES: usize = 8192 * 1056;
+
+/// What the check counts. Free, reached and orphaned add up to the allocatable clusters.
+#[derive(Clone, Copy, Debug, Default, PartialEq, Eq)]
+pub struct Counts {
+    /// All clusters of the card.
+    pub clusters: u32,
+    /// Allocatable clusters that the table has as free.
+    pub free: usize,
+    /// Those that the chain of a directory or a file reaches.
+    pub reached: usize,
+    /// Those that are not free and that no chain reaches.
+    pub orphaned: usize,
+}
+
+/// A card. Its image may be any bytes; every call checks it first and answers a refusal where it is no sound card.
+///
+/// `Card` alone owns its image. [`CardRef`] borrows one to look at it, [`CardMut`] to change it in place; what they can
+/// do is said once, by what the image lends.
+///
+/// ```
+/// use ps2card::{Card, CardMut, CardRef, Stamp};
+///
+/// let time = Stamp::parse("2000-02-29T12:34:56").unwrap();
+/// let mut image: Vec<u8> = Card::fresh(56, &time)?.into_image();
+///
+/// let mut changing: CardMut = Card::new(&mut image[..]);
+/// changing.make_dir(b"/SAVE", &time)?;
+///
+/// let looking: CardRef = Card::new(&image[..]);
+/// assert_eq!(looking.check()?, Card::new(image.clone()).check()?);
+/// # Ok::<(), ps2card::Refusal>(())
+/// ```
+#[derive(Clone, Copy, Debug, PartialEq, Eq)]
+pub struct Card<B = Vec<u8>> {
+    pub(crate) image: B,
+}
+
+/// A card over a borrowed image, to look at.
+pub type CardRef<'a> = Card<&'a [u8]>;
+
+/// A card over a borrowed image, to change in place.
+pub type CardMut<'a> = Card<&'a mut [u8]>;
+
+/// The refusal that a call told, if it told one.
+pub(crate) fn verdict(number: u32, page: usize) -> Result<(), Refusal> {
+    match Refusal::told(number, page) {
+        Some(refusal) => Err(refusal),
+        None => Ok(()),
+    }
+}
+
+impl<B> Card<B> {
+    /// A card over these bytes. Nothing is checked yet.
+    pub const fn new(image: B) -> Card<B> {
+        Card { image }
+    }
+
+    /// The image, handed back.
+    pub fn into_image(self) -> B {
+        self.image
+    }
+}
+
+impl<B: AsRef<[u8]>> Card<B> {
+    /// The image's bytes.
+    pub fn image(&self) -> &[u8] {
+        self.image.as_ref()
+    }
+}

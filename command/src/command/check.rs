@@ -1,0 +1,50 @@
+//! The command that checks cards: check.
+
+use std::path::Path;
+
+use super::image::Image;
+use super::{print, Command};
+use crate::arguments::{Call, Syntax};
+use crate::failure::{shown, Failure};
+
+pub const CHECK: Command = Command {
+    syntax: Syntax {
+        name: "check",
+        alias: Some("df"),
+        words: 1..=usize::MAX,
+        options: &[],
+        help: include_str!("../help/check.txt"),
+    },
+    run: |call| each(call, check),
+};
+
+fn check(name: &Path) -> Result<(), Failure> {
+    let counts = Image::load(name)?.check()?;
+    // A cluster has 1,024 bytes, so that the free ones are the free room in KB.
+    let text = format!(
+        "{}: OK, {} KB free\ncard {}\nfree {}\nreached {}\norphaned {}\n",
+        shown(name),
+        counts.free,
+        counts.clusters,
+        counts.free,
+        counts.reached,
+        counts.orphaned
+    );
+    print(text.as_bytes())
+}
+
+/// Does it with each image, also after one that failed; then the gravest status counts.
+pub fn each(call: &Call, look: impl Fn(&Path) -> Result<(), Failure>) -> Result<(), Failure> {
+    let mut worst = 0;
+    for name in call.images()? {
+        match look(name) {
+            Ok(()) => {}
+            Err(Failure::Unread) => return Err(Failure::Unread),
+            Err(failure) => worst = worst.max(failure.tell()),
+        }
+    }
+    match worst {
+        0 => Ok(()),
+        status => Err(Failure::Told(status)),
+    }
+}

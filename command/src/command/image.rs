@@ -1,0 +1,63 @@
+//! A card with its image's name, which every refusal tells.
+
+use std::io;
+use std::path::Path;
+
+use ps2card::{image_file, Card, Counts, Entry, Line, Refusal};
+
+use crate::failure::Failure;
+
+pub struct Image<'a> {
+    pub name: &'a Path,
+    pub card: Card,
+}
+
+impl<'a> Image<'a> {
+    /// The card in a file; `-` is standard input.
+    pub fn load(name: &'a Path) -> Result<Image<'a>, Failure> {
+        let card = if name == Path::new("-") {
+            image_file::read_limited(io::stdin().lock()).map(Card::new)
+        } else {
+            image_file::load(name)
+        };
+        Ok(Image { name, card: card.map_err(|error| Failure::host("read", name, error))? })
+    }
+
+    pub fn check(&self) -> Result<Counts, Failure> {
+        self.card.check().map_err(|refusal| self.refused(refusal))
+    }
+
+    pub fn list(&self) -> Result<Vec<u8>, Failure> {
+        self.card.list().map_err(|refusal| self.refused(refusal))
+    }
+
+    pub fn tree(&self) -> Result<Vec<Line>, Failure> {
+        self.card.tree().map_err(|refusal| self.refused(refusal))
+    }
+
+    pub fn find(&self, path: &[u8]) -> Result<Entry, Failure> {
+        self.card.find(path).map_err(|refusal| self.refused_on(refusal, path))
+    }
+
+    pub fn step(&self, path: &[u8], slot: u32) -> Result<Option<(u32, Entry)>, Failure> {
+        self.card.step(path, slot).map_err(|refusal| self.refused_on(refusal, path))
+    }
+
+    /// A file's bytes from an offset on, at most so many, on a card that was checked before: an unreadable page is
+    /// then the file's.
+    pub fn bytes(&self, path: &[u8], offset: usize, most: usize) -> Result<Vec<u8>, Failure> {
+        self.card.bytes(path, offset, most).map_err(|refusal| Failure::refused_at(refusal, self.name, path))
+    }
+
+    pub fn refused(&self, refusal: Refusal) -> Failure {
+        Failure::refused(refusal, self.name)
+    }
+
+    /// A refusal of a call that reads no file: an unreadable page has nothing to do with the path.
+    fn refused_on(&self, refusal: Refusal, path: &[u8]) -> Failure {
+        match refusal {
+            Refusal::UnreadablePage(_) => self.refused(refusal),
+            _ => Failure::refused_at(refusal, self.name, path),
+        }
+    }
+}

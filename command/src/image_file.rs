@@ -1,0 +1,121 @@
+//! Image files on the host. A change never writes into the image: a whole new file takes its place, so that a cut at
+//! any moment leaves the old image or the new one, and a lock lets one change at a time through.
+
+mod attributes;
+mod growing;
+mod lock;
+mod state;
+
+use std::fs::{self, File};
+use std::io::{self, Read, Seek, Write};
+use std::os::unix::fs::MetadataExt;
+use std::path::Path;
+
+use crate::{Card, Refusal, MOST_BYTES};
+
+pub use growing::{absent, sync_folder, Growing};
+pub use lock::Holder;
+
+/// Why a file's card was not changed, or not made. The file is as it was.
+#[derive(Debug)]
+pub enum Error {
+    /// By the rules of the card.
+    Refused(Refusal),
+    /// A file of the host cannot be read or written.
+    Host(io::Error),
+}
+
+impl From<Refusal> for Error {
+    fn from(refusal: Refusal) -> Error {
+        Error::Refused(refusal)
+    }
+}
+
+impl From<io::Error> for Error {
+    fn from(error: io::Error) -> Error {
+        Error::Host(error)
+    }
+}
+
+/// What is worth a word though the change goes on, or is made.
+#[derive(Debug)]
+pub enum Notice {
+    /// Another process holds the lock, and this one waits for it.
+    Waits(Option<Holder>),
+    /// The image has so many other names (hard links); they keep the old card.
+    OtherNames(u64),
+    /// It is done; only that the folder remembers it through a power cut is not certain.
+    Unsynced(io::Error),
+}
+
+/// Who hears the notices of a change.
+pub type Tell<'a> = &'a mut dyn FnMut(Notice);
+
+/// All bytes of a source, or one more than the largest card has: what is longer is refused just the same.
+pub fn read_limited(source: impl Read) -> io::Result<Vec<u8>> {
+    let mut bytes = Vec::new();
+    source.take(MOST_BYTES as u64 + 1).read_to_end(&mut bytes)?;
+    Ok(bytes)
+}
+
+/// The card in a file.
+pub fn load(path: &Path) -> io::Result<Card> {
+    Ok(Card::new(read_limited(File::open(path)?)?))
+}
+
+/// Makes a change of the card in a file, alone under its lock. A refusal or a host error leaves the file as it was, and
+/// so does another program that writes or replaces the image meanwhile.
+pub fn change(path: &Path, tell: Tell, edit: impl FnOnce(&mut Card) -> Result<(), Error>) -> Result<(), Error> {
+    // A link is followed, so that its target is replaced and not the link.
+    let path = fs::canonicalize(path)?;
+    let held = lock::image(&path, tell)?;
+    let before = state::State::of(&held.metadata()?);
+    let image = read_limited(&held)?;
+    let mut card = Card::new(image.clone());
+    edit(&mut card)?;
+    // Until it has the image's own permissions, nobody else may read it.
+    let new = Growing::file(&path, 0o600)?;
+    new.handle().write_all(card.image())?;
+    attributes::keep(&held, new.handle())?;
+    written(&new, &card)?;
+    (&held).rewind()?;
+    if read_limited(&held)? != image || !before.still(&held, &path) {
+        return Err(io::Error::other("another program changed it meanwhile; it stays as that left it").into());
+    }
+    let other_names = held.metadata()?.nlink().saturating_sub(1);
+    new.place_over(&path)?;
+    if other_names > 0 {
+        tell(Notice::OtherNames(other_names));
+    }
+    settle(&path, tell);
+    Ok(())
+}
+
+/// Puts a card into a file that must not exist yet.
+pub fn create(path: &Path, tell: Tell, card: &Card) -> Result<(), Error> {
+    absent(path)?;
+    let new = Growing::file(path, 0o666)?;
+    new.handle().write_all(card.image())?;
+    written(&new, card)?;
+    new.place_new(path)?;
+    settle(path, tell);
+    Ok(())
+}
+
+/// Syncs a new file, reads it back and checks it by the library.
+fn written(new: &Growing, card: &Card) -> Result<(), Error> {
+    new.handle().sync_all()?;
+    let read_back = load(new.at())?;
+    if read_back.image() != card.image() {
+        return Err(io::Error::other("what was written reads back differently").into());
+    }
+    read_back.check()?;
+    Ok(())
+}
+
+/// The new name is there; that it lasts through a cut is worth a word where it is not certain.
+fn settle(path: &Path, tell: Tell) {
+    if let Err(error) = sync_folder(path) {
+        tell(Notice::Unsynced(error));
+    }
+}

@@ -1,0 +1,204 @@
+//! The calls that look at a card.
+
+use ps2card_sys as calls;
+
+use crate::card::verdict;
+use crate::{Card, Counts, Entry, Refusal};
+
+impl<B: AsRef<[u8]>> Card<B> {
+    /// The check, with its counts. It reads no file data: only a read of a file tells whether its bytes are readable.
+    ///
+    /// ```
+    /// use ps2card::{Card, Refusal, Stamp};
+    ///
+    /// let card = Card::fresh(56, &Stamp::now())?;
+    /// let counts = card.check()?;
+    /// assert_eq!((counts.clusters, counts.free, counts.reached, counts.orphaned), (56, 29, 1, 0));
+    /// assert_eq!(Card::new(&b"no card"[..]).check(), Err(Refusal::BadLength));
+    /// # Ok::<(), Refusal>(())
+    /// ```
+    pub fn check(&self) -> Result<Counts, Refusal> {
+        let image = self.image();
+        let (mut counts, mut page) = (Counts::default(), 0);
+        // SAFETY: pointer and length are those of one slice, which is only read; the five numbers are places of their
+        // own, and all of them outlive the call.
+        let number = unsafe {
+            calls::ps2card_check(
+                image.as_ptr(),
+                image.len(),
+                &mut page,
+                &mut counts.clusters,
+                &mut counts.free,
+                &mut counts.reached,
+                &mut counts.orphaned,
+            )
+        };
+        verdict(number, page).map(|()| counts)
+    }
+
+    /// The entry at a path, for the root its first one.
+    ///
+    /// ```
+    /// use ps2card::{Card, Kind, Refusal, Stamp};
+    ///
+    /// let card = Card::fresh(56, &Stamp::now())?;
+    /// let root = card.find(b"/")?;
+    /// assert_eq!((root.kind(), root.length, root.name()), (Kind::Directory, 2, &b"."[..]));
+    /// assert_eq!(card.find(b"/none"), Err(Refusal::Absent));
+    /// # Ok::<(), Refusal>(())
+    /// ```
+    pub fn find(&self, path: &[u8]) -> Result<Entry, Refusal> {
+        let image = self.image();
+        let (mut entry, mut page) = (Entry::default(), 0);
+        // SAFETY: image and path are one slice each, with its length, and only read; the times are arrays of 8 bytes
+        // and the name one of 32, as the header asks; every output is a place of its own and outlives the call.
+        let number = unsafe {
+            calls::ps2card_find(
+                image.as_ptr(),
+                image.len(),
+                path.as_ptr(),
+                path.len(),
+                &mut page,
+                &mut entry.mode,
+                &mut entry.length,
+                entry.created.0.as_mut_ptr(),
+                &mut entry.first,
+                &mut entry.dir_entry,
+                entry.modified.0.as_mut_ptr(),
+                &mut entry.attribute,
+                entry.name_field.as_mut_ptr(),
+            )
+        };
+        verdict(number, page).map(|()| entry)
+    }
+
+    /// The first live entry of a directory from a slot on, never before slot 2, with its slot; nothing at the end.
+    ///
+    /// ```
+    /// use ps2card::{Card, Stamp};
+    ///
+    /// let mut card = Card::fresh(56, &Stamp::now())?;
+    /// card.make_dir(b"/SAVE", &Stamp::now())?;
+    /// let (slot, entry) = card.step(b"/", 0)?.expect("an entry");
+    /// assert_eq!((slot, entry.name()), (2, &b"SAVE"[..]));
+    /// assert_eq!(card.step(b"/", slot + 1)?, None);
+    /// # Ok::<(), ps2card::Refusal>(())
+    /// ```
+    pub fn step(&self, path: &[u8], slot: u32) -> Result<Option<(u32, Entry)>, Refusal> {
+        let image = self.image();
+        let mut entry = Entry::default();
+        let (mut page, mut found, mut at) = (0, 0, 0);
+        // SAFETY: as in `find`, with the slot by value and two more numbers that are places of their own.
+        let number = unsafe {
+            calls::ps2card_step(
+                image.as_ptr(),
+                image.len(),
+                path.as_ptr(),
+                path.len(),
+                slot,
+                &mut page,
+                &mut found,
+                &mut at,
+                &mut entry.mode,
+                &mut entry.length,
+                entry.created.0.as_mut_ptr(),
+                &mut entry.first,
+                &mut entry.dir_entry,
+                entry.modified.0.as_mut_ptr(),
+                &mut entry.attribute,
+                entry.name_field.as_mut_ptr(),
+            )
+        };
+        verdict(number, page).map(|()| (found != 0).then_some((at, entry)))
+    }
+
+    /// Every live entry of a directory after its first two, in slot order. Each is a step with a check of its own:
+    /// [`Card::tree`] has kinds, lengths and paths of the whole card by one check.
+    pub fn entries(&self, path: &[u8]) -> Result<Vec<Entry>, Refusal> {
+        let mut entries = Vec::new();
+        let mut slot = 2;
+        while let Some((at, entry)) = self.step(path, slot)? {
+            entries.push(entry);
+            slot = at + 1;
+        }
+        Ok(entries)
+    }
+
+    /// Copies a file's bytes from an offset until file or buffer ends, and tells how many. A refusal leaves the buffer,
+    /// and an unreadable page among those with a byte to copy is one.
+    ///
+    /// ```
+    /// use ps2card::{Card, Refusal, Stamp};
+    ///
+    /// let mut card = Card::fresh(56, &Stamp::now())?;
+    /// card.create(b"/note", &Stamp::now(), b"kept")?;
+    /// let mut buffer = [0; 3];
+    /// assert_eq!((card.read(b"/note", 2, &mut buffer)?, buffer), (2, *b"pt\0"));
+    /// assert_eq!(card.read(b"/note", 5, &mut buffer), Err(Refusal::BadOffset));
+    /// # Ok::<(), Refusal>(())
+    /// ```
+    pub fn read(&self, path: &[u8], offset: usize, buffer: &mut [u8]) -> Result<usize, Refusal> {
+        let image = self.image();
+        let (mut page, mut count) = (0, 0);
+        // SAFETY: image and path are one slice each, with its length, and only read; the buffer is borrowed mutably, so
+        // it overlaps neither; both numbers are places of their own. All outlive the call.
+        let number = unsafe {
+            calls::ps2card_read(
+                image.as_ptr(),
+                image.len(),
+                path.as_ptr(),
+                path.len(),
+                offset,
+                buffer.as_mut_ptr(),
+                buffer.len(),
+                &mut page,
+                &mut count,
+            )
+        };
+        verdict(number, page).map(|()| count)
+    }
+
+    /// A file's bytes from an offset on, at most so many.
+    pub fn bytes(&self, path: &[u8], offset: usize, most: usize) -> Result<Vec<u8>, Refusal> {
+        // No file has more bytes than the image.
+        let mut bytes = vec![0; most.min(self.image().len())];
+        let count = self.read(path, offset, &mut bytes)?;
+        bytes.truncate(count);
+        Ok(bytes)
+    }
+
+    /// The listing: the counts, then every entry in tree order, a line each.
+    ///
+    /// ```
+    /// use ps2card::{Card, Stamp};
+    ///
+    /// let mut card = Card::fresh(56, &Stamp::now())?;
+    /// card.make_dir(b"/SAVE", &Stamp::now())?;
+    /// card.create(b"/SAVE/A", &Stamp::now(), &[0; 1500])?;
+    /// assert_eq!(card.list()?, b"card 56\nfree 24\nreached 6\norphaned 0\nd 3 /SAVE\nf 1500 /SAVE/A\n");
+    /// # Ok::<(), ps2card::Refusal>(())
+    /// ```
+    pub fn list(&self) -> Result<Vec<u8>, Refusal> {
+        // A line takes less than a third of the page that its entry has for itself: one call will do, so one check.
+        let mut text = vec![0; self.image().len() / 3 + 64];
+        let length = self.list_into(&mut text);
+        if length > text.len() {
+            text.resize(length, 0);
+            self.list_into(&mut text);
+        }
+        text.truncate(length);
+        text.shrink_to_fit();
+        match Refusal::listed(&text) {
+            Some(refusal) => Err(refusal),
+            None => Ok(text),
+        }
+    }
+
+    /// Writes as much of the listing, or of a refusal's line, as fits; the whole text's length.
+    fn list_into(&self, text: &mut [u8]) -> usize {
+        let image = self.image();
+        // SAFETY: the image is one slice, with its length, and only read; the text is borrowed mutably, so it does not
+        // overlap it. Both outlive the call.
+        unsafe { calls::ps2card_list(image.as_ptr(), image.len(), text.as_mut_ptr(), text.len()) }
+    }
+}

@@ -1,0 +1,156 @@
+/* Calls every function of ps2card.h on a card and prints what it answers; leaves the changed image behind.
+ * Usage: header IMAGE CHANGED. The same calls through the Rust wrapper must print the same. */
+#include <stdio.h>
+#include <stdlib.h>
+#include <string.h>
+
+#include "ps2card.h"
+
+/* What stands in an output before a call. */
+enum { UNTOUCHED = 77 };
+
+static uint8_t image[8192 * 1056];
+static size_t image_length;
+
+static const uint8_t time_of_change[8] = {0, 56, 34, 12, 29, 2, 0xD0, 0x07};
+static const uint8_t no_time[8] = {1, 0, 0, 0, 0, 0, 0, 0};
+
+static const uint8_t *text(const char *path) {
+    return (const uint8_t *)path;
+}
+
+static void print_hex(const uint8_t *bytes, size_t count) {
+    size_t i;
+    for (i = 0; i < count; i++) {
+        printf("%02x", bytes[i]);
+    }
+}
+
+static void print_entry(const ps2card_entry *e) {
+    printf(" %x %lu %lu %lu %lu ", (unsigned)e->mode, (unsigned long)e->length, (unsigned long)e->first,
+           (unsigned long)e->dir_entry, (unsigned long)e->attribute);
+    print_hex(e->created, 8);
+    print_hex(e->modified, 8);
+    print_hex(e->name, 32);
+    printf("\n");
+}
+
+static void check(void) {
+    ps2card_counts c = {UNTOUCHED, UNTOUCHED, UNTOUCHED, UNTOUCHED};
+    size_t page = UNTOUCHED;
+    uint32_t number = ps2card_check_counts(image, image_length, &page, &c);
+    printf("check %lu %lu %lu %lu %lu %lu\n", (unsigned long)number, (unsigned long)page, (unsigned long)c.clusters,
+           (unsigned long)c.free, (unsigned long)c.reached, (unsigned long)c.orphaned);
+}
+
+static void find(const char *path) {
+    ps2card_entry e;
+    size_t page = UNTOUCHED;
+    uint32_t number;
+    memset(&e, UNTOUCHED, sizeof e);
+    number = ps2card_find_entry(image, image_length, text(path), strlen(path), &page, &e);
+    printf("find %lu %lu %d %lu", (unsigned long)number, (unsigned long)page, ps2card_is_directory(&e),
+           (unsigned long)ps2card_name_length(&e));
+    print_entry(&e);
+}
+
+static void step(const char *path, uint32_t slot) {
+    ps2card_entry e;
+    size_t page = UNTOUCHED;
+    uint32_t found = UNTOUCHED, at = UNTOUCHED, number;
+    memset(&e, UNTOUCHED, sizeof e);
+    number = ps2card_step_entry(image, image_length, text(path), strlen(path), slot, &page, &found, &at, &e);
+    printf("step %lu %lu %lu %lu", (unsigned long)number, (unsigned long)page, (unsigned long)found, (unsigned long)at);
+    print_entry(&e);
+}
+
+static void read_some(const char *path, size_t offset) {
+    uint8_t out[16];
+    size_t page = UNTOUCHED, count = UNTOUCHED;
+    uint32_t number;
+    memset(out, UNTOUCHED, sizeof out);
+    number = ps2card_read(image, image_length, text(path), strlen(path), offset, out, sizeof out, &page, &count);
+    printf("read %lu %lu %lu ", (unsigned long)number, (unsigned long)page, (unsigned long)count);
+    print_hex(out, sizeof out);
+    printf("\n");
+}
+
+static void list(void) {
+    static uint8_t out[65536];
+    size_t length = ps2card_list(image, image_length, out, sizeof out);
+    printf("list %lu\n%.*s", (unsigned long)length, (int)length, (const char *)out);
+}
+
+static void told(const char *name, uint32_t number, size_t page) {
+    printf("%s %lu %lu\n", name, (unsigned long)number, (unsigned long)page);
+}
+
+static void create(const char *path, const uint8_t *time, const char *bytes) {
+    size_t page = UNTOUCHED;
+    told("create",
+         ps2card_create(image, image_length, text(path), strlen(path), time, text(bytes), strlen(bytes), &page), page);
+}
+
+static void replace(const char *path, const char *bytes) {
+    size_t page = UNTOUCHED;
+    told("replace",
+         ps2card_replace(image, image_length, text(path), strlen(path), time_of_change, text(bytes), strlen(bytes),
+                         &page),
+         page);
+}
+
+static void delete_file(const char *path) {
+    size_t page = UNTOUCHED;
+    told("delete", ps2card_delete(image, image_length, text(path), strlen(path), &page), page);
+}
+
+static void make_dir(const char *path, const uint8_t *time) {
+    size_t page = UNTOUCHED;
+    told("make_dir", ps2card_make_dir(image, image_length, text(path), strlen(path), time, &page), page);
+}
+
+static void remove_dir(const char *path) {
+    size_t page = UNTOUCHED;
+    told("remove_dir", ps2card_remove_dir(image, image_length, text(path), strlen(path), &page), page);
+}
+
+int main(int count, char **words) {
+    FILE *file = count == 3 ? fopen(words[1], "rb") : NULL;
+    if (!file) {
+        return 2;
+    }
+    image_length = fread(image, 1, sizeof image, file);
+    fclose(file);
+    check();
+    make_dir("/D", time_of_change);
+    make_dir("/D", time_of_change);
+    make_dir("/E", no_time);
+    create("/D/F", time_of_change, "some bytes of a save");
+    create("/D/G", time_of_change, "");
+    create("/none/F", time_of_change, "");
+    find("/");
+    find("/D/F");
+    find("/D/H");
+    step("/D", 0);
+    step("/D", 3);
+    step("/D", 4);
+    step("/D/F", 0);
+    read_some("/D/F", 5);
+    read_some("/D/F", 20);
+    read_some("/D/F", 21);
+    list();
+    replace("/D/F", "other bytes");
+    replace("/D", "");
+    delete_file("/D/G");
+    delete_file("/D");
+    remove_dir("/D");
+    make_dir("/E", time_of_change);
+    remove_dir("/E");
+    check();
+    list();
+    file = fopen(words[2], "wb");
+    if (!file || fwrite(image, 1, image_length, file) != image_length || fclose(file) != 0) {
+        return 2;
+    }
+    return 0;
+}

@@ -1,0 +1,106 @@
+/* Prints how many bytes of stack each function of ps2card.h uses on a card: each call runs on a painted stack.
+ * Usage: stack IMAGE. */
+#define _XOPEN_SOURCE 700
+#include <pthread.h>
+#include <stdio.h>
+#include <stdlib.h>
+#include <string.h>
+
+#include "ps2card.h"
+
+enum { STACK = 4 << 20, PAINT = 0xA5 };
+
+static uint8_t image[8192 * 1056], work[8192 * 1056], bytes[300000];
+static size_t image_length;
+
+static const uint8_t time_of_change[8] = {0, 56, 34, 12, 29, 2, 0xD0, 0x07};
+
+/* What the calls write. */
+static struct {
+    size_t page, a, b, c;
+    uint32_t clusters, found, at, length, first, dir_entry, attribute;
+    uint16_t mode;
+    uint8_t created[8], modified[8], name[32];
+} out;
+
+#define PATH(text) (const uint8_t *)text, sizeof text - 1
+
+static uint32_t check(void) {
+    return ps2card_check(work, image_length, &out.page, &out.clusters, &out.a, &out.b, &out.c);
+}
+static uint32_t find(void) {
+    return ps2card_find(work, image_length, PATH("/a/b/c/file"), &out.page, &out.mode, &out.length, out.created,
+                        &out.first, &out.dir_entry, out.modified, &out.attribute, out.name);
+}
+static uint32_t step(void) {
+    return ps2card_step(work, image_length, PATH("/a/b/c"), 2, &out.page, &out.found, &out.at, &out.mode, &out.length,
+                        out.created, &out.first, &out.dir_entry, out.modified, &out.attribute, out.name);
+}
+static uint32_t read_file(void) {
+    return ps2card_read(work, image_length, PATH("/a/b/c/file"), 1, bytes, sizeof bytes, &out.page, &out.a);
+}
+static uint32_t list(void) {
+    return ps2card_list(work, image_length, bytes, sizeof bytes) == 0;
+}
+static uint32_t create(void) {
+    return ps2card_create(work, image_length, PATH("/a/b/c/new"), time_of_change, bytes, sizeof bytes, &out.page);
+}
+static uint32_t replace(void) {
+    return ps2card_replace(work, image_length, PATH("/a/b/c/file"), time_of_change, bytes, sizeof bytes, &out.page);
+}
+static uint32_t delete_file(void) {
+    return ps2card_delete(work, image_length, PATH("/a/b/c/file"), &out.page);
+}
+static uint32_t make_dir(void) {
+    return ps2card_make_dir(work, image_length, PATH("/a/b/new"), time_of_change, &out.page);
+}
+static uint32_t remove_dir(void) {
+    return ps2card_remove_dir(work, image_length, PATH("/a/b/empty"), &out.page);
+}
+
+static const struct {
+    const char *name;
+    uint32_t (*call)(void);
+} calls[] = {{"check", check},     {"find", find},     {"step", step},           {"read", read_file},
+             {"list", list},       {"create", create}, {"replace", replace},     {"delete", delete_file},
+             {"make_dir", make_dir}, {"remove_dir", remove_dir}};
+
+/* One call in a thread of its own: paints the stack below this frame, calls, and looks how far the paint is gone. */
+static uint8_t *lowest;
+static size_t chosen, used;
+static uint32_t number;
+
+static void *measure(void *nothing) {
+    volatile uint8_t here = 0;
+    size_t room = (size_t)((uint8_t *)(uintptr_t)&here - lowest) - 512, low = 0;
+    memset(lowest, PAINT, room);
+    number = calls[chosen].call();
+    while (low < room && lowest[low] == PAINT) {
+        low++;
+    }
+    used = room + 512 - low;
+    return nothing;
+}
+
+int main(int count, char **words) {
+    FILE *file = count == 2 ? fopen(words[1], "rb") : NULL;
+    pthread_attr_t attributes;
+    pthread_t thread;
+    void *stack;
+    if (!file || posix_memalign(&stack, 4096, STACK)) {
+        return 2;
+    }
+    lowest = stack;
+    image_length = fread(image, 1, sizeof image, file);
+    fclose(file);
+    pthread_attr_init(&attributes);
+    pthread_attr_setstack(&attributes, lowest, STACK);
+    for (chosen = 0; chosen < sizeof calls / sizeof *calls; chosen++) {
+        memcpy(work, image, image_length);
+        if (pthread_create(&thread, &attributes, measure, NULL) || pthread_join(thread, NULL)) {
+            return 2;
+        }
+        printf("%s %lu %lu\n", calls[chosen].name, (unsigned long)number, (unsigned long)used);
+    }
+    return 0;
+}

@@ -1,0 +1,80 @@
+//! Fresh cards, against the independent builder.
+
+mod common;
+
+use common::{Folder, USUAL};
+use reader::build::{self, Assembly, Layout};
+use reader::page::{self, CLUSTER};
+use reader::Refusal;
+
+#[test]
+fn standard_card() {
+    let folder = Folder::new();
+    folder.run(&["new", "card", "--stamp", USUAL]).done();
+    assert!(folder.read("card") == build::standard());
+    let counts = "card: OK, 8134 KB free\ncard 8192\nfree 8134\nreached 1\norphaned 0\n";
+    assert_eq!(folder.run(&["check", "card"]).text(), counts);
+    assert_eq!(folder.names(), ["card"]);
+}
+
+#[test]
+fn bench_card() {
+    let folder = Folder::new();
+    folder.run(&["new", "card", "56", "--stamp", USUAL]).done();
+    assert_eq!(folder.read("card"), build::bench());
+}
+
+/// Every size: accepted, no bad block listed, both backup blocks erased, every cluster before them in use, and the
+/// independent builder's bytes.
+#[test]
+fn every_size() {
+    let time = ps2card::Stamp(build::usual_time());
+    for clusters in (32..=8192).step_by(8) {
+        let image = ps2card::Card::fresh(clusters, &time).expect("an allowed size").into_image();
+        let counts = reader::check(&image).expect("accepted");
+        assert_eq!((counts.clusters, counts.reached, counts.orphaned), (clusters, 1, 0));
+        let first = page::read(&image, 0).expect("readable");
+        assert!(first[0xD0..0x150].iter().all(|&byte| byte == 0xFF));
+        let backups = [0x40, 0x44].map(|at| page::word(&first, at));
+        for block in backups {
+            assert!(image[8 * CLUSTER * block as usize..][..8 * CLUSTER].iter().all(|&byte| byte == 0xFF));
+        }
+        let [alloc_offset, alloc_end] = [0x34, 0x38].map(|at| page::word(&first, at) as usize);
+        assert_eq!(alloc_offset + alloc_end, clusters - 16);
+        assert_eq!(counts.free, alloc_end - 1);
+        if clusters.is_multiple_of(256) || clusters < 128 {
+            let table = (9..alloc_offset).collect::<Vec<usize>>();
+            assert_eq!(table.len(), alloc_end.div_ceil(256));
+            let layout = Layout { clusters, alloc_offset, alloc_end, indirect: 8, table, backups, version: "1.2.0.0" };
+            assert!(Assembly::with_root(layout).finish() == image, "{clusters}");
+        }
+    }
+}
+
+/// The smallest card takes what its counts say.
+#[test]
+fn smallest_card() {
+    let folder = Folder::new();
+    folder.run(&["new", "card", "32"]).done();
+    assert_eq!(folder.run(&["check", "card"]).text(), "card: OK, 5 KB free\ncard 32\nfree 5\nreached 1\norphaned 0\n");
+    folder.write("fits", &[3; 4 * 1024]);
+    folder.run(&["create", "card", "/A", "fits"]).done();
+    folder.run(&["create", "card", "/B", "fits"]).refused(Refusal::number(12));
+    assert_eq!(folder.run(&["read", "card", "/A"]).done(), vec![3; 4 * 1024]);
+}
+
+#[test]
+fn refused_or_wrong() {
+    let folder = Folder::new();
+    for size in ["0", "31", "33", "8200", "-8", "x", "+56", "99999999999999999999"] {
+        let given = folder.run(&["new", "card", "--", size]);
+        assert!(given.status == 2 && given.out.is_empty() && !given.err.is_empty(), "{size}: {given:?}");
+    }
+    folder.run(&["new", "card", "--stamp", "1979-01-01T00:00:00"]).refused(Refusal::number(14));
+    folder.run(&["new", "none/card"]).failed(3, "cannot make none/card");
+    folder.run(&["new", "/"]).failed(3, "cannot make /");
+    assert_eq!(folder.names(), Vec::<String>::new());
+    folder.write("card", b"mine");
+    folder.run(&["new", "card"]).failed(3, "cannot make card: File exists");
+    assert_eq!((folder.read("card"), folder.names()), (b"mine".to_vec(), vec!["card".to_string()]));
+}

@@ -1,0 +1,152 @@
+//! The wrapper: owned and borrowed cards, errors, threads and stack, and how its sources treat `unsafe`.
+
+use std::error::Error;
+use std::fs;
+use std::path::{Path, PathBuf};
+use std::thread;
+
+use ps2card::image_file;
+use ps2card::{Card, CardMut, CardRef, Refusal, Stamp, STACK};
+use reader::build;
+
+fn time() -> Stamp {
+    Stamp(build::usual_time())
+}
+
+/// All five changes, and calls that look, on any card.
+fn work<B: AsRef<[u8]> + AsMut<[u8]>>(card: &mut Card<B>) -> Result<Vec<u8>, Refusal> {
+    card.make_dir(b"/D", &time())?;
+    card.make_dir(b"/E", &time())?;
+    card.create(b"/D/F", &time(), &[7; 1500])?;
+    card.create(b"/D/G", &time(), b"")?;
+    card.replace(b"/D/F", &time(), b"other bytes")?;
+    card.delete(b"/D/G")?;
+    card.remove_dir(b"/E")?;
+    assert_eq!(card.entries(b"/D")?.len(), 1);
+    assert_eq!(card.bytes(b"/D/F", 6, 100)?, b"bytes");
+    card.list()
+}
+
+/// A borrowed card works in the caller's buffer and does what an owned one does.
+#[test]
+fn owned_and_borrowed() {
+    let mut owned = Card::new(build::bench());
+    let text = work(&mut owned).expect("room");
+    let mut buffer = build::bench();
+    let mut changing: CardMut = Card::new(&mut buffer[..]);
+    assert_eq!(work(&mut changing), Ok(text.clone()));
+    assert!(buffer == owned.image() && buffer != build::bench());
+    let looking: CardRef = Card::new(&buffer[..]);
+    assert_eq!((looking.list(), looking.check()), (Ok(text), owned.check()));
+    // The buffer may be an array or a box as well.
+    let boxed = Card::new(buffer.clone().into_boxed_slice());
+    assert_eq!(boxed.find(b"/D/F"), owned.find(b"/D/F"));
+    assert!(boxed.into_image()[..] == buffer[..]);
+}
+
+/// The listing, which tells a refusal in its text, gives the refusal that the check gives.
+#[test]
+fn refused_listings() {
+    let mut unreadable = build::bench();
+    unreadable[0] ^= 3;
+    let mut other_text = build::bench();
+    reader::page::write(&mut other_text, 0, &[0; 512]);
+    for (image, number) in [(vec![], 1), (unreadable, 2), (other_text, 3)] {
+        let card = Card::new(image);
+        let refusal = card.list().expect_err("a refusal");
+        assert_eq!((refusal.number(), refusal.page()), (number, (number == 2).then_some(0)));
+        assert_eq!((Err(refusal), card.tree()), (card.check(), Err(refusal)));
+    }
+}
+
+/// The check reads no file data, as the header says: a card with a damaged file passes, and a read of it does not.
+#[test]
+fn check_reads_no_file_data() {
+    let mut card = Card::new(build::bench());
+    card.create(b"/F", &time(), &[7; 3000]).expect("room");
+    let (sound, first) = (card.check(), card.find(b"/F").expect("a file").first as usize);
+    // The allocatable clusters of this card start at 10; its second page has bytes 512 to 1023.
+    let page = 2 * (10 + first) + 1;
+    let mut image = card.into_image();
+    image[page * 528] ^= 3;
+    let card = Card::new(image);
+    assert!(sound.is_ok() && card.check() == sound && card.list().is_ok());
+    assert_eq!(card.bytes(b"/F", 0, 3000), Err(Refusal::UnreadablePage(page)));
+    assert_eq!(card.bytes(b"/F", 0, 512).map(|bytes| bytes.len()), Ok(512));
+}
+
+/// Both errors go where any error goes, with words.
+#[test]
+fn errors() {
+    fn any(error: impl Error + Send + Sync + 'static) -> Box<dyn Error + Send + Sync> {
+        Box::new(error)
+    }
+    let refusal = Card::new(Vec::new()).check().expect_err("no card");
+    assert!(any(refusal).to_string().starts_with("refused 1: "));
+    assert_eq!(any(image_file::Error::from(refusal)).to_string(), refusal.to_string());
+    let absent = image_file::load(Path::new("no/such/image")).expect_err("no file");
+    let words = absent.to_string();
+    assert_eq!(any(image_file::Error::from(absent)).to_string(), words);
+}
+
+/// Threads that have the promised stack and little more, at once, on images of their own: no state, no overflow.
+#[test]
+fn threads_and_stack() {
+    let text = work(&mut Card::new(build::standard())).expect("room");
+    let threads: Vec<thread::JoinHandle<Vec<u8>>> = (0..8)
+        .map(|_| {
+            let mut card = Card::new(build::standard());
+            let small = thread::Builder::new().stack_size(STACK + 64 * 1024);
+            small.spawn(move || work(&mut card).expect("room"))
+        })
+        .map(|thread| thread.expect("a thread"))
+        .collect();
+    for thread in threads {
+        assert_eq!(thread.join().expect("no overflow"), text);
+    }
+    // The bound is the largest that the header gives.
+    let figures = include_str!("../../include/ps2card.h").split("at most ").skip(1);
+    let most = figures.filter_map(|text| text.split(" KiB").next()?.parse::<usize>().ok()).max();
+    assert_eq!(most, Some(STACK / 1024));
+}
+
+/// Every Rust source of the workspace.
+fn sources() -> Vec<(PathBuf, String)> {
+    let root = Path::new(env!("CARGO_MANIFEST_DIR")).join("..");
+    let (mut folders, mut sources) = (vec![root.join("command"), root.join("bench")], Vec::new());
+    while let Some(folder) = folders.pop() {
+        for entry in fs::read_dir(folder).expect("a folder") {
+            let path = entry.expect("an entry").path();
+            if path.is_dir() {
+                folders.push(path);
+            } else if path.extension().is_some_and(|ending| ending == "rs") {
+                let text = fs::read_to_string(&path).expect("a source");
+                sources.push((path, text));
+            }
+        }
+    }
+    sources
+}
+
+/// Each `unsafe` block has its own reason right above its statement, and one file alone declares the library.
+#[test]
+fn unsafe_has_reasons() {
+    let (mut blocks, mut declaring) = (0, Vec::new());
+    for (path, text) in sources() {
+        if text.contains(concat!("fn ps2card", "_")) {
+            declaring.push(path.clone());
+        }
+        let lines: Vec<&str> = text.lines().collect();
+        for (place, _) in lines.iter().enumerate().filter(|(_, line)| line.contains(concat!("unsafe ", "{"))) {
+            let above = lines[..place].iter().rev().skip_while(|line| !line.trim_start().starts_with("//")).take(4);
+            let reason =
+                above.take_while(|line| line.trim_start().starts_with("//")).any(|line| line.contains("SAFETY: "));
+            let near = lines[place.saturating_sub(5)..place].iter().any(|line| line.trim_start().starts_with("//"));
+            assert!(reason && near, "{}:{}", path.display(), place + 1);
+            blocks += 1;
+        }
+    }
+    assert!(blocks >= 20, "{blocks} blocks");
+    assert_eq!(declaring.len(), 1, "{declaring:?}");
+    assert!(declaring[0].ends_with("command/sys/src/lib.rs"));
+}

@@ -1,0 +1,171 @@
+-- The bench card's image is accepted: its pages are read by the page laws, and what they say is computed.
+use Prim.Native.Nat.{ℕ, zero, suc, _*_, _+_, _/_, _%_, _≤_, _<_}
+use mathlib.Core.Bool.{Bool, cond, false, true}
+use mathlib.Core.List.{List, [], _∷_, _++_}
+use mathlib.Core.Option.{Option, some}
+use mathlib.Core.Path.{_∙_, _≡_, ap, ap₂, refl, sym}
+use native.Mathlib.Omega.{arith}
+use lib.Dec.{eqb, lit≤}
+use lib.ListN.{length, length-replicate, replicate}
+use Rattle.change.proofs.ChangedLaws.{checked-whole}
+use Rattle.layout.specs.declared.Superblock.{Superblock}
+use Rattle.layout.proofs.Geometry.{good-card}
+use Rattle.layout.proofs.Stages.{Readable}
+use Rattle.layout.specs.Superblock.{clustersIn, goodLength, goodSuperblock, goodText, superblockOf}
+use Rattle.layout.specs.Table.{dataOf, goodTableNames, namesOf, openCard, tableNames, tableOf, tablePage, tableWord, upTo}
+use Rattle.model.proofs.CheckHolds.{holds-check}
+use Rattle.model.specs.Bytes.{word}
+use Rattle.model.specs.Check.{checkTree, ok}
+use Rattle.model.specs.Entry.{Entry}
+use Rattle.model.specs.Holds.{HoldsCard}
+use Rattle.model.specs.Tree.{Root, end, reached}
+use Rattle.model.specs.View.{View}
+use Rattle.layout.specs.See.{pageIn, see, viewBy}
+use Rattle.tree.specs.Counted.{countsIn}
+use Rattle.model.specs.Names.{dotDotName, dotName}
+use Rattle.model.specs.Pages.{decoded, newPage, zeroPage}
+use Rattle.page.proofs.Laws.{length-put, page-put}
+use Rattle.page.specs.Page.{pageAt, written}
+use Rattle.claims.proofs.ImageClaims.{counted}
+use Rattle.claims.specs.Witness.{BenchAccepted, benchDot, benchImage, benchNames, benchPages, benchSuperblock, benchTable, erased, onesPage, writeAll}
+
+-- ---- pages written in turn
+
+-- an image of the bench card's length, and pages that it has room for
+abbrev Sized : List ℕ → Type 0
+Sized image = length image ≡ 59136
+
+abbrev Fit : List (ℕ × List ℕ) → Type 0
+Fit [] = Unit {0}
+Fit (w ∷ ws) = (w .0 < 112) × (length (w .1) ≡ 512) × Fit ws
+
+-- the page that is written last counts
+abbrev read : List (ℕ × List ℕ) → ℕ → Option (List ℕ) → Option (List ℕ)
+read [] q before = before
+read (w ∷ ws) q before = read ws q (cond (eqb (w .0) q) (some (w .1)) before)
+
+written-sized : (ws : List (ℕ × List ℕ)) (image : List ℕ) → Fit ws → Sized image → Sized (writeAll ws image)
+written-sized [] image f s = s
+written-sized (w ∷ ws) image f s = written-sized ws (written image (w .0) (w .1)) (f .2) (length-put true (w .0) (w .1) image (f .1) ∙ s)
+
+written-read : (ws : List (ℕ × List ℕ)) (image : List ℕ) → Fit ws → Sized image → (q : ℕ) → pageAt (writeAll ws image) q ≡ read ws q (pageAt image q)
+written-read [] image f s q = refl
+written-read (w ∷ ws) image f s q =
+    let fits : 528 * w .0 + 528 ≤ length image = omega (arith, f .0) in
+    written-read ws (written image (w .0) (w .1)) (f .2) (length-put true (w .0) (w .1) image (f .1) ∙ s) q
+    ∙ ap (read ws q) (page-put true (w .0) (w .1) image (f .1) fits q)
+
+-- ---- the bench card's
+bench-fit : Fit benchPages
+unfolding benchPages benchSuperblock benchNames benchTable onesPage newPage zeroPage
+bench-fit = (lit≤ tt, refl, (lit≤ tt, refl, (lit≤ tt, refl, (lit≤ tt, refl, (lit≤ tt, refl, (lit≤ tt, refl, (lit≤ tt, refl, tt)))))))
+
+erased-sized : Sized (erased 56)
+unfolding erased
+erased-sized = length-replicate {A = ℕ} 59136 0xFF
+
+bench-sized : Sized benchImage
+unfolding benchImage
+bench-sized = written-sized benchPages (erased 56) bench-fit erased-sized
+
+bench-read : (q : ℕ) → pageAt benchImage q ≡ read benchPages q (pageAt (erased 56) q)
+unfolding benchImage
+bench-read q = written-read benchPages (erased 56) bench-fit erased-sized q
+
+-- ---- the card is open
+abbrev card : Superblock
+card = record { clusters = 56; offset = 10; end = 30; backup1 = 6; backup2 = 5; indirect = 8 }
+
+readable : (q : ℕ) (bytes : List ℕ) → pageAt benchImage q ≡ some bytes → Readable benchImage q
+readable q bytes e = e ∙ ap (λ o. some (dataOf o)) (sym e)
+
+names-are : namesOf benchImage card ≡ 9 ∷ []
+unfolding upTo benchPages benchNames
+names-are =
+    ap₂ (λ (first second : Option (List ℕ)). tableNames (dataOf first ++ dataOf second) 1) (bench-read 16) (bench-read 17)
+
+table-read : (t : ℕ) → t < 2 → Readable benchImage (tablePage (9 ∷ []) t)
+unfolding benchPages
+table-read zero h = readable 18 benchTable (bench-read 18)
+table-read (suc zero) h = readable 19 onesPage (bench-read 19)
+table-read (suc (suc t)) h = absurd (omega arith)
+
+opened : openCard benchImage ≡ ok card
+unfolding benchPages benchSuperblock zeroPage
+opened =
+    good-card benchImage card
+    (record {
+      length-good = ap goodLength bench-sized;
+      page-read = readable 0 benchSuperblock (bench-read 0);
+      text-good = ap (λ o. goodText (dataOf o)) (bench-read 0);
+      numbers-good = ap₂ (λ n o. goodSuperblock (clustersIn n) (dataOf o)) bench-sized (bench-read 0);
+      superblock = ap (λ o. superblockOf (dataOf o)) (bench-read 0);
+      table = record {
+        indirect-good = refl;
+        first-read = readable 16 benchNames (bench-read 16);
+        second-read = readable 17 onesPage (bench-read 17);
+        names-good = ap (λ names. goodTableNames 10 (8 ∷ []) names) names-are;
+        table-read = λ t h. rw names-are (table-read t h);
+      };
+    })
+
+-- ---- its table and its root
+abbrev words : List ℕ
+words = 0xFFFFFFFF ∷ replicate 29 0x7FFFFFFF
+
+word-is : (c : ℕ) → c < 30 → tableWord benchImage (9 ∷ []) c ≡ word benchTable (4 * c)
+unfolding benchPages
+word-is c h =
+    let first : c / 128 ≡ 0 = omega arith in
+    let place : c % 128 ≡ c = omega arith in
+    ap₂ (λ (t k : ℕ). word (dataOf (pageAt benchImage (tablePage (9 ∷ []) t))) (4 * k)) first place ∙ ap (λ o. word (dataOf o) (4 * c)) (bench-read 18)
+
+up-to-same : (f g : ℕ → ℕ) (n : ℕ) → ((c : ℕ) → c < n → f c ≡ g c) → upTo f n ≡ upTo g n
+unfolding upTo
+up-to-same f g zero e = refl
+up-to-same f g (suc n) e = ap₂ (λ l x. l ++ (x ∷ [])) (up-to-same f g n (λ c h. e c (omega arith))) (e n (omega arith))
+
+table-is : tableOf benchImage card ≡ words
+unfolding tableOf upTo benchTable
+table-is = ap (λ names. upTo (tableWord benchImage names) 30) names-are ∙ up-to-same (tableWord benchImage (9 ∷ [])) (λ c. word benchTable (4 * c)) 30 word-is
+
+-- the view with these words
+abbrev view : View
+view = viewBy 10 words benchImage
+
+view-is : see card benchImage ≡ view
+view-is = ap (λ (t : List ℕ). viewBy 10 t benchImage) table-is
+
+abbrev root : Root
+root = record { rootEntry = benchDot 2 dotName; chain = 0 ∷ []; slots = end }
+
+dot-seen : view .entry 0 ≡ some (benchDot 2 dotName)
+unfolding pageIn benchPages newPage zeroPage
+dot-seen = ap decoded (bench-read 20)
+
+dot-dot-seen : view .entry 1 ≡ some (benchDot 0 dotDotName)
+unfolding pageIn benchPages newPage zeroPage
+dot-dot-seen = ap decoded (bench-read 21)
+
+once : (b : Bool) → cond b 1 0 + 0 + 0 ≤ 1
+once true = lit≤ tt
+once false = lit≤ tt
+
+holds : HoldsCard view root
+holds =
+    record {
+      rootPage = dot-seen;
+      good = refl;
+      long = refl;
+      links = (refl, refl);
+      dots = ((benchDot 2 dotName, dot-seen, refl), (benchDot 0 dotDotName, dot-dot-seen, refl));
+      uniq = λ n. lit≤ tt;
+      rep = tt;
+      once = λ c. once (eqb 0 c);
+    }
+
+pub bench-accepted : BenchAccepted
+bench-accepted =
+    let walked : checkTree (see card benchImage) ≡ ok (root, reached root) = ap (λ (v : View). checkTree v) view-is ∙ holds-check view root holds in
+    counted benchImage card root (reached root) (checked-whole benchImage card root (reached root) opened walked)
+    ∙ ap (λ (v : View). ok (countsIn 56 30 v root)) view-is

@@ -1,0 +1,91 @@
+-- An image that the check accepts: the bench card of document 01, "Numbers to meet", byte for byte. N 56, alloc_offset 10, alloc_end 30,
+-- indirect cluster 8, table cluster 9, backup blocks 6 and 5, only a root of length 2.
+use Prim.Native.Nat.{ℕ, _*_}
+use mathlib.Core.List.{List, [], _∷_, _++_}
+use mathlib.Core.Path.{_≡_}
+use lib.ListN.{length, replicate}
+use Rattle.layout.specs.Superblock.{formatText, versionText}
+use Rattle.model.specs.Bench.{benchTime}
+use Rattle.model.specs.Bytes.{littleBytes}
+use Rattle.model.specs.Change.{directoryMode}
+use Rattle.model.specs.Check.{ok}
+use Rattle.model.specs.Entry.{Entry}
+use Rattle.model.specs.Names.{Name, dotDotName, dotName}
+use Rattle.model.specs.Pages.{Field, fill, newPage, zeroPage}
+use Rattle.model.specs.Plan.{newEntry}
+use Rattle.page.specs.Page.{written}
+use Rattle.tree.specs.Counted.{checkOf}
+
+-- ---- its pages
+
+-- bytes at a place, and words one after the other
+abbrev pub field : ℕ → List ℕ → Field
+field from bytes = record { from = from; count = length bytes; bytes = bytes }
+
+abbrev pub wordBytes : List ℕ → List ℕ
+wordBytes [] = []
+wordBytes (w ∷ ws) = littleBytes 4 w ++ wordBytes ws
+
+-- The superblock. 0x2E, 0x150 and 0x151 are as on a card of source 001 and not judged; 0xD0 to 0x14F are ones: no bad block.
+unfoldable pub benchSuperblock : List ℕ
+benchSuperblock =
+    fill zeroPage
+    (field 0x00 formatText
+    ∷ field 0x1C (versionText 0x32)
+    ∷ field 0x28 (littleBytes 2 512)
+    ∷ field 0x2A (littleBytes 2 2)
+    ∷ field 0x2C (littleBytes 2 16)
+    ∷ field 0x2E (littleBytes 2 0xFF00)
+    ∷ field 0x30 (littleBytes 4 56)
+    ∷ field 0x34 (littleBytes 4 10)
+    ∷ field 0x38 (littleBytes 4 30)
+    ∷ field 0x40 (littleBytes 4 6)
+    ∷ field 0x44 (littleBytes 4 5)
+    ∷ field 0x50 (littleBytes 4 8)
+    ∷ field 0xD0 (replicate 128 0xFF)
+    ∷ field 0x150 (2 ∷ 0x52 ∷ [])
+    ∷ [])
+
+-- The indirect cluster names table cluster 9; words that name none are ones.
+unfoldable pub benchNames : List ℕ
+benchNames = wordBytes (9 ∷ replicate 127 0xFFFFFFFF)
+
+-- The root ends at cluster 0 and the other 29 clusters are free; words from alloc_end on are ones.
+unfoldable pub benchTable : List ℕ
+benchTable = wordBytes (0xFFFFFFFF ∷ replicate 29 0x7FFFFFFF ++ replicate 98 0xFFFFFFFF)
+
+unfoldable pub onesPage : List ℕ
+onesPage = replicate 512 0xFF
+
+-- `.` with the root's length, and `..`
+abbrev pub benchDot : ℕ → Name → Entry
+benchDot length n = newEntry directoryMode length 0 0 benchTime n
+
+-- ---- the image
+
+-- A card as it is erased: every byte is ones, which are also the code of a chunk of ones.
+unfoldable pub erased : ℕ → List ℕ
+erased clusters = replicate (1056 * clusters) 0xFF
+
+-- pages with their data, written in turn
+abbrev pub writeAll : List (ℕ × List ℕ) → List ℕ → List ℕ
+writeAll [] image = image
+writeAll (w ∷ ws) image = writeAll ws (written image (w .0) (w .1))
+
+unfoldable pub benchPages : List (ℕ × List ℕ)
+benchPages =
+    (0, benchSuperblock)
+    ∷ (16, benchNames)
+    ∷ (17, onesPage)
+    ∷ (18, benchTable)
+    ∷ (19, onesPage)
+    ∷ (20, newPage (benchDot 2 dotName))
+    ∷ (21, newPage (benchDot 0 dotDotName))
+    ∷ []
+
+unfoldable pub benchImage : List ℕ
+benchImage = writeAll benchPages (erased 56)
+
+-- The check accepts it with the counts that document 01 gives.
+abbrev pub BenchAccepted : Type 0
+BenchAccepted = checkOf benchImage ≡ ok (record { clusters = 56; free = 29; reached = 1; orphaned = 0 })

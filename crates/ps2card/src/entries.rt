@@ -1,0 +1,153 @@
+// The entry at a path and the next one of a directory, as C and Rust call them.
+use crate::tell_refusal;
+use fields::entries::Entry;
+use lookup::finding::Outcome;
+use lookup::finding::find;
+use lookup::stepping::Stepped;
+use lookup::stepping::step;
+ghost use mathlib.Core.Path.{_≡_};
+ghost use Rattle.lookup.specs.Find.{findOf};
+ghost use Rattle.lookup.specs.Step.{stepOf};
+ghost use Rattle.ps2card.specs.Answer.{entryAfter, foundIn, numberIn, pageAfter, valueAfter};
+
+// Hands out every field of an entry.
+fn hand_out(
+    entry: Entry,
+    mode: &mut u16,
+    length: &mut u32,
+    created: &mut [u8; 8],
+    first: &mut u32,
+    dir_entry: &mut u32,
+    modified: &mut [u8; 8],
+    attribute: &mut u32,
+    name: &mut [u8; 32],
+)
+    ensures { λ _. ⌜ now (mode .exit) ≡ entry .mode ⌝ }
+    ensures { λ _. ⌜ now (length .exit) ≡ entry .length ⌝ }
+    ensures { λ _. ⌜ now (created .exit) ≡ entry .created ⌝ }
+    ensures { λ _. ⌜ now (first .exit) ≡ entry .first ⌝ }
+    ensures { λ _. ⌜ now («dir_entry» .exit) ≡ entry .«dir_entry» ⌝ }
+    ensures { λ _. ⌜ now (modified .exit) ≡ entry .modified ⌝ }
+    ensures { λ _. ⌜ now (attribute .exit) ≡ entry .attribute ⌝ }
+    ensures { λ _. ⌜ now (name .exit) ≡ entry .name ⌝ }
+{
+    *mode = entry.mode;
+    *length = entry.length;
+    let made = entry.created;
+    *created = made;
+    *first = entry.first;
+    *dir_entry = entry.dir_entry;
+    let changed = entry.modified;
+    *modified = changed;
+    *attribute = entry.attribute;
+    let field = entry.name;
+    *name = field;
+}
+
+// The entry at a path; a refusal leaves every field as it was.
+#[no_mangle]
+pub extern "C" fn ps2card_find(
+    image: &[u8],
+    path: &[u8],
+    page: &mut usize,
+    mode: &mut u16,
+    length: &mut u32,
+    created: &mut [u8; 8],
+    first: &mut u32,
+    dir_entry: &mut u32,
+    modified: &mut [u8; 8],
+    attribute: &mut u32,
+    name: &mut [u8; 32],
+) -> u32
+    ensures { λ r. ⌜ r ≡ numberIn (findOf (now (image .entry)) (now (path .entry))) ⌝ }
+    ensures { λ r. ⌜ now (page .exit) ≡ pageAfter (findOf (now (image .entry)) (now (path .entry))) (now (page .entry)) ⌝ }
+    ensures { λ r. ⌜ now (mode .exit) ≡ valueAfter (λ e. e .mode) (findOf (now (image .entry)) (now (path .entry))) (now (mode .entry)) ⌝ }
+    ensures { λ r. ⌜ now (length .exit) ≡ valueAfter (λ e. e .length) (findOf (now (image .entry)) (now (path .entry))) (now (length .entry)) ⌝ }
+    ensures { λ r. ⌜ now (created .exit) ≡ valueAfter (λ e. e .created) (findOf (now (image .entry)) (now (path .entry))) (now (created .entry)) ⌝ }
+    ensures { λ r. ⌜ now (first .exit) ≡ valueAfter (λ e. e .firstCluster) (findOf (now (image .entry)) (now (path .entry))) (now (first .entry)) ⌝ }
+    ensures { λ r. ⌜ now («dir_entry» .exit) ≡ valueAfter (λ e. e .dirEntry) (findOf (now (image .entry)) (now (path .entry))) (now («dir_entry» .entry)) ⌝ }
+    ensures { λ r. ⌜ now (modified .exit) ≡ valueAfter (λ e. e .modified) (findOf (now (image .entry)) (now (path .entry))) (now (modified .entry)) ⌝ }
+    ensures { λ r. ⌜ now (attribute .exit) ≡ valueAfter (λ e. e .attribute) (findOf (now (image .entry)) (now (path .entry))) (now (attribute .entry)) ⌝ }
+    ensures { λ r. ⌜ now (name .exit) ≡ valueAfter (λ e. e .nameField) (findOf (now (image .entry)) (now (path .entry))) (now (name .entry)) ⌝ }
+{
+    let found = find(image, path);
+    let outcome = found.outcome;
+    match outcome {
+        Outcome::Refused(refusal) => tell_refusal(refusal, page),
+        Outcome::Found => {
+            let entry = found.entry;
+            hand_out(
+                entry,
+                mode,
+                length,
+                created,
+                first,
+                dir_entry,
+                modified,
+                attribute,
+                name,
+            );
+            0
+        }
+    }
+}
+
+// The first live entry of a directory from a slot on, never before slot 2: `found` is 1, `at` its slot. At the end `found` is 0, and
+// slot and fields stay as they were, as all do on a refusal.
+#[no_mangle]
+pub extern "C" fn ps2card_step(
+    image: &[u8],
+    path: &[u8],
+    slot: u32,
+    page: &mut usize,
+    found: &mut u32,
+    at: &mut u32,
+    mode: &mut u16,
+    length: &mut u32,
+    created: &mut [u8; 8],
+    first: &mut u32,
+    dir_entry: &mut u32,
+    modified: &mut [u8; 8],
+    attribute: &mut u32,
+    name: &mut [u8; 32],
+) -> u32
+    ensures { λ r. ⌜ r ≡ numberIn (stepOf (now (image .entry)) (now (path .entry)) slot) ⌝ }
+    ensures { λ r. ⌜ now (page .exit) ≡ pageAfter (stepOf (now (image .entry)) (now (path .entry)) slot) (now (page .entry)) ⌝ }
+    ensures { λ r. ⌜ now (found .exit) ≡ valueAfter foundIn (stepOf (now (image .entry)) (now (path .entry)) slot) (now (found .entry)) ⌝ }
+    ensures { λ r. ⌜ now (at .exit) ≡ entryAfter (λ x. x .0) (stepOf (now (image .entry)) (now (path .entry)) slot) (now (at .entry)) ⌝ }
+    ensures { λ r. ⌜ now (mode .exit) ≡ entryAfter (λ x. x .1 .mode) (stepOf (now (image .entry)) (now (path .entry)) slot) (now (mode .entry)) ⌝ }
+    ensures { λ r. ⌜ now (length .exit) ≡ entryAfter (λ x. x .1 .length) (stepOf (now (image .entry)) (now (path .entry)) slot) (now (length .entry)) ⌝ }
+    ensures { λ r. ⌜ now (created .exit) ≡ entryAfter (λ x. x .1 .created) (stepOf (now (image .entry)) (now (path .entry)) slot) (now (created .entry)) ⌝ }
+    ensures { λ r. ⌜ now (first .exit) ≡ entryAfter (λ x. x .1 .firstCluster) (stepOf (now (image .entry)) (now (path .entry)) slot) (now (first .entry)) ⌝ }
+    ensures { λ r. ⌜ now («dir_entry» .exit) ≡ entryAfter (λ x. x .1 .dirEntry) (stepOf (now (image .entry)) (now (path .entry)) slot) (now («dir_entry» .entry)) ⌝ }
+    ensures { λ r. ⌜ now (modified .exit) ≡ entryAfter (λ x. x .1 .modified) (stepOf (now (image .entry)) (now (path .entry)) slot) (now (modified .entry)) ⌝ }
+    ensures { λ r. ⌜ now (attribute .exit) ≡ entryAfter (λ x. x .1 .attribute) (stepOf (now (image .entry)) (now (path .entry)) slot) (now (attribute .entry)) ⌝ }
+    ensures { λ r. ⌜ now (name .exit) ≡ entryAfter (λ x. x .1 .nameField) (stepOf (now (image .entry)) (now (path .entry)) slot) (now (name .entry)) ⌝ }
+{
+    let stepped = step(image, path, slot);
+    let place = stepped.place;
+    match place {
+        Stepped::Refused(refusal) => tell_refusal(refusal, page),
+        Stepped::End => {
+            *found = 0;
+            0
+        }
+        Stepped::Slot(k) => {
+            *found = 1;
+            *at = k;
+            let entry = stepped.entry;
+            hand_out(
+                entry,
+                mode,
+                length,
+                created,
+                first,
+                dir_entry,
+                modified,
+                attribute,
+                name,
+            );
+            0
+        }
+    }
+}

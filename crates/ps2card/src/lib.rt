@@ -1,0 +1,68 @@
+// What C and Rust call: byte slices, byte arrays and numbers alone. A call answers 0, or the number of the refusal.
+pub mod changing;
+pub mod entries;
+pub mod reading;
+pub mod texts;
+
+use layout::Refusal;
+use tree::Checked;
+use tree::check;
+ghost use mathlib.Core.Path.{_≡_};
+ghost use Rattle.layout.specs.Refusal.{numberOf, pageOf};
+ghost use Rattle.tree.specs.Counted.{checkOf};
+ghost use Rattle.ps2card.specs.Answer.{numberIn, pageAfter, pageLeft, valueAfter};
+
+// The paper's number of a refusal; the page of an unreadable one goes to `page`.
+pub(crate) fn tell_refusal(refusal: Refusal, page: &mut usize) -> u32
+    ensures { λ r. ⌜ (r ≡ numberOf refusal) × (now (page .exit) ≡ pageLeft (numberOf refusal) (pageOf refusal) (now (page .entry))) ⌝ }
+{
+    match refusal {
+        Refusal::BadLength => 1,
+        Refusal::UnreadablePage(p) => {
+            *page = p;
+            2
+        }
+        Refusal::BadText => 3,
+        Refusal::BadSuperblock => 4,
+        Refusal::BadTableName => 5,
+        Refusal::BadChain => 6,
+        Refusal::BadEntry => 7,
+        Refusal::BadPath => 8,
+        Refusal::BadTime => 14,
+        Refusal::Absent => 9,
+        Refusal::WrongKind => 10,
+        Refusal::Exists => 11,
+        Refusal::NotEmpty => 13,
+        Refusal::BadOffset => 15,
+        Refusal::NoRoom => 12,
+    }
+}
+
+// The check of a card: N, free, reached and orphaned; a refusal leaves them as they were.
+#[no_mangle]
+pub extern "C" fn ps2card_check(
+    image: &[u8],
+    page: &mut usize,
+    clusters: &mut u32,
+    free: &mut usize,
+    reached: &mut usize,
+    orphaned: &mut usize,
+) -> u32
+    ensures { λ r. ⌜ r ≡ numberIn (checkOf (now (image .entry))) ⌝ }
+    ensures { λ r. ⌜ now (page .exit) ≡ pageAfter (checkOf (now (image .entry))) (now (page .entry)) ⌝ }
+    ensures { λ r. ⌜ now (clusters .exit) ≡ valueAfter (λ c. c .clusters) (checkOf (now (image .entry))) (now (clusters .entry)) ⌝ }
+    ensures { λ r. ⌜ now (free .exit) ≡ valueAfter (λ c. c .free) (checkOf (now (image .entry))) (now (free .entry)) ⌝ }
+    ensures { λ r. ⌜ now (reached .exit) ≡ valueAfter (λ c. c .reached) (checkOf (now (image .entry))) (now (reached .entry)) ⌝ }
+    ensures { λ r. ⌜ now (orphaned .exit) ≡ valueAfter (λ c. c .orphaned) (checkOf (now (image .entry))) (now (orphaned .entry)) ⌝ }
+{
+    match check(image) {
+        Checked::Refused(refusal) => tell_refusal(refusal, page),
+        Checked::Card(counts) => {
+            *clusters = counts.clusters;
+            *free = counts.free;
+            *reached = counts.reached;
+            *orphaned = counts.orphaned;
+            0
+        }
+    }
+}
