@@ -9,12 +9,12 @@ use native.Mathlib.Omega.{arith}
 use borrow.Author.Tests.{le-ltb, ltb-false, ltb-true}
 use lib.Dec.{ltb}
 use lib.ListN.{List·getD-eq-default, drop, getD, length}
-use Rattle.page.specs.Page.{pageAt}
+use Rattle.page.specs.Page.{pageAt, pagesIn}
 use Rattle.page.proofs.Laws.{page-length}
 use Rattle.layout.specs.declared.Superblock.{Superblock}
 use Rattle.layout.specs.See.{imagePage, pageIn, see}
 use Rattle.layout.specs.Table.{dataOf, namesOf, openCard, tableClusters, tableOf, tablePage, tableWord}
-use Rattle.layout.proofs.OpenFacts.{Geometry, names-kept, open-facts, open-kept}
+use Rattle.layout.proofs.OpenFacts.{OpenFacts, names-kept, open-facts, open-kept}
 use Rattle.layout.proofs.Stages.{Readable}
 use Rattle.layout.proofs.TableLaws.{getD-table, length-table}
 use Rattle.model.specs.Check.{ok}
@@ -39,7 +39,7 @@ links-ext end f g h c =
     ⊎-elim (λ (e : ltb c end ≡ true). rw e (ap linkOf (h c (ltb-true c end e)))) (λ (e : ltb c end ≡ false). rw e) (bool (ltb c end))
 
 module _ (image : List ℕ) (s : Superblock) (opened : openCard image ≡ ok s) where
-  abbrev pub facts : Geometry image s
+  abbrev pub facts : OpenFacts image s
   facts = open-facts image s opened
 
   -- on an open card the rules' alloc_end is the superblock's
@@ -69,8 +69,8 @@ module _ (image : List ℕ) (s : Superblock) (opened : openCard image ≡ ok s) 
   table-aside : (t : ℕ) → t < 2 * tableClusters (s .end) → tablePage (namesOf image s) t / 2 ≡ s .indirect → ⊥
   table-aside t h e = facts .apart (t / 2) (omega arith) (omega arith)
 
-  room : 1056 * (s .geometry .offset + s .end) ≤ length image
-  room = omega (arith, facts .long, facts .room)
+  room : 2 * (s .geometry .offset + s .end) ≤ pagesIn (length image)
+  room = omega (arith, facts .pages, facts .room)
 
   sized : (a : ℕ) → Sized ((see s image) .page a)
   unfolding pageIn

@@ -10,7 +10,7 @@ use native.Mathlib.Omega.{arith}
 use borrow.Author.Tests.{eq-eqb, eqb-false, eqb-true, ltb-false, ne-eqb}
 use lib.Dec.{eqb, ltb}
 use lib.ListN.{length}
-use Rattle.page.specs.Page.{pageAt, put}
+use Rattle.page.specs.Page.{pageAt, pagesIn, put}
 use Rattle.page.proofs.Laws.{length-put, page-put, read-other}
 use Rattle.layout.specs.See.{imagePage, pageIn}
 use Rattle.model.specs.Writes.{PageWrite, pagesAfter}
@@ -30,7 +30,7 @@ eq-shift a b c = go (bool (eqb a b))
 
 module _ (geometry : Geometry) (end : ℕ) where
   -- one page
-  pub page-one : (w : PageWrite) (image : List ℕ) → 1056 * (geometry .offset + end) ≤ length image → w .page < 2 * end → length (w .bytes) ≡ 512
+  pub page-one : (w : PageWrite) (image : List ℕ) → 2 * (geometry .offset + end) ≤ pagesIn (length image) → w .page < 2 * end → length (w .bytes) ≡ 512
       → (a : ℕ) → pageIn geometry end (put (w .always) (imagePage geometry (w .page)) (w .bytes) image) a ≡ cond (eqb (w .page) a) (some (w .bytes)) (pageIn geometry end image a)
   unfolding pageIn
   page-one w image room low long a = go (bool (ltb a (2 * end)))
@@ -55,7 +55,7 @@ module _ (geometry : Geometry) (end : ℕ) where
   after-ext (w ∷ ws) f g h a = after-ext ws _ _ (λ x. ap (cond (eqb (w .page) x) (some (w .bytes))) (h x)) a
 
   -- what is read of the allocatable pages is what the writes in turn give
-  pub pages-written : (ws : List PageWrite) (image : List ℕ) → 1056 * (geometry .offset + end) ≤ length image → Lands end ws
+  pub pages-written : (ws : List PageWrite) (image : List ℕ) → 2 * (geometry .offset + end) ≤ pagesIn (length image) → Lands end ws
       → (a : ℕ) → pageIn geometry end (writePages geometry ws image) a ≡ pagesAfter ws (pageIn geometry end image) a
   pages-written [] image room h a = refl
   pages-written (w ∷ ws) image room h a =

@@ -12,6 +12,7 @@ use lib.Dec.{eqb}
 use lib.ListN.{length}
 use lib.Seq.{length-sets, sets}
 use Rattle.page.specs.Page.{pageAt, put}
+use Rattle.page.specs.PageLaws.{Inside}
 use Rattle.page.proofs.Laws.{length-put, page-in, page-length, page-put, read-other}
 use Rattle.layout.specs.Table.{dataOf, tablePage, tableWord}
 use Rattle.layout.proofs.Stages.{Readable}
@@ -78,7 +79,7 @@ module _ (names : List ℕ) (end : ℕ) (words : ℕ → ℕ) (count : ℕ) (apa
         other : (q : ℕ) → ((t : ℕ) → t < suc k → tablePage names t ≡ q → ⊥) → pageAt (put false p bytes now) q ≡ pageAt image q
         other q n = read-other false p bytes now full q (λ e. n k (omega arith) (sym e)) ∙ s .other q (λ t l. n t (omega arith))
 
-        inside : 528 * p + 528 ≤ length now
+        inside : Inside now p
         inside = page-in now p _ (still ∙ readable k h)
 
         table : (t : ℕ) → t < suc k → pageAt (put false p bytes now) (tablePage names t) ≡ some (pageWith image t)

@@ -11,6 +11,7 @@ use Rattle.change.specs.Changed as change
 use Rattle.change.specs.Changed.{changed, changedBy, decided, outcomeWith, rulesOf}
 use Rattle.layout.specs.declared.Superblock.{Superblock}
 use Rattle.layout.specs.See.{checkImage, see}
+use Rattle.page.specs.Page.{clusterBytes}
 use Rattle.layout.proofs.OpenFacts.{open-facts}
 use Rattle.layout.proofs.Stages.{not-ok}
 use Rattle.model.proofs.CheckHolds.{check-holds}
@@ -67,7 +68,7 @@ module _ (image : List ℕ) (s : Superblock) (root : Root) (m : Marks) (checked 
       ap freeBy counted
       ∙ ap (λ n. totalBelow (λ c. isFree ((see s image) .link c)) n) (sym (end-is image s ((checked-parts image s root m checked) .0)))
 
-  pub long-is : length image ≡ 1056 * s .clusters
+  pub long-is : length image ≡ clusterBytes * s .clusters
   long-is = (open-facts image s ((checked-parts image s root m checked) .0)) .long
 
   -- what a change takes and gives back

@@ -1,6 +1,5 @@
 // Runs the figures of document 01 ("Numbers to meet") on the bench card, each on a fresh copy of it.
 use change::Answer;
-use layout::Refusal;
 use lookup::reading::ReadOutcome;
 use tree::Checked;
 
@@ -19,38 +18,17 @@ fn say_number(text: &[u8], n: usize) {
     io::write_all(1, b"\n");
 }
 
-// The numbers that a change or a read can meet here.
-fn number_of(refusal: Refusal) -> usize {
-    match refusal {
-        Refusal::BadLength => 1,
-        Refusal::UnreadablePage(_) => 2,
-        Refusal::BadText => 3,
-        Refusal::BadSuperblock => 4,
-        Refusal::BadTableName => 5,
-        Refusal::BadChain => 6,
-        Refusal::BadEntry => 7,
-        Refusal::BadPath => 8,
-        Refusal::BadTime => 14,
-        Refusal::Absent => 9,
-        Refusal::WrongKind => 10,
-        Refusal::Exists => 11,
-        Refusal::NotEmpty => 13,
-        Refusal::BadOffset => 15,
-        Refusal::NoRoom => 12,
-    }
-}
-
 fn tell(what: &[u8], answer: Answer) {
     say(what);
     match answer {
         Answer::Done => say(b": done\n"),
-        Answer::Refused(refusal) => say_number(b": refused ", number_of(refusal)),
+        Answer::Refused(refusal) => say_number(b": refused ", refusal.number() as usize),
     }
 }
 
 fn tell_free(image: &[u8; BYTES]) {
     match tree::check(image) {
-        Checked::Refused(refusal) => say_number(b"refused ", number_of(refusal)),
+        Checked::Refused(refusal) => say_number(b"refused ", refusal.number() as usize),
         Checked::Card(counts) => say_number(b"free ", counts.free),
     }
 }
@@ -65,7 +43,7 @@ fn tell_read(image: &[u8; BYTES], path: &[u8], from: usize) {
     let mut out = [0u8; 16];
     match lookup::reading::read(image, path, from, &mut out) {
         ReadOutcome::Bytes(count) => say_number(b"read ", count),
-        ReadOutcome::Refused(refusal) => say_number(b"read refused ", number_of(refusal)),
+        ReadOutcome::Refused(refusal) => say_number(b"read refused ", refusal.number() as usize),
     }
 }
 

@@ -2,12 +2,13 @@
 use Prim.Native.Nat.{ℕ, _+_, _*_, _/_, _%_, _≤_, _<_}
 use mathlib.Core.Bool.{true}
 use mathlib.Core.List.{List, [], _∷_, _++_}
-use mathlib.Core.Path.{_≡_}
+use mathlib.Core.Path.{_∙_, _≡_, ap, sym}
 use native.Mathlib.Omega.{arith}
 use borrow.Author.Tests.{eqb-true, leb-true, ltb-true}
 use lib.Dec.{eqb, leb, ltb}
 use lib.ListN.{length, getD}
-use Rattle.page.specs.Page.{pageAt}
+use Rattle.page.specs.Page.{clusterBytes, pageAt, pagesIn}
+use Rattle.page.proofs.Laws.{cluster-pages}
 use Rattle.model.specs.Bytes.{word}
 use Rattle.model.specs.Check.{ok}
 use Rattle.model.specs.Tree.{times}
@@ -94,8 +95,8 @@ good-card image s g =
 
 -- ---- the numbers
 pub record Numbers (bytes : ℕ) (s : Superblock) : Type 0 where
-  pub long : bytes ≡ 1056 * s .clusters
-  pub clusters-are : s .clusters ≡ bytes / 1056
+  pub long : bytes ≡ clusterBytes * s .clusters
+  pub pages : pagesIn bytes ≡ 2 * s .clusters
   pub least : leastClusters ≤ s .clusters
   pub most : s .clusters ≤ mostClusters
   pub some-end : 1 ≤ s .end
@@ -106,17 +107,17 @@ numbers bytes page l n = go (superblockOf page) (and-r (fixedNumbers page) _ (an
   where
     go : (s : Superblock) → goodNumbers (clustersIn bytes) s ≡ true → Numbers bytes s
     go s g =
-        let whole : bytes % 1056 ≡ 0 = eqb-true (bytes % 1056) 0 (and-l _ _ l) in
-        let range = and-r (eqb (bytes / 1056 % 8) 0) _ (and-r (eqb (bytes % 1056) 0) _ l) in
-        let low : 32 ≤ bytes / 1056 = leb-true 32 (bytes / 1056) (and-l _ _ range) in
-        let high : bytes / 1056 ≤ 8192 = leb-true (bytes / 1056) 8192 (and-r (leb 32 (bytes / 1056)) _ range) in
-        let count : s .clusters ≡ bytes / 1056 = eqb-true (s .clusters) (bytes / 1056) (and-l _ _ g) in
-        let more = and-r (eqb (s .clusters) (bytes / 1056)) _ g in
+        let whole : bytes % clusterBytes ≡ 0 = eqb-true (bytes % clusterBytes) 0 (and-l _ _ l) in
+        let range = and-r (eqb (bytes / clusterBytes % 8) 0) _ (and-r (eqb (bytes % clusterBytes) 0) _ l) in
+        let low : 32 ≤ bytes / clusterBytes = leb-true 32 (bytes / clusterBytes) (and-l _ _ range) in
+        let high : bytes / clusterBytes ≤ 8192 = leb-true (bytes / clusterBytes) 8192 (and-r (leb 32 (bytes / clusterBytes)) _ range) in
+        let count : s .clusters ≡ bytes / clusterBytes = eqb-true (s .clusters) (bytes / clusterBytes) (and-l _ _ g) in
+        let more = and-r (eqb (s .clusters) (bytes / clusterBytes)) _ g in
         let some : 1 ≤ s .end = leb-true 1 (s .end) (and-l _ _ more) in
-        let fits : s .geometry .offset + s .end ≤ bytes / 1056 = leb-true (s .geometry .offset + s .end) (bytes / 1056) (and-l _ _ (and-r (leb 1 (s .end)) _ more)) in
+        let fits : s .geometry .offset + s .end ≤ bytes / clusterBytes = leb-true (s .geometry .offset + s .end) (bytes / clusterBytes) (and-l _ _ (and-r (leb 1 (s .end)) _ more)) in
         record {
           long = omega arith;
-          clusters-are = count;
+          pages = cluster-pages bytes whole ∙ ap (λ n. 2 * n) (sym count);
           least = omega arith;
           most = omega arith;
           some-end = some;
@@ -131,10 +132,10 @@ card-numbers : (image : List ℕ) (s : Superblock) → GoodCard image s → Numb
 card-numbers image s g = rw (g .superblock) at (numbers (length image) (dataOf (pageAt image 0)) (g .length-good) (g .numbers-good))
 
 -- ---- all that is known of an open card
-pub record Geometry (image : List ℕ) (s : Superblock) : Type 0 where
-  -- N clusters of 1,056 bytes
-  pub long : length image ≡ 1056 * s .clusters
-  pub clusters-are : s .clusters ≡ length image / 1056
+pub record OpenFacts (image : List ℕ) (s : Superblock) : Type 0 where
+  -- N clusters, two pages to each
+  pub long : length image ≡ clusterBytes * s .clusters
+  pub pages : pagesIn (length image) ≡ 2 * s .clusters
   pub least : leastClusters ≤ s .clusters
   pub most : s .clusters ≤ mostClusters
   -- the allocatable clusters lie in the image
@@ -155,10 +156,10 @@ pub record Geometry (image : List ℕ) (s : Superblock) : Type 0 where
   pub second-read : Readable image (2 * s .indirect + 1)
   pub table-read : (t : ℕ) → t < 2 * tableClusters (s .end) → Readable image (tablePage (namesOf image s) t)
 
-pub open-facts : (image : List ℕ) (s : Superblock) → openCard image ≡ ok s → Geometry image s
+pub open-facts : (image : List ℕ) (s : Superblock) → openCard image ≡ ok s → OpenFacts image s
 open-facts image s e = go (card-good image s e)
   where
-    go : GoodCard image s → Geometry image s
+    go : GoodCard image s → OpenFacts image s
     go g =
         let n = card-numbers image s g in
         let t = g .table in
@@ -167,7 +168,7 @@ open-facts image s e = go (card-good image s e)
         λ i h. name-good (s .geometry .offset) (s .indirect ∷ []) (namesOf image s) (t .names-good) i (omega arith) in
         record {
           long = n .long;
-          clusters-are = n .clusters-are;
+          pages = n .pages;
           least = n .least;
           most = n .most;
           some-end = n .some-end;

@@ -4,21 +4,22 @@ use mathlib.Core.Bool.{Bool, not, _&&_, _||_}
 use mathlib.Core.List.{List, [], _∷_}
 use lib.Dec.{eqb, leb, ltb}
 use lib.ListN.{length}
+use Rattle.page.specs.Page.{clusterBytes}
 use Rattle.model.specs.Bytes.{slice, half, word}
 use Rattle.model.specs.Names.{sameName}
 use Rattle.model.specs.View.{mostClusters}
 use Rattle.layout.specs.declared.Superblock.{Superblock}
 
--- The image has N clusters of 1,056 bytes; N is a multiple of 8 from 32 to 8,192.
+-- The image has N clusters, 1,056 bytes each; N is a multiple of 8 from 32 to 8,192.
 abbrev pub leastClusters : ℕ
 leastClusters = 32
 
 abbrev pub clustersIn : ℕ → ℕ
-clustersIn bytes = bytes / 1056
+clustersIn bytes = bytes / clusterBytes
 
 abbrev pub goodLength : ℕ → Bool
 goodLength bytes =
-    eqb (bytes % 1056) 0
+    eqb (bytes % clusterBytes) 0
     && (eqb (clustersIn bytes % 8) 0 && (leb leastClusters (clustersIn bytes) && leb (clustersIn bytes) mostClusters))
 
 -- `Sony PS2 Memory Card Format `, with its last space

@@ -3,6 +3,7 @@ pub mod page0;
 pub mod table;
 
 use model::MOST_CLUSTERS;
+use page::CLUSTER_BYTES;
 use page::read_page;
 use page0::good_length;
 use page0::good_superblock;
@@ -12,6 +13,7 @@ use table::judge_table;
 use table::load_table;
 ghost use mathlib.Core.Path.{_≡_};
 ghost use Prim.Native.Nat.{_%_, _^_};
+ghost use Rattle.layout.specs.Refusal.{numberOf, pageOf};
 ghost use Rattle.layout.specs.See.{imagePage};
 ghost use Rattle.layout.specs.Table.{openCard, toldOpened, tableAfter};
 
@@ -32,6 +34,54 @@ pub enum Refusal {
     NotEmpty,
     BadOffset,
     NoRoom,
+}
+
+impl Refusal {
+    // The paper's number.
+    pub fn number(self) -> u32
+        ensures { λ r. ⌜ r ≡ numberOf self ⌝ }
+    {
+        match self {
+            Refusal::BadLength => 1,
+            Refusal::UnreadablePage(_) => 2,
+            Refusal::BadText => 3,
+            Refusal::BadSuperblock => 4,
+            Refusal::BadTableName => 5,
+            Refusal::BadChain => 6,
+            Refusal::BadEntry => 7,
+            Refusal::BadPath => 8,
+            Refusal::BadTime => 14,
+            Refusal::Absent => 9,
+            Refusal::WrongKind => 10,
+            Refusal::Exists => 11,
+            Refusal::NotEmpty => 13,
+            Refusal::BadOffset => 15,
+            Refusal::NoRoom => 12,
+        }
+    }
+
+    // The page that goes with number 2; 0 for every other.
+    pub fn page(self) -> usize
+        ensures { λ r. ⌜ r ≡ pageOf self ⌝ }
+    {
+        match self {
+            Refusal::BadLength => 0,
+            Refusal::UnreadablePage(page) => page,
+            Refusal::BadText => 0,
+            Refusal::BadSuperblock => 0,
+            Refusal::BadTableName => 0,
+            Refusal::BadChain => 0,
+            Refusal::BadEntry => 0,
+            Refusal::BadPath => 0,
+            Refusal::BadTime => 0,
+            Refusal::Absent => 0,
+            Refusal::WrongKind => 0,
+            Refusal::Exists => 0,
+            Refusal::NotEmpty => 0,
+            Refusal::BadOffset => 0,
+            Refusal::NoRoom => 0,
+        }
+    }
 }
 
 // Where the pages of a card's allocatable clusters lie in its image: from cluster alloc_offset on.
@@ -76,7 +126,7 @@ fn judge_card(image: &[u8]) -> Opened
     if !good_text(&page) {
         return Opened::Refused(Refusal::BadText);
     }
-    if !good_superblock(image.len() / 1056, &page) {
+    if !good_superblock(image.len() / CLUSTER_BYTES, &page) {
         return Opened::Refused(Refusal::BadSuperblock);
     }
     judge_table(image, superblock_of(&page))

@@ -4,6 +4,7 @@ use crate::Superblock;
 use fields::numbers::half_at;
 use fields::numbers::word_at;
 use model::MOST_CLUSTERS;
+use page::CLUSTER_BYTES;
 ghost use mathlib.Core.Path.{_≡_};
 ghost use Prim.Native.Nat.{_+_, _≤_};
 ghost use lib.ListN.{length};
@@ -16,8 +17,8 @@ const LEAST_CLUSTERS: usize = 32;
 pub fn good_length(bytes: usize) -> bool
     ensures { λ r. ⌜ r ≡ goodLength bytes ⌝ }
 {
-    let clusters = bytes / 1056;
-    (bytes % 1056 == 0)
+    let clusters = bytes / CLUSTER_BYTES;
+    (bytes % CLUSTER_BYTES == 0)
         & ((clusters % 8 == 0) & ((LEAST_CLUSTERS <= clusters) & (clusters <= MOST_CLUSTERS)))
 }
 

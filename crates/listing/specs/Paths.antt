@@ -9,7 +9,7 @@ use Rattle.listing.specs.declared.path.Path.{Path}
 abbrev pub nameRoom : ℕ
 nameRoom = 33
 
--- the most names of a path
+-- the most bytes of a path: one name more than directories lie below the root, each after `/`
 abbrev pub pathRoom : ℕ
 pathRoom = nameRoom * suc deepest
 

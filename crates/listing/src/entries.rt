@@ -42,7 +42,7 @@ fn list_entry(
     path: Path,
     page: usize,
 ) -> Listed
-    requires { ⌜ (page < 8589934592) × (path .len + nameRoom ≤ pathRoom) ⌝ }
+    requires { ⌜ path .len + nameRoom ≤ pathRoom ⌝ }
     ensures line { λ r. ⌜ Wrote (now (out .entry)) at (lineAt (pathBytes path) ((viewBy geometry (now (table .entry)) (now (image .entry))) .entry page)) (now (out .exit)) (r .at) ⌝ }
     ensures leads { λ r. ⌜ Leads (now (table .entry)) (pathBytes path) ((viewBy geometry (now (table .entry)) (now (image .entry))) .entry page) (path .len) r ⌝ }
 {

@@ -45,55 +45,6 @@ pub(crate) fn put_entry(out: &mut [u8], at: usize, letter: u8, length: u32, path
     put_byte(out, e, b'\n')
 }
 
-// The paper's number of a refusal, and the page of 2.
-struct Numbers {
-    number: u64,
-    page: u64,
-}
-
-fn numbers_of(refusal: Refusal) -> Numbers
-    ensures { λ r. ⌜ (r .number ≡ numberOf refusal) × (r .page ≡ pageOf refusal) ⌝ }
-{
-    match refusal {
-        Refusal::BadLength => Numbers { number: 1, page: 0 },
-        Refusal::UnreadablePage(page) => Numbers {
-            number: 2,
-            page: page as u64,
-        },
-        Refusal::BadText => Numbers { number: 3, page: 0 },
-        Refusal::BadSuperblock => Numbers { number: 4, page: 0 },
-        Refusal::BadTableName => Numbers { number: 5, page: 0 },
-        Refusal::BadChain => Numbers { number: 6, page: 0 },
-        Refusal::BadEntry => Numbers { number: 7, page: 0 },
-        Refusal::BadPath => Numbers { number: 8, page: 0 },
-        Refusal::BadTime => Numbers {
-            number: 14,
-            page: 0,
-        },
-        Refusal::Absent => Numbers { number: 9, page: 0 },
-        Refusal::WrongKind => Numbers {
-            number: 10,
-            page: 0,
-        },
-        Refusal::Exists => Numbers {
-            number: 11,
-            page: 0,
-        },
-        Refusal::NotEmpty => Numbers {
-            number: 13,
-            page: 0,
-        },
-        Refusal::BadOffset => Numbers {
-            number: 15,
-            page: 0,
-        },
-        Refusal::NoRoom => Numbers {
-            number: 12,
-            page: 0,
-        },
-    }
-}
-
 // The page after the number 2.
 fn put_page(out: &mut [u8], at: usize, number: u64, page: u64) -> usize
     ensures { λ r. ⌜ Wrote (now (out .entry)) at (pageText number page) (now (out .exit)) r ⌝ }
@@ -109,9 +60,10 @@ fn put_page(out: &mut [u8], at: usize, number: u64, page: u64) -> usize
 pub(crate) fn put_refusal(out: &mut [u8], refusal: Refusal) -> usize
     ensures { λ r. ⌜ Wrote (now (out .entry)) 0 (refusalText (numberOf refusal) (pageOf refusal)) (now (out .exit)) r ⌝ }
 {
-    let numbers = numbers_of(refusal);
+    let number = refusal.number() as u64;
+    let page = refusal.page() as u64;
     let a = put(out, 0, b"refused ");
-    let b = put_number(out, a, numbers.number);
-    let c = put_page(out, b, numbers.number, numbers.page);
+    let b = put_number(out, a, number);
+    let c = put_page(out, b, number, page);
     put_byte(out, c, b'\n')
 }

@@ -5,6 +5,7 @@ use mathlib.Core.List.{List}
 use mathlib.Core.Path.{_∙_, _≡_, ap, refl, sym}
 use native.Mathlib.Numerals.{add-one}
 use native.Mathlib.Omega.{arith}
+use Rattle.model.specs.Bytes.{pageLimit}
 use Rattle.lookup.specs.Descend.{Within, pickPlace, scan}
 use Rattle.tree.specs.Slots.{clusterAt, nextOf, slotPage, slotPages, clusterAfter}
 use Rattle.lookup.specs.declared.along.Place.{Place}
@@ -41,7 +42,7 @@ module _ (test : ℕ → ℕ → Bool) (t : List ℕ) (c k n : ℕ) (h : k < n) 
   pub scan-later : (page x : ℕ) → page ≡ slotPage c k → x ≡ clusterAfter t c k → test k page ≡ false → rest test t x (k + 1) n ≡ rest test t c k n
   scan-later page x at s e = let f : test k (slotPage c k) ≡ false = ap (test k) (sym at) ∙ e in rw (add-one k, s) (sym (one ∙ rw f))
 
-pub within : (count : ℕ) (r : Place) (k p : ℕ) → Within count r → r ≡ place.At k p → (p < 8589934592) × (k < count)
+pub within : (count : ℕ) (r : Place) (k p : ℕ) → Within count r → r ≡ place.At k p → (p < pageLimit) × (k < count)
 within count r k p w e = rw e at w
 
 -- the code's scan of a directory's slots, by the numbers that it computed, is the one asked for

@@ -9,7 +9,7 @@ use lib.Dec.{leb}
 use lib.ListN.{length, replicate}
 use Rattle.fields.specs.PathBytes.{nameAt}
 use Rattle.layout.specs.Table.{dataOf}
-use Rattle.model.specs.Bytes.{word}
+use Rattle.model.specs.Bytes.{pageLimit, word}
 use Rattle.model.specs.Entry.{Entry, directoryClusters, entryOf, fileClusters, isDirectory, isLive}
 use Rattle.model.specs.Holds.{Chain, HoldsSlots}
 use Rattle.model.specs.Names.{Name, Path, sameName}
@@ -23,6 +23,8 @@ use Rattle.lookup.specs.declared.way.Arrival.{Arrival}
 use Rattle.lookup.specs.declared.way.Arrival.the-variants as arrival
 use Rattle.lookup.specs.declared.along.Place.{Place}
 use Rattle.lookup.specs.declared.along.Place.the-variants as place
+use Rattle.lookup.specs.declared.along.Sought.{Sought}
+use Rattle.lookup.specs.declared.along.Sought.the-variants as sought
 
 -- ---- along the slots of a directory, counted from slot 2
 
@@ -38,7 +40,7 @@ scan test (p ∷ ps) k = pickPlace (test k p) (place.At k p) (scan test ps (suc 
 -- a slot is one of the `count` that were scanned, and its page one that two words can name
 abbrev pub Within : ℕ → Place → Type 0
 Within count place.Nowhere = Unit {0}
-Within count (place.At k p) = (p < 8589934592) × (k < count)
+Within count (place.At k p) = (p < pageLimit) × (k < count)
 
 -- a live entry that bears the name
 abbrev pub bears : Name → Option Entry → Bool
@@ -67,6 +69,13 @@ dying v k p = dies (v .entry p)
 -- a page that is unreadable
 abbrev pub unread : View → ℕ → ℕ → Bool
 unread v k p = not (isSome (v .page p))
+
+-- what a scan looks for, as a test of slot and page
+abbrev pub seeks : View → Sought → Name → ℕ → ℕ → Bool
+seeks v sought.Named n = bearing v n
+seeks v (sought.LiveFrom from) n = livingFrom v from
+seeks v sought.Dead n = dying v
+seeks v sought.Unreadable n = unread v
 
 -- the data of pages, one after the other
 unfoldable pub dataAlong : View → List ℕ → List ℕ

@@ -6,11 +6,11 @@ use tree::slots::next_of;
 use tree::slots::read_slot;
 use tree::slots::slot_page;
 ghost use mathlib.Core.Path.{_≡_};
-ghost use Prim.Native.Nat.{_-_, _<_};
+ghost use Prim.Native.Nat.{_-_};
 ghost use Rattle.lookup.specs.declared.along.Place.the-variants.{Nowhere};
 ghost use Rattle.layout.specs.See.{viewBy};
 ghost use Rattle.tree.specs.Slots.{clusterAt, slotPages};
-ghost use Rattle.lookup.specs.Descend.{Within, bearing, bears, dies, dying, livingFrom, scan, unread};
+ghost use Rattle.lookup.specs.Descend.{Within, bearing, bears, dies, dying, livingFrom, scan, seeks, unread};
 
 // A slot of a directory, counted from slot 2, and its page.
 pub enum Place {
@@ -18,9 +18,16 @@ pub enum Place {
     Nowhere,
 }
 
+// What a scan looks for: a live entry with a name, one in this slot or a later one, a dead entry, an unreadable page.
+enum Sought {
+    Named,
+    LiveFrom(u32),
+    Dead,
+    Unreadable,
+}
+
 // Whether a live entry with this name stands in the page.
 fn named_at(image: &[u8], table: &[u32], geometry: Geometry, page: usize, name: &[u8]) -> bool
-    requires { ⌜ page < 8589934592 ⌝ }
     ensures { λ r. ⌜ r ≡ bears (now (name .entry)) ((viewBy geometry (now (table .entry)) (now (image .entry))) .entry page) ⌝ }
 {
     let mut d = [0u8; 512];
@@ -28,6 +35,90 @@ fn named_at(image: &[u8], table: &[u32], geometry: Geometry, page: usize, name: 
         return false;
     }
     is_live(&d) & is_named(&d, name)
+}
+
+// Whether slot k is `from` or a later one and a live entry stands in its page.
+fn live_at(image: &[u8], table: &[u32], geometry: Geometry, from: u32, k: u32, page: usize) -> bool
+    ensures { λ r. ⌜ r ≡ livingFrom (viewBy geometry (now (table .entry)) (now (image .entry))) from k page ⌝ }
+{
+    if k < from {
+        return false;
+    }
+    let mut d = [0u8; 512];
+    if !read_slot(image, geometry, table.len(), page, &mut d) {
+        return false;
+    }
+    is_live(&d)
+}
+
+// Whether a dead entry stands in the page.
+fn dead_at(image: &[u8], table: &[u32], geometry: Geometry, page: usize) -> bool
+    ensures { λ r. ⌜ r ≡ dies ((viewBy geometry (now (table .entry)) (now (image .entry))) .entry page) ⌝ }
+{
+    let mut d = [0u8; 512];
+    if !read_slot(image, geometry, table.len(), page, &mut d) {
+        return false;
+    }
+    !is_live(&d)
+}
+
+// Whether the page is unreadable.
+fn unreadable_at(image: &[u8], table: &[u32], geometry: Geometry, k: u32, page: usize) -> bool
+    ensures { λ r. ⌜ r ≡ unread (viewBy geometry (now (table .entry)) (now (image .entry))) k page ⌝ }
+{
+    let mut d = [0u8; 512];
+    !read_slot(image, geometry, table.len(), page, &mut d)
+}
+
+// Whether slot k, with its page, is one that is looked for.
+fn is_sought(
+    image: &[u8],
+    table: &[u32],
+    geometry: Geometry,
+    sought: Sought,
+    name: &[u8],
+    k: u32,
+    page: usize,
+) -> bool
+    ensures { λ r. ⌜ r ≡ seeks (viewBy geometry (now (table .entry)) (now (image .entry))) sought (now (name .entry)) k page ⌝ }
+{
+    match sought {
+        Sought::Named => named_at(image, table, geometry, page, name),
+        Sought::LiveFrom(from) => live_at(image, table, geometry, from, k, page),
+        Sought::Dead => dead_at(image, table, geometry, page),
+        Sought::Unreadable => unreadable_at(image, table, geometry, k, page),
+    }
+}
+
+// The first of the slots `low` to `high` - 1 that is looked for; slot `low` lies in cluster `start`.
+fn first_sought(
+    image: &[u8],
+    table: &[u32],
+    geometry: Geometry,
+    start: u32,
+    low: u32,
+    high: u32,
+    sought: Sought,
+    name: &[u8],
+) -> Place
+    ensures { λ r. ⌜ (r ≡ scan (seeks (viewBy geometry (now (table .entry)) (now (image .entry))) sought (now (name .entry))) (slotPages (now (table .entry)) start low (high - low)) low) × Within high r ⌝ }
+{
+    let mut c = start;
+    let mut k = low;
+    while k < high {
+        let page = slot_page(c, k);
+        if is_sought(image, table, geometry, sought, name, k, page) {
+            return Place::At {
+                slot: k,
+                page: page,
+            };
+        }
+        if k % 2 == 1 {
+            c = next_of(table, c);
+        }
+        k += 1;
+    }
+    Place::Nowhere
 }
 
 // The first of `count` slots, which begin in cluster `start`, whose live entry has this name.
@@ -41,40 +132,10 @@ pub fn find_name(
 ) -> Place
     ensures { λ r. ⌜ (r ≡ scan (bearing (viewBy geometry (now (table .entry)) (now (image .entry))) (now (name .entry))) (slotPages (now (table .entry)) start 0 count) 0) × Within count r ⌝ }
 {
-    let mut c = start;
-    let mut k: u32 = 0;
-    while k < count {
-        let page = slot_page(c, k);
-        if named_at(image, table, geometry, page, name) {
-            return Place::At {
-                slot: k,
-                page: page,
-            };
-        }
-        if k % 2 == 1 {
-            c = next_of(table, c);
-        }
-        k += 1;
-    }
-    Place::Nowhere
+    first_sought(image, table, geometry, start, 0, count, Sought::Named, name)
 }
 
-// Whether slot k is `from` or a later one and a live entry stands in its page.
-fn live_at(image: &[u8], table: &[u32], geometry: Geometry, from: u32, k: u32, page: usize) -> bool
-    requires { ⌜ page < 8589934592 ⌝ }
-    ensures { λ r. ⌜ r ≡ livingFrom (viewBy geometry (now (table .entry)) (now (image .entry))) from k page ⌝ }
-{
-    if k < from {
-        return false;
-    }
-    let mut d = [0u8; 512];
-    if !read_slot(image, geometry, table.len(), page, &mut d) {
-        return false;
-    }
-    is_live(&d)
-}
-
-// The first of `count` slots, which begin in cluster `start`, that is `from` or a later one and has a live entry.
+// The first of them that is slot `from` or a later one and has a live entry.
 pub fn first_live(
     image: &[u8],
     table: &[u32],
@@ -85,56 +146,46 @@ pub fn first_live(
 ) -> Place
     ensures { λ r. ⌜ (r ≡ scan (livingFrom (viewBy geometry (now (table .entry)) (now (image .entry))) from) (slotPages (now (table .entry)) start 0 count) 0) × Within count r ⌝ }
 {
-    let mut c = start;
-    let mut k: u32 = 0;
-    while k < count {
-        let page = slot_page(c, k);
-        if live_at(image, table, geometry, from, k, page) {
-            return Place::At {
-                slot: k,
-                page: page,
-            };
-        }
-        if k % 2 == 1 {
-            c = next_of(table, c);
-        }
-        k += 1;
-    }
-    Place::Nowhere
+    first_sought(
+        image,
+        table,
+        geometry,
+        start,
+        0,
+        count,
+        Sought::LiveFrom(from),
+        b"",
+    )
 }
 
-// Whether a dead entry stands in the page.
-fn dead_at(image: &[u8], table: &[u32], geometry: Geometry, page: usize) -> bool
-    requires { ⌜ page < 8589934592 ⌝ }
-    ensures { λ r. ⌜ r ≡ dies ((viewBy geometry (now (table .entry)) (now (image .entry))) .entry page) ⌝ }
-{
-    let mut d = [0u8; 512];
-    if !read_slot(image, geometry, table.len(), page, &mut d) {
-        return false;
-    }
-    !is_live(&d)
-}
-
-// The first of `count` slots, which begin in cluster `start`, whose entry is dead.
+// The first of them whose entry is dead.
 pub fn first_dead(image: &[u8], table: &[u32], geometry: Geometry, start: u32, count: u32) -> Place
     ensures { λ r. ⌜ (r ≡ scan (dying (viewBy geometry (now (table .entry)) (now (image .entry)))) (slotPages (now (table .entry)) start 0 count) 0) × Within count r ⌝ }
 {
-    let mut c = start;
-    let mut k: u32 = 0;
-    while k < count {
-        let page = slot_page(c, k);
-        if dead_at(image, table, geometry, page) {
-            return Place::At {
-                slot: k,
-                page: page,
-            };
-        }
-        if k % 2 == 1 {
-            c = next_of(table, c);
-        }
-        k += 1;
-    }
-    Place::Nowhere
+    first_sought(image, table, geometry, start, 0, count, Sought::Dead, b"")
+}
+
+// The first unreadable one of the pages `low` to `high` - 1 of a file; page `low` lies in cluster `start`.
+pub fn first_unreadable(
+    image: &[u8],
+    table: &[u32],
+    geometry: Geometry,
+    start: u32,
+    low: u32,
+    high: u32,
+) -> Place
+    ensures { λ r. ⌜ (r ≡ scan (unread (viewBy geometry (now (table .entry)) (now (image .entry)))) (slotPages (now (table .entry)) start low (high - low)) low) × Within high r ⌝ }
+{
+    first_sought(
+        image,
+        table,
+        geometry,
+        start,
+        low,
+        high,
+        Sought::Unreadable,
+        b"",
+    )
 }
 
 // The cluster of half cluster `count` of the chain that begins with cluster `first`.
@@ -150,42 +201,4 @@ pub fn cluster_at(table: &[u32], first: u32, count: u32) -> u32
         k += 1;
     }
     c
-}
-
-// Whether the page is unreadable.
-fn unreadable_at(image: &[u8], table: &[u32], geometry: Geometry, k: u32, page: usize) -> bool
-    requires { ⌜ page < 8589934592 ⌝ }
-    ensures { λ r. ⌜ r ≡ unread (viewBy geometry (now (table .entry)) (now (image .entry))) k page ⌝ }
-{
-    let mut d = [0u8; 512];
-    !read_slot(image, geometry, table.len(), page, &mut d)
-}
-
-// The first unreadable one of the pages `low` to `high` - 1 of a file; page `low` lies in cluster `start`.
-pub fn first_unreadable(
-    image: &[u8],
-    table: &[u32],
-    geometry: Geometry,
-    start: u32,
-    low: u32,
-    high: u32,
-) -> Place
-    ensures { λ r. ⌜ (r ≡ scan (unread (viewBy geometry (now (table .entry)) (now (image .entry)))) (slotPages (now (table .entry)) start low (high - low)) low) × Within high r ⌝ }
-{
-    let mut c = start;
-    let mut k = low;
-    while k < high {
-        let page = slot_page(c, k);
-        if unreadable_at(image, table, geometry, k, page) {
-            return Place::At {
-                slot: k,
-                page: page,
-            };
-        }
-        if k % 2 == 1 {
-            c = next_of(table, c);
-        }
-        k += 1;
-    }
-    Place::Nowhere
 }

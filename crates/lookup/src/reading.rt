@@ -21,7 +21,7 @@ ghost use mathlib.Core.Path.{_≡_};
 ghost use Prim.Native.Nat.{_+_, _-_, _*_, _<_, _≤_};
 ghost use lib.ListN.{length, take};
 ghost use lib.Seq.{sets};
-ghost use Rattle.model.specs.Bytes.{slice};
+ghost use Rattle.model.specs.Bytes.{slice, wordLimit};
 ghost use Rattle.lookup.specs.declared.along.Place.the-variants.{Nowhere};
 ghost use Rattle.fields.specs.PathBytes.{pathOf};
 ghost use Rattle.layout.specs.See.{onImage, viewBy};
@@ -84,7 +84,7 @@ fn copy_pages(
     count: usize,
     out: &mut [u8],
 )
-    requires { ⌜ (skip < 512) × (count ≤ length (now out)) × (low + pagesFor skip count < 4294967296) × (scan (unread (viewBy geometry (now table) (now image))) (slotPages (now table) start low (pagesFor skip count)) low ≡ Nowhere) ⌝ }
+    requires { ⌜ (skip < 512) × (count ≤ length (now out)) × (low + pagesFor skip count < wordLimit) × (scan (unread (viewBy geometry (now table) (now image))) (slotPages (now table) start low (pagesFor skip count)) low ≡ Nowhere) ⌝ }
     ensures { λ _. ⌜ now (out .exit) ≡ sets (now (out .entry)) 0 (slice (dataAlong (viewBy geometry (now (table .entry)) (now (image .entry))) (slotPages (now (table .entry)) start low (pagesFor skip count))) skip count) ⌝ }
 {
     let mut c = start;

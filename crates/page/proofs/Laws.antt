@@ -1,32 +1,36 @@
 -- What the layers above may use of `pageAt` and `put`: a page that is put reads back, all else stays, and
 -- puts of two pages commute. `Inside` is only asked for where the law would be false without.
-use mathlib.Core.Path.{_≡_, refl, sym, ap, ap₂, _∙_, subst}
+use mathlib.Core.Path.{_≡_, refl, sym, ap, ap₂, _∙_}
 use mathlib.Core.Bool.{Bool, true, false, cond, not, _&&_, _||_}
 use mathlib.Core.Logic.{_⊎_, inl, inr, ⊎-elim}
 use mathlib.Core.List.{List, _++_}
 use mathlib.Core.Option.{Option, none, some}
-use Prim.Native.Nat.{ℕ, suc, _+_, _*_, _/_, _≤_, _<_}
+use Prim.Native.Nat.{ℕ, suc, _%_, _+_, _*_, _/_, _≤_, _<_}
 use native.Mathlib.Omega.{arith}
 use borrow.Author.Tests.{ltb-true, eqb-true, eqb-false}
 use lib.Dec.{eqb, ltb}
 use lib.ListN.{length, getD}
-use Rattle.page.specs.Page.{part, putAt, rawPage, isInside, readRaw, pageAt, page-is, codedPage, holds, isPut, put, put-is}
+use Rattle.page.specs.Page.{part, putAt, rawPage, isInside, readRaw, clusterBytes, pageAt, pagesIn, codedPage, holds, isPut, put}
 use Rattle.page.specs.PageLaws.{Inside}
 use Rattle.page.proofs.Lists.{below-or-not, length-part, part-part, part-same, part-bytes, length-put-at, put-same, getD-put-left, getD-put-right, part-put-apart, put-with-next, put-commute}
 use Rattle.page.proofs.Raw.{read-length, read-bytes, length-coded, read-coded, front, length-front, coded-front}
-use Rattle.page.proofs.Puts.{true-or-false, tf, inside, page-inside, page-outside, same-refl, holds-some, put-held, put-either}
+use Rattle.page.proofs.Puts.{true-or-false, tf, inside, inside-true, inside-whole, whole-inside, page-inside, page-outside, page-is, put-is, same-refl, holds-some, put-held, put-either}
+
+-- the page's bytes all lie in the image
+abbrev Whole : List ℕ → ℕ → Type 0
+Whole image p = 528 * p + 528 ≤ length image
 
 -- ---- what is read
-page-raw : (image : List ℕ) (p : ℕ) (d : List ℕ) → pageAt image p ≡ some d → Inside image p × (readRaw (rawPage image p) ≡ some d)
+page-raw : (image : List ℕ) (p : ℕ) (d : List ℕ) → pageAt image p ≡ some d → Whole image p × (readRaw (rawPage image p) ≡ some d)
 page-raw image p d e = go (isInside image p) refl (sym (page-is image p) ∙ e)
   where
-    go : (b : Bool) → isInside image p ≡ b → cond b (readRaw (rawPage image p)) none ≡ some d → Inside image p × (readRaw (rawPage image p) ≡ some d)
-    go true t x = (omega (arith, ltb-true p (length image / 528) t), x)
+    go : (b : Bool) → isInside image p ≡ b → cond b (readRaw (rawPage image p)) none ≡ some d → Whole image p × (readRaw (rawPage image p) ≡ some d)
+    go true t x = (inside-true image p t, x)
     go false t x = absurd (let z : _≡_ {A = ℕ} 0 1 = cc in omega arith)
 
 -- a page that is read lies in the image
 pub page-in : (image : List ℕ) (p : ℕ) (d : List ℕ) → pageAt image p ≡ some d → Inside image p
-page-in image p d e = (page-raw image p d e) .0
+page-in image p d e = whole-inside image p ((page-raw image p d e) .0)
 
 pub page-length : (image : List ℕ) (p : ℕ) (d : List ℕ) → pageAt image p ≡ some d → length d ≡ 512
 page-length image p d e =
@@ -37,21 +41,32 @@ pub page-bytes : (image : List ℕ) (p : ℕ) (d : List ℕ) → ((i : ℕ) → 
 page-bytes image p d h e = read-bytes (rawPage image p) d (part-bytes image (528 * p) 528 h) ((page-raw image p d e) .1)
 
 -- a page read depends only on its own 528 bytes and the image's length
-raw-same : (image other : List ℕ) (p : ℕ) → length image ≡ length other → (Inside image p → rawPage image p ≡ rawPage other p) → pageAt image p ≡ pageAt other p
+raw-same : (image other : List ℕ) (p : ℕ) → length image ≡ length other → (Whole image p → rawPage image p ≡ rawPage other p) → pageAt image p ≡ pageAt other p
 raw-same image other p e f =
-    ⊎-elim (λ (h : p < length image / 528). page-inside image p (omega arith) ∙ ap readRaw (f (omega arith)) ∙ sym (page-inside other p (omega arith)))
-    (λ (h : length image / 528 ≤ p). page-outside image p h ∙ sym (page-outside other p (subst (λ (n : ℕ). n / 528 ≤ p) e h)))
-    (below-or-not p (length image / 528))
+    ⊎-elim (λ (h : p < pagesIn (length image)).
+    let w = inside-whole image p h in
+    page-inside image p w ∙ ap readRaw (f w) ∙ sym (page-inside other p (omega arith)))
+    (λ (h : pagesIn (length image) ≤ p). page-outside image p h ∙ sym (page-outside other p (rw (← e) h)))
+    (below-or-not p (pagesIn (length image)))
 
 pub page-local : (image other : List ℕ) (p : ℕ) → length image ≡ length other
     → ((i : ℕ) → 528 * p ≤ i → i < 528 * p + 528 → getD image i 0 ≡ getD other i 0) → pageAt image p ≡ pageAt other p
 page-local image other p e f = raw-same image other p e (λ h. part-same image other (528 * p) 528 e h f)
 
+-- a page past the last whole one is never read
+pub page-past : (image : List ℕ) (p : ℕ) → pagesIn (length image) ≤ p → pageAt image p ≡ none
+page-past = page-outside
+
+-- an image of whole clusters has two pages for each
+pub cluster-pages : (bytes : ℕ) → bytes % clusterBytes ≡ 0 → pagesIn bytes ≡ 2 * (bytes / clusterBytes)
+unfolding pagesIn
+cluster-pages bytes h = omega arith
+
 -- ---- one page in its place
 abbrev placed : List ℕ → ℕ → List ℕ → List ℕ
 placed image p bytes = putAt image (528 * p) (codedPage (rawPage image p) bytes)
 
-module _ (image : List ℕ) (p : ℕ) (bytes : List ℕ) (h : Inside image p) (hb : length bytes ≡ 512) where
+module _ (image : List ℕ) (p : ℕ) (bytes : List ℕ) (h : Whole image p) (hb : length bytes ≡ 512) where
   size : length (codedPage (rawPage image p) bytes) ≡ 528
   size = length-coded (rawPage image p) bytes hb (length-part image (528 * p) 528 h)
 
@@ -68,7 +83,7 @@ module _ (image : List ℕ) (p : ℕ) (bytes : List ℕ) (h : Inside image p) (h
       (ap (part (placed image p bytes) (528 * p)) (sym size) ∙ put-same image (528 * p) (codedPage (rawPage image p) bytes) fits)
       ∙ read-coded (rawPage image p) bytes hb
 
-  raw-other : (q : ℕ) → (q ≡ p → ⊥) → Inside image q → rawPage (placed image p bytes) q ≡ rawPage image q
+  raw-other : (q : ℕ) → (q ≡ p → ⊥) → Whole image q → rawPage (placed image p bytes) q ≡ rawPage image q
   raw-other q n k =
       part-put-apart image (528 * p) (codedPage (rawPage image p) bytes) fits (528 * q) 528 k
       (⊎-elim (λ (z : q < p). inl (omega arith)) (λ (z : p ≤ q). let y : suc p ≤ q = strictly n z in inr (omega (arith, size))) (below-or-not q p))
@@ -101,7 +116,7 @@ module _ (always : Bool) (p : ℕ) (bytes image : List ℕ) (hb : length bytes �
   outside i side =
       put-either (λ (l : List ℕ). getD l i 0 ≡ getD image i 0) always p bytes image refl (λ h. outside-placed image p bytes h hb i side)
 
-  raw-put : (q : ℕ) → (q ≡ p → ⊥) → Inside image q → rawPage (put always p bytes image) q ≡ rawPage image q
+  raw-put : (q : ℕ) → (q ≡ p → ⊥) → Whole image q → rawPage (put always p bytes image) q ≡ rawPage image q
   raw-put q n k =
       put-either (λ (l : List ℕ). rawPage l q ≡ rawPage image q) always p bytes image refl (λ h. raw-other image p bytes h hb q n k)
 
@@ -111,9 +126,12 @@ module _ (always : Bool) (p : ℕ) (bytes image : List ℕ) (hb : length bytes �
 
   -- a page that is put reads back
   pub read-written : Inside image p → pageAt (put always p bytes image) p ≡ some bytes
-  read-written h =
-      rw (put-is always p bytes image, inside image p h) (go always (holds (pageAt image p) bytes) refl)
+  read-written i =
+      rw (put-is always p bytes image, inside image p (inside-whole image p i)) (go always (holds (pageAt image p) bytes) refl)
     where
+      h : Whole image p
+      h = inside-whole image p i
+
       go : (b x : Bool) → holds (pageAt image p) bytes ≡ x → pageAt (cond (b || not x) (placed image p bytes) image) p ≡ some bytes
       go true x e = read-placed image p bytes h hb
       go false true e = holds-some (pageAt image p) bytes e
@@ -132,11 +150,11 @@ pub rewritten-same : (image : List ℕ) (p : ℕ) (bytes : List ℕ) → pageAt 
 rewritten-same image p bytes e = put-held p bytes image (ap (λ o. holds o bytes) e ∙ same-refl bytes)
 
 -- ---- two puts
-put-inside : (always : Bool) (p : ℕ) (bytes image : List ℕ) → isPut always p bytes image ≡ true → Inside image p
+put-inside : (always : Bool) (p : ℕ) (bytes image : List ℕ) → isPut always p bytes image ≡ true → Whole image p
 put-inside always p bytes image t = go (isInside image p) refl t
   where
-    go : (b : Bool) → isInside image p ≡ b → (b && (always || not (holds (pageAt image p) bytes))) ≡ true → Inside image p
-    go true e t = omega (arith, ltb-true p (length image / 528) e)
+    go : (b : Bool) → isInside image p ≡ b → (b && (always || not (holds (pageAt image p) bytes))) ≡ true → Whole image p
+    go true e t = inside-true image p e
     go false e t = tf t refl
 
 -- the second put asks and puts what it would in the first image
@@ -145,7 +163,7 @@ put-after : (a : Bool) (p : ℕ) (d : List ℕ) (b : Bool) (q : ℕ) (e image : 
 put-after a p d b q e image he n =
     put-is a p d (put b q e image)
     ∙ ap (λ (x : Bool). cond x (putAt (put b q e image) (528 * p) (codedPage (rawPage (put b q e image) p) d)) (put b q e image))
-    (ap₂ (λ (l : ℕ) (o : Option (List ℕ)). ltb p (l / 528) && (a || not (holds o d))) (length-put b q e image he) (read-other b q e image he p n))
+    (ap₂ (λ (l : ℕ) (o : Option (List ℕ)). ltb p (pagesIn l) && (a || not (holds o d))) (length-put b q e image he) (read-other b q e image he p n))
     ∙ go (isPut a p d image) refl
   where
     go : (x : Bool) → isPut a p d image ≡ x
@@ -154,7 +172,7 @@ put-after a p d b q e image he n =
     go true t = ap (λ (raw : List ℕ). putAt (put b q e image) (528 * p) (codedPage raw d)) (raw-put b q e image he p n (put-inside a p d image t))
     go false t = refl
 
-placed-commute : (p : ℕ) (x : List ℕ) (q : ℕ) (y image : List ℕ) → length x ≡ 528 → length y ≡ 528 → Inside image p → Inside image q → (p ≡ q → ⊥)
+placed-commute : (p : ℕ) (x : List ℕ) (q : ℕ) (y image : List ℕ) → length x ≡ 528 → length y ≡ 528 → Whole image p → Whole image q → (p ≡ q → ⊥)
     → putAt (putAt image (528 * q) y) (528 * p) x ≡ putAt (putAt image (528 * p) x) (528 * q) y
 placed-commute p x q y image hx hy hp hq n =
     ⊎-elim (λ (z : p < q). sym (put-commute image (528 * p) x (528 * q) y (omega arith) (omega arith)))

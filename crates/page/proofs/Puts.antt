@@ -4,12 +4,13 @@ use mathlib.Core.Bool.{Bool, true, false, cond, not, _&&_, _||_}
 use mathlib.Core.Logic.{_⊎_, inl, inr, ⊎-elim}
 use mathlib.Core.List.{List, [], _∷_}
 use mathlib.Core.Option.{Option, none, some}
-use Prim.Native.Nat.{ℕ, _+_, _*_, _/_, _≤_}
+use Prim.Native.Nat.{ℕ, _+_, _*_, _≤_}
 use native.Mathlib.Omega.{arith}
 use borrow.Author.Tests.{ltb-true, lt-ltb, le-ltb, eqb-true, eq-eqb}
 use lib.Dec.{eqb}
 use lib.ListN.{length}
-use Rattle.page.specs.Page.{putAt, rawPage, isInside, readRaw, pageAt, page-is, Read, codedPage, sameBytes, holds, put, put-is}
+use Rattle.page.specs.Page.{putAt, rawPage, isInside, readRaw, pageAt, pagesIn, Read, codedPage, sameBytes, holds, isPut, put}
+use Rattle.page.specs.PageLaws.{Inside}
 
 pub true-or-false : (b : Bool) → (b ≡ true) ⊎ (b ≡ false)
 true-or-false true = inl refl
@@ -51,23 +52,44 @@ pub read-none : (o : Option (List ℕ)) {before after : List ℕ} {r : Bool} →
 read-none none e f = refl
 read-none (some d) e f = tf (e .readable) f
 
+-- ---- the sealed definitions, opened for this crate's proofs alone
+pub page-is : (image : List ℕ) (p : ℕ) → pageAt image p ≡ cond (isInside image p) (readRaw (rawPage image p)) none
+unfolding pageAt
+page-is image p = refl
+
+pub put-is : (always : Bool) (p : ℕ) (bytes image : List ℕ)
+    → put always p bytes image ≡ cond (isPut always p bytes image) (putAt image (528 * p) (codedPage (rawPage image p) bytes)) image
+unfolding put
+put-is always p bytes image = refl
+
 -- ---- in the image
+pub inside-whole : (image : List ℕ) (p : ℕ) → Inside image p → 528 * p + 528 ≤ length image
+unfolding pagesIn
+inside-whole image p h = omega arith
+
+pub whole-inside : (image : List ℕ) (p : ℕ) → 528 * p + 528 ≤ length image → Inside image p
+unfolding pagesIn
+whole-inside image p h = omega arith
+
 pub inside : (image : List ℕ) (p : ℕ) → 528 * p + 528 ≤ length image → isInside image p ≡ true
-inside image p h = lt-ltb p (length image / 528) (omega arith)
+inside image p h = lt-ltb p (pagesIn (length image)) (whole-inside image p h)
+
+pub inside-true : (image : List ℕ) (p : ℕ) → isInside image p ≡ true → 528 * p + 528 ≤ length image
+inside-true image p e = inside-whole image p (ltb-true p (pagesIn (length image)) e)
 
 pub page-inside : (image : List ℕ) (p : ℕ) → 528 * p + 528 ≤ length image → pageAt image p ≡ readRaw (rawPage image p)
 page-inside image p h = page-is image p ∙ rw (inside image p h)
 
-pub page-outside : (image : List ℕ) (p : ℕ) → length image / 528 ≤ p → pageAt image p ≡ none
-page-outside image p h = page-is image p ∙ rw (le-ltb p (length image / 528) h)
+pub page-outside : (image : List ℕ) (p : ℕ) → pagesIn (length image) ≤ p → pageAt image p ≡ none
+page-outside image p h = page-is image p ∙ rw (le-ltb p (pagesIn (length image)) h)
 
 -- ---- the cases of `put`
 pub put-written : (p : ℕ) (bytes image : List ℕ) → 528 * p + 528 ≤ length image
     → put true p bytes image ≡ putAt image (528 * p) (codedPage (rawPage image p) bytes)
 put-written p bytes image h = put-is true p bytes image ∙ rw (inside image p h)
 
-pub put-outside : (always : Bool) (p : ℕ) (bytes image : List ℕ) → length image / 528 ≤ p → put always p bytes image ≡ image
-put-outside always p bytes image h = put-is always p bytes image ∙ rw (le-ltb p (length image / 528) h)
+pub put-outside : (always : Bool) (p : ℕ) (bytes image : List ℕ) → pagesIn (length image) ≤ p → put always p bytes image ≡ image
+put-outside always p bytes image h = put-is always p bytes image ∙ rw (le-ltb p (pagesIn (length image)) h)
 
 pub put-held : (p : ℕ) (bytes image : List ℕ) → holds (pageAt image p) bytes ≡ true → put false p bytes image ≡ image
 put-held p bytes image e = put-is false p bytes image ∙ rw e (go (isInside image p))
@@ -85,6 +107,6 @@ pub put-either : (C : List ℕ → Type 0) (always : Bool) (p : ℕ) (bytes imag
 put-either C always p bytes image kept done = rw (put-is always p bytes image) (go (isInside image p) refl (always || not (holds (pageAt image p) bytes)))
   where
     go : (b : Bool) → isInside image p ≡ b → (x : Bool) → C (cond (b && x) (putAt image (528 * p) (codedPage (rawPage image p) bytes)) image)
-    go true e true = done (omega (arith, ltb-true p (length image / 528) e))
+    go true e true = done (inside-true image p e)
     go true e false = kept
     go false e x = kept

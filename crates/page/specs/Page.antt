@@ -1,6 +1,6 @@
 -- Pages of a raw card image and their code (01, "Pages and their code"). Each rule speaks of one raw page;
--- only `pageAt` and `put` know where in the image it lies.
-use mathlib.Core.Path.{_≡_, refl}
+-- only `pagesIn`, `pageAt` and `put` know where in the image it lies. No crate above opens them: it goes by PageLaws.
+use mathlib.Core.Path.{_≡_}
 use mathlib.Core.Bool.{Bool, true, false, cond, not, _&&_, _||_}
 use mathlib.Core.List.{List, [], _∷_, _++_}
 use mathlib.Core.Option.{Option, none, some}
@@ -21,13 +21,24 @@ part list from count = take count (drop from list)
 abbrev pub putAt : List ℕ → ℕ → List ℕ → List ℕ
 putAt list from bytes = take from list ++ (bytes ++ drop (from + length bytes) list)
 
--- A page is 512 data bytes and 16 spare bytes: the 528 bytes of raw page p.
+-- A page is 512 data bytes and 16 spare bytes; two pages make a cluster.
+abbrev pub pageBytes : ℕ
+pageBytes = 528
+
+abbrev pub clusterBytes : ℕ
+clusterBytes = 1056
+
+-- how many pages that many bytes hold whole
+unfoldable pub pagesIn : ℕ → ℕ
+pagesIn bytes = bytes / pageBytes
+
+-- the bytes of raw page p
 abbrev pub rawPage : List ℕ → ℕ → List ℕ
-rawPage image p = part image (528 * p) 528
+rawPage image p = part image (pageBytes * p) pageBytes
 
 -- the image holds page p whole
 abbrev pub isInside : List ℕ → ℕ → Bool
-isInside image p = ltb p (length image / 528)
+isInside image p = ltb p (pagesIn (length image))
 
 -- Chunk k of a raw page, or of a page's data: the data bytes 128k to 128k+127.
 abbrev pub chunkOf : List ℕ → ℕ → List ℕ
@@ -70,12 +81,8 @@ unfoldable pub readRaw : List ℕ → Option (List ℕ)
 readRaw page = dataBy page (verdictOf page 0) (verdictOf page 1) (verdictOf page 2) (verdictOf page 3)
 
 -- The data of page p as read; none where it is unreadable or the image does not hold it.
-pub pageAt : List ℕ → ℕ → Option (List ℕ)
+unfoldable pub pageAt : List ℕ → ℕ → Option (List ℕ)
 pageAt image p = cond (isInside image p) (readRaw (rawPage image p)) none
-
-pub page-is : (image : List ℕ) (p : ℕ) → pageAt image p ≡ cond (isInside image p) (readRaw (rawPage image p)) none
-unfolding pageAt
-page-is image p = refl
 
 abbrev pub isSome : Option (List ℕ) → Bool
 isSome none = false
@@ -119,15 +126,9 @@ isPut always p bytes image = isInside image p && (always || not (holds (pageAt i
 
 -- The image with `bytes` as the data of page p, freshly coded, and nothing else changed; where page p
 -- is not to be written, the image as it is.
-pub put : Bool → ℕ → List ℕ → List ℕ → List ℕ
+unfoldable pub put : Bool → ℕ → List ℕ → List ℕ → List ℕ
 put always p bytes image =
-    cond (isPut always p bytes image) (putAt image (528 * p) (codedPage (rawPage image p) bytes)) image
-
-pub put-is : (always : Bool) (p : ℕ) (bytes image : List ℕ)
-    → put always p bytes image
-    ≡ cond (isPut always p bytes image) (putAt image (528 * p) (codedPage (rawPage image p) bytes)) image
-unfolding put
-put-is always p bytes image = refl
+    cond (isPut always p bytes image) (putAt image (pageBytes * p) (codedPage (rawPage image p) bytes)) image
 
 -- A page of a newly taken cluster and a new entry's page are written in any case.
 abbrev pub written : List ℕ → ℕ → List ℕ → List ℕ

@@ -4,15 +4,15 @@ use mathlib.Core.Path.{_≡_}
 use mathlib.Core.Bool.{Bool, false, cond}
 use mathlib.Core.List.{List}
 use mathlib.Core.Logic.{_⊎_}
-use mathlib.Core.Option.{some}
-use Prim.Native.Nat.{ℕ, _+_, _*_, _≤_, _<_}
+use mathlib.Core.Option.{none, some}
+use Prim.Native.Nat.{ℕ, _+_, _*_, _/_, _%_, _≤_, _<_}
 use lib.Dec.{eqb}
 use lib.ListN.{length, getD}
-use Rattle.page.specs.Page.{pageAt, put}
+use Rattle.page.specs.Page.{clusterBytes, pageAt, pageBytes, pagesIn, put}
 
 -- the image holds page p whole
 abbrev pub Inside : List ℕ → ℕ → Type 0
-Inside image p = 528 * p + 528 ≤ length image
+Inside image p = p < pagesIn (length image)
 
 -- every element is a byte
 abbrev pub AllBytes : List ℕ → Type 0
@@ -27,7 +27,7 @@ pub record PutLaws (always : Bool) (p : ℕ) (bytes image : List ℕ) : Type 0 w
   -- every other page reads as before
   pub read-other : (q : ℕ) → (q ≡ p → ⊥) → pageAt (put always p bytes image) q ≡ pageAt image q
   -- no byte changes but the page's data and codes: spare bytes 12 to 15 stay too
-  pub outside : (i : ℕ) → (i < 528 * p) ⊎ (528 * p + 524 ≤ i) → getD (put always p bytes image) i 0 ≡ getD image i 0
+  pub outside : (i : ℕ) → (i < pageBytes * p) ⊎ (pageBytes * p + 524 ≤ i) → getD (put always p bytes image) i 0 ≡ getD image i 0
   -- what is read, of every page
   pub page-put : Inside image p → (q : ℕ) → pageAt (put always p bytes image) q ≡ cond (eqb p q) (some bytes) (pageAt image q)
   -- puts of two different pages commute
@@ -48,6 +48,10 @@ pub record ReadLaws (image : List ℕ) (p : ℕ) (bytes : List ℕ) : Type 0 whe
 pub record PageLaws : Type 0 where
   pub of-put : (always : Bool) (p : ℕ) (bytes image : List ℕ) → length bytes ≡ 512 → PutLaws always p bytes image
   pub of-read : (image : List ℕ) (p : ℕ) (bytes : List ℕ) → pageAt image p ≡ some bytes → ReadLaws image p bytes
-  -- a page read depends only on its own 528 bytes and the image's length
+  -- a page past the last whole one is never read
+  pub page-past : (image : List ℕ) (p : ℕ) → pagesIn (length image) ≤ p → pageAt image p ≡ none
+  -- an image of whole clusters has two pages for each
+  pub cluster-pages : (bytes : ℕ) → bytes % clusterBytes ≡ 0 → pagesIn bytes ≡ 2 * (bytes / clusterBytes)
+  -- a page read depends only on its own bytes and the image's length
   pub page-local : (image other : List ℕ) (p : ℕ) → length image ≡ length other
-      → ((i : ℕ) → 528 * p ≤ i → i < 528 * p + 528 → getD image i 0 ≡ getD other i 0) → pageAt image p ≡ pageAt other p
+      → ((i : ℕ) → pageBytes * p ≤ i → i < pageBytes * p + pageBytes → getD image i 0 ≡ getD other i 0) → pageAt image p ≡ pageAt other p

@@ -2,11 +2,21 @@
 use ecc::Code;
 use ecc::Verdict;
 ghost use mathlib.Core.Path.{_≡_};
-ghost use Prim.Native.Nat.{_+_, _*_, _<_};
+ghost use Prim.Native.Nat.{_+_, _*_, _^_, _<_};
 ghost use lib.ListN.{length};
 ghost use Rattle.ecc.specs.Judge.{corrected, flipAt};
-ghost use Rattle.page.specs.Page.{putAt, chunkOf, verdictOf, isReadable, Placed, correctedData, readRaw, Read, pageAt, freshCode, codedPage, sameBytes, holds, written, rewritten};
+ghost use Rattle.page.specs.Page.{pagesIn, putAt, chunkOf, verdictOf, isReadable, Placed, correctedData, readRaw, Read, pageAt, freshCode, codedPage, sameBytes, holds, written, rewritten};
 ghost use Rattle.page.specs.PageLaws.{PageLaws};
+
+// Two pages of 528 bytes each.
+pub const CLUSTER_BYTES: usize = 1056;
+
+// How many pages an image holds whole. They are few enough to be added to without a carry.
+pub fn page_count(image: &[u8]) -> usize
+    ensures { λ r. ⌜ (r ≡ pagesIn (length (now (image .entry)))) × (r < 2 ^ 63) ⌝ }
+{
+    image.len() / 528
+}
 
 // The verdict on chunk k of a raw page: the chunk is lent as a part of the page, beside its code bytes.
 fn judge_part(page: &[u8], k: usize) -> Verdict

@@ -40,7 +40,8 @@ abbrev pub pickLook : Bool → Look → Look → Look
 pickLook true a b = a
 pickLook false a b = b
 
--- Page (2), entry rules with the name's (7); what the chain then needs. `seen` counts the live names before it.
+-- Page (2), entry rules with the name's (7); what the chain then needs. `seen` counts the live entries before it that bear
+-- a name: one that is counted is taken, which makes the entry bad.
 abbrev pub lookedAt : (Name → ℕ) → ℕ → Option Entry → Look
 lookedAt seen page none = look.Unreadable page
 lookedAt seen page (some e) =
@@ -51,7 +52,7 @@ lookedAt seen page (some e) =
     look.Bad)
     look.Dead
 
--- the look by what the entry's page is; a name that stands before it makes it bad
+-- the look by what the entry's page is, where its name is new
 abbrev pub lookBy : Kind → Look
 lookBy kind.Dead = look.Dead
 lookBy kind.Bad = look.Bad

@@ -89,16 +89,17 @@ fn judge_tree(image: &[u8], table: &[u32], end: usize, geometry: Geometry) -> Ve
     walked.verdict
 }
 
-// The whole check, with the superblock and the table for the calls that go on from it. The table has its words from the moment that they are sound.
-pub fn open_checked(image: &[u8], table: &mut [u32; MOST_CLUSTERS]) -> Opened
+// The whole check, with the superblock for the calls that go on from it. The lent room is working room: it gets the table's
+// words once they are sound, and keeps them where the tree is then refused.
+pub fn open_checked(image: &[u8], room: &mut [u32; MOST_CLUSTERS]) -> Opened
     ensures checked { λ r. ⌜ toldOpened r ≡ superblockIn (checkImage (now (image .entry))) ⌝ }
-    ensures loaded { λ _. ⌜ now (table .exit) ≡ tableAfter (now (image .entry)) (openCard (now (image .entry))) (now (table .entry)) ⌝ }
+    ensures working_room { λ _. ⌜ now (room .exit) ≡ tableAfter (now (image .entry)) (openCard (now (image .entry))) (now (room .entry)) ⌝ }
 {
-    let opened = open_card(image, table);
+    let opened = open_card(image, room);
     match opened {
         Opened::Refused(refusal) => Opened::Refused(refusal),
         Opened::Card(s) => {
-            let verdict = judge_tree(image, table, s.end as usize, s.geometry);
+            let verdict = judge_tree(image, room, s.end as usize, s.geometry);
             match verdict {
                 Verdict::Refused(refusal) => Opened::Refused(refusal),
                 Verdict::Sound => Opened::Card(s),

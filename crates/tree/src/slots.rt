@@ -3,11 +3,13 @@ use fields::kinds::is_live;
 use fields::names::same_entry_name;
 use layout::Geometry;
 use layout::image_page;
+use page::page_count;
 use page::read_page;
 ghost use mathlib.Core.Path.{_≡_};
 ghost use Prim.Native.Nat.{_+_, _-_, _*_, _<_};
 ghost use lib.ListN.{length};
 ghost use lib.Dec.{ltb};
+ghost use Rattle.model.specs.Bytes.{pageLimit};
 ghost use Rattle.layout.specs.See.{pageIn, viewBy};
 ghost use Rattle.model.specs.Entry.{entryOf};
 ghost use Rattle.page.specs.Page.{Read};
@@ -30,7 +32,7 @@ pub fn next_of(table: &[u32], c: u32) -> u32
 
 // The page of slot k, which lies in cluster c.
 pub fn slot_page(c: u32, k: u32) -> usize
-    ensures { λ r. ⌜ (r ≡ slotPage c k) × (r < 8589934592) ⌝ }
+    ensures { λ r. ⌜ (r ≡ slotPage c k) × (r < pageLimit) ⌝ }
 {
     c as usize * 2 + (k % 2) as usize
 }
@@ -58,7 +60,7 @@ pub fn read_slot(
     if count <= page / 2 {
         return false;
     }
-    if image.len() / 528 <= page {
+    if page_count(image) <= page {
         return false;
     }
     read_page(image, image_page(geometry, page), out)
@@ -66,7 +68,6 @@ pub fn read_slot(
 
 // Whether a live entry with the name of the entry d stands in the page.
 fn named_at(image: &[u8], table: &[u32], geometry: Geometry, page: usize, d: &[u8; 512]) -> bool
-    requires { ⌜ page < 8589934592 ⌝ }
     ensures { λ r. ⌜ r ≡ ltb 0 (liveHit ((viewBy geometry (now (table .entry)) (now (image .entry))) .entry page) ((entryOf (now (d .entry))) .name)) ⌝ }
 {
     let mut e = [0u8; 512];

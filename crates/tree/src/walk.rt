@@ -22,6 +22,7 @@ use reached::walk_chain;
 ghost use mathlib.Core.Path.{_≡_};
 ghost use Prim.Native.Nat.{_+_, _-_, _*_, _<_, _≤_};
 ghost use lib.ListN.{length};
+ghost use Rattle.model.specs.Bytes.{pageLimit};
 ghost use Rattle.layout.specs.See.{imagePage, onImage, viewBy};
 ghost use mathlib.Core.List.{_∷_, []};
 ghost use Rattle.model.specs.Check.{checkTree, judgeDot, judgeDots};
@@ -105,7 +106,7 @@ fn look_at(
 
 // One of a directory's first two entries.
 fn judge_dot(image: &[u8], table: &[u32], geometry: Geometry, page: usize, name: &[u8]) -> Verdict
-    requires { ⌜ page < 8589934592 ⌝ }
+    requires { ⌜ page < pageLimit ⌝ }
     ensures { λ r. ⌜ Judges (onImage geometry (judgeDot (viewBy geometry (now (table .entry)) (now (image .entry))) (now (name .entry)) page ((viewBy geometry (now (table .entry)) (now (image .entry))) .entry page))) r ⌝ }
 {
     let mut d = [0u8; 512];

@@ -1,5 +1,5 @@
 -- Each law stands in `Laws`.
-use Rattle.page.proofs.Laws.{length-put, read-written, read-other, outside, page-put, writes-commute, page-in, page-length, page-bytes, rewritten-same, page-local}
+use Rattle.page.proofs.Laws.{length-put, read-written, read-other, outside, page-put, writes-commute, page-in, page-length, page-bytes, rewritten-same, page-local, page-past, cluster-pages}
 use Rattle.page.proofs.page_laws.Statement.{statement}
 use Rattle.page.proofs.page_laws.Tie as tie
 
@@ -20,6 +20,8 @@ returns c =
         page-bytes = λ h. page-bytes image p bytes h e;
         rewritten-same = rewritten-same image p bytes e;
       };
+      page-past = page-past;
+      cluster-pages = cluster-pages;
       page-local = page-local;
     }
 

@@ -4,7 +4,7 @@ use mathlib.Core.List.{List}
 use Prim.Native.Nat.{ℕ, _+_, _-_, _*_, _/_, _<_}
 use native.Mathlib.Omega.{arith}
 use lib.ListN.{length, take, drop}
-use Rattle.page.specs.Page.{readRaw, pageAt}
+use Rattle.page.specs.Page.{readRaw, pageAt, pagesIn}
 use Rattle.page.proofs.Lists.{lent-part}
 use Rattle.page.proofs.Puts.{page-inside, page-outside}
 use borrow.Author.Needs.{needs}
@@ -37,6 +37,7 @@ returns c =
     rw (page-lent (c .before .before .before .before .before .args .image .now) (c .before .before .before .before .before .args .page) (search needs)) (c .read-raw .ensures)
 
 returns-2 : tie.Need-returns-2
+unfolding pagesIn
 returns-2 c =
     rw (page-outside (c .before .before .args .image .now) (c .before .before .args .page) (search needs)) (record { readable = refl; buffer = refl })
 

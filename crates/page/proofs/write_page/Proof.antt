@@ -6,7 +6,7 @@ use Prim.Native.Nat.{ℕ, _+_, _-_, _*_, _/_, _<_}
 use native.Mathlib.Omega.{arith}
 use lib.ListN.{length, take, drop}
 use borrow.Rule.Slice.PartMut.{putMid}
-use Rattle.page.specs.Page.{putAt, rawPage, codedPage, written}
+use Rattle.page.specs.Page.{pagesIn, putAt, rawPage, codedPage, written}
 use Rattle.page.proofs.Lists.{length-part, lent-part, lent-back}
 use Rattle.page.proofs.Raw.{length-coded}
 use Rattle.page.proofs.Puts.{put-written, put-outside}
@@ -49,6 +49,7 @@ returns c =
     wrote-lent (a .image .now) (a .page) (a .bytes .now) (c .before .before .write-raw .last .0) (search needs) (search needs) (c .before .before .write-raw .ensures)
 
 returns-2 : tie.Need-returns-2
+unfolding pagesIn
 returns-2 c =
     sym (put-outside true (c .before .before .args .page) (c .before .before .args .bytes .now) (c .before .before .args .image .now) (search needs))
 

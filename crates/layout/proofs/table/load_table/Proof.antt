@@ -10,12 +10,12 @@ use Rattle.page.specs.Page.{pageAt, isSome}
 use Rattle.layout.specs.declared.Superblock.{Superblock}
 use Rattle.layout.specs.Table.{upTo, tableClusters, tableNames, dataOf, tablePage, tableWord, tableOf}
 use Rattle.layout.proofs.Stages.{read-data}
-use Rattle.layout.proofs.OpenFacts.{Geometry, open-facts}
+use Rattle.layout.proofs.OpenFacts.{OpenFacts, open-facts}
 use borrow.Author.Needs.{needs}
 use Rattle.layout.proofs.table.load_table.Statement.{statement}
 use Rattle.layout.proofs.table.load_table.Tie as tie
 
-module _ (image : List ℕ) (s : Superblock) (g : Geometry image s) (first second : List ℕ)
+module _ (image : List ℕ) (s : Superblock) (g : OpenFacts image s) (first second : List ℕ)
     (one : first ≡ dataOf (pageAt image (2 * s .indirect))) (two : second ≡ dataOf (pageAt image (2 * s .indirect + 1))) where
   found : (t : ℕ) → t < 2 * tableClusters (s .end) → isSome (pageAt image (tablePage (tableNames (first ++ second) (tableClusters (s .end))) t)) ≡ true
   found t h = rw (one, two) (ap isSome (g .table-read t h))

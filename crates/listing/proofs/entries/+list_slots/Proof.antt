@@ -58,7 +58,7 @@ list-slots-slot-page-requires t c κs = search needs
 
 list-slots-list-entry-requires : (t : ℕ) → list-slots-lts.Need-list-entry-requires (calls t) (list-slots-at t) list-slots.Post list-slots-Inv-loop list-slots-μ-loop
 list-slots-list-entry-requires t c κs =
-    (c .slot-page .ensures .1, omega (arith, c .before .before .before .before .before .before .before .pre .1))
+    omega (arith, c .before .before .before .before .before .before .before .pre .1)
 
 list-slots-sub-list-slots : (t : ℕ) → list-slots-lts.Need-sub-list-slots (calls t) (list-slots-at t) list-slots.Post list-slots-Inv-loop list-slots-μ-loop
 list-slots-sub-list-slots t c = omega arith

@@ -1,75 +1,16 @@
--- The loop of `first_unreadable` keeps that the slots left give the answer of all; `c` is the cluster of slot k.
-use mathlib.Core.Logic.{⊎-elim}
-use mathlib.Core.Path.{_∙_, _≡_, refl, sym}
-use Prim.Native.Nat.{_-_, _<_, _^_}
-use native.Mathlib.Omega.{arith}
+-- `first_unreadable` is the one scan, for what it looks for.
 use borrow.Author.Needs.{needs}
-use Rattle.layout.specs.See.{viewBy}
-use Rattle.lookup.specs.Descend.{scan, unread}
-use Rattle.tree.specs.Slots.{slotPages, clusterAfter}
-use Rattle.lookup.proofs.ScanLaws.{rest, scan-end, scan-here, scan-later}
 use Rattle.lookup.proofs.along.first_unreadable.Statement.{statement}
 use Rattle.lookup.proofs.along.first_unreadable.Tie as tie
-use Rattle.tree.proofs.LookLaws.{step-even, step-odd}
 
-abbrev Inv-loop : tie.InvT-loop
-Inv-loop image table geometry start low high c₀ k₀ c k =
-    (c < 2 ^ 32) × (rest (unread (viewBy geometry table image)) table c k high ≡ scan (unread (viewBy geometry table image)) (slotPages table start low (high - low)) low)
+slice-aggregate-first-sought : tie.Need-slice-aggregate-first-sought
+slice-aggregate-first-sought c = search needs
 
-abbrev μ-loop : tie.MeasureT-loop
-μ-loop image table geometry start low high c₀ k₀ c k = high - k
+first-sought-requires : tie.Need-first-sought-requires
+first-sought-requires c κs = search needs
 
-loop-holds : tie.Need-loop-holds Inv-loop μ-loop
-loop-holds c = (omega arith, refl)
-
-slot-page-requires : tie.Need-slot-page-requires Inv-loop μ-loop
-slot-page-requires c κs = search needs
-
-unreadable-at-requires : tie.Need-unreadable-at-requires Inv-loop μ-loop
-unreadable-at-requires c κs = omega (arith, c .slot-page .ensures .1)
-
-returns : tie.Need-returns Inv-loop μ-loop
-returns c = (
-  scan-here _ _ _ _ _ (c .before .before .before .loop-test .taken) _ (c .before .before .slot-page .ensures .0) (sym (c .before .unreadable-at .ensures) ∙ c .if1 .taken)
-      ∙ c .before .before .before .before .loop .inv .1,
-  (c .before .before .slot-page .ensures .1, c .before .before .before .loop-test .taken),
-)
-
-next-of-requires : tie.Need-next-of-requires Inv-loop μ-loop
-next-of-requires c κs = search needs
-
-add-k : tie.Need-add-k Inv-loop μ-loop
-add-k c = omega arith
-
-loop-less : tie.Need-loop-less Inv-loop μ-loop
-loop-less c = omega arith
-
-loop-again : tie.Need-loop-again Inv-loop μ-loop
-loop-again c =
-    let t = c .before .before .before .before .before .before .before .before .args .table .now in
-    let w = c .before .before .before .before .before .loop in
-    let x : c .if2 .c ≡ clusterAfter t (w .c) (w .k) =
-    ⊎-elim (λ v. step-odd t (w .c) (w .k) _ (v .0 .taken) (v .2 ∙ v .1 .ensures)) (λ v. step-even t (w .c) (w .k) _ (v .0 .left) (v .1)) (c .if2 .came) in (
-      ⊎-elim (λ v. omega (arith, v .2, v .1 .ensures, c .before .before .before .before .before .before .shared-slice-known2 .given (w .c))) (λ v. omega (arith, v .1)) (c .if2 .came),
-      scan-later _ _ _ _ _ (c .before .before .before .before .loop-test .taken) _ _ (c .before .before .before .slot-page .ensures .0) x (sym (c .before .before .unreadable-at .ensures) ∙ c .before .if1 .left)
-          ∙ w .inv .1,
-    )
-
-returns-2 : tie.Need-returns-2 Inv-loop μ-loop
-returns-2 c = (sym (scan-end _ _ _ _ _ (omega arith)) ∙ c .before .loop .inv .1, tt)
+returns : tie.Need-returns
+returns c = c .first-sought .ensures
 
 pub first-unreadable-spec : {M : Type 1} → statement M
-first-unreadable-spec =
-    tie.close
-    (tie.spec
-    Inv-loop
-    μ-loop
-    loop-holds
-    slot-page-requires
-    unreadable-at-requires
-    returns
-    next-of-requires
-    add-k
-    loop-less
-    loop-again
-    returns-2)
+first-unreadable-spec = tie.close (tie.spec slice-aggregate-first-sought first-sought-requires returns)

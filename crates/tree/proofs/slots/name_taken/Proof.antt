@@ -25,7 +25,7 @@ slot-page-requires : tie.Need-slot-page-requires Inv-loop μ-loop
 slot-page-requires c κs = search needs
 
 named-at-requires : tie.Need-named-at-requires Inv-loop μ-loop
-named-at-requires c κs = omega (arith, c .slot-page .ensures .1)
+named-at-requires c κs = search needs
 
 returns : tie.Need-returns Inv-loop μ-loop
 returns c =

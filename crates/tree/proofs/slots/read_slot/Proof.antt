@@ -11,7 +11,8 @@ use borrow.Author.Tests.{le-ltb, lt-ltb}
 use lib.Dec.{ltb}
 use lib.ListN.{length}
 use Rattle.layout.specs.See.{imagePage, pageIn}
-use Rattle.page.specs.Page.{Read, page-is, pageAt}
+use Rattle.page.specs.Page.{Read, pageAt, pagesIn}
+use Rattle.page.proofs.Laws.{page-past}
 use Rattle.tree.proofs.slots.read_slot.Statement.{statement}
 use Rattle.tree.proofs.slots.read_slot.Tie as tie
 
@@ -25,12 +26,13 @@ inside : (geometry : Geometry) (count : ℕ) (image : List ℕ) (page p : ℕ) (
 unfolding pageIn
 inside geometry count image page p out after r h e k = rw (lt-ltb page (2 * count) (omega arith), ← e) k
 
--- a page past the image's end is none, all the more where it is counted from cluster `geometry` on
-past : (geometry : Geometry) (count : ℕ) (image : List ℕ) (page : ℕ) (out : List ℕ) → length image / 528 ≤ page → Read (pageIn geometry count image page) out false out
+-- a page past the image's last one is none, all the more where pages lie below it
+past : (geometry : Geometry) (count : ℕ) (image : List ℕ) (page n : ℕ) (out : List ℕ) → n ≡ pagesIn (length image) → n ≤ page
+    → Read (pageIn geometry count image page) out false out
 unfolding pageIn
-past geometry count image page out h =
-    let e : pageAt image (imagePage geometry page) ≡ none = page-is image (imagePage geometry page) ∙ rw (le-ltb (imagePage geometry page) (length image / 528) (omega arith)) in
-    rw e (go (ltb page (2 * count)))
+past geometry count image page n out e h =
+    let gone : pageAt image (imagePage geometry page) ≡ none = page-past image (imagePage geometry page) (omega arith) in
+    rw gone (go (ltb page (2 * count)))
   where
     go : (b : Bool) → Read (cond b none none) out false out
     go true = record { readable = refl; buffer = refl }
@@ -40,9 +42,13 @@ returns : tie.Need-returns
 returns c =
     outside (c .before .before .args .geometry) (c .before .before .args .count) (c .before .before .args .image .now) (c .before .before .args .page) (c .before .before .args .out .now) (c .if1 .taken)
 
+page-count-requires : tie.Need-page-count-requires
+page-count-requires c κs = search needs
+
 returns-2 : tie.Need-returns-2
 returns-2 c =
-    past (c .before .before .before .args .geometry) (c .before .before .before .args .count) (c .before .before .before .args .image .now) (c .before .before .before .args .page) (c .before .before .before .args .out .now) (c .if2 .taken)
+    let a = c .before .before .before .before .args in
+    past (a .geometry) (a .count) (a .image .now) (a .page) (c .before .page-count .result) (a .out .now) (c .before .page-count .ensures .0) (c .if2 .taken)
 
 image-page-requires : tie.Need-image-page-requires
 image-page-requires c κs = search needs
@@ -52,9 +58,11 @@ read-page-requires c κs = search needs
 
 returns-3 : tie.Need-returns-3
 returns-3 c =
-    let a = c .before .before .before .before .before .before .args in
-    inside (a .geometry) (a .count) (a .image .now) (a .page) (c .before .before .image-page .result) (a .out .now) (c .read-page .last .1 .1 .0) (c .read-page .result) (omega arith) (omega (arith, c .before .before .image-page .ensures)) (c .read-page .ensures)
+    let a = c .before .before .before .before .before .before .before .args in
+    let place = c .before .before in
+    inside (a .geometry) (a .count) (a .image .now) (a .page) (place .image-page .result) (a .out .now) (c .read-page .last .1 .1 .0) (c .read-page .result) (omega arith) (omega (arith, place .image-page .ensures, place .before .before .page-count .ensures)) (c .read-page .ensures)
 
 pub read-slot-spec : {M : Type 1} → statement M
 read-slot-spec =
-    tie.close (tie.spec returns returns-2 image-page-requires read-page-requires returns-3)
+    tie.close
+    (tie.spec returns page-count-requires returns-2 image-page-requires read-page-requires returns-3)
