@@ -125,7 +125,7 @@ impl Refusal {
             Refusal::BadTableName => "the card's list of allocation table clusters is wrong",
             Refusal::BadChain => "the clusters of a file or directory do not hang together",
             Refusal::BadEntry => "a directory entry on the card is wrong",
-            Refusal::BadPath => "this path cannot be used: / or up to four names each after /, of up to 31 plain characters without * and ?; / itself cannot be changed, and a directory has at most three names",
+            Refusal::BadPath => "this path cannot be used: a path is / or up to four names each after /, such as /SAVE/icon.sys, a name up to 31 plain characters without * and ?; / itself cannot be changed, and a directory has at most three names",
             Refusal::Absent => "nothing of that name is on the card",
             Refusal::WrongKind => "a file stands where a directory is needed, or a directory where a file is",
             Refusal::Exists => "something of that name is already on the card",

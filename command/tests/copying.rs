@@ -2,10 +2,10 @@
 
 mod common;
 
-use std::fs;
+use std::fs::{self, File};
 use std::os::unix::fs::symlink;
 
-use common::{Folder, USUAL};
+use common::{Folder, Outcome, USUAL};
 use reader::build::{self, random};
 use reader::{Piece, Refusal};
 
@@ -162,4 +162,54 @@ fn get_taken_back() {
     assert_eq!(String::from_utf8_lossy(&left.stdout), "./card\n");
     folder.run(&["get", "card", "/A", &format!("{deep}y")]).done();
     folder.run(&["get", "card", "/", &format!("{above}y")]).done();
+}
+
+/// A single file goes in under its own name or another; a directory too.
+#[test]
+fn put_as() {
+    let folder = Folder::new();
+    let (mut image, time) = (build::bench(), build::usual_time());
+    folder.write("card", &image);
+    folder.write("note.txt", b"a note");
+    fs::create_dir(folder.path("SAVE")).expect("a folder");
+    folder.write("SAVE/a", b"in it");
+    for words in [&["note.txt"][..], &["note.txt", "--as", "N OTE"], &["SAVE", "--as=S2"], &["./SAVE/."]] {
+        folder.run(&[&["put", "card", "--stamp", USUAL], words].concat()).done();
+    }
+    reader::create(&mut image, b"/note.txt", &time, b"a note").expect("room");
+    reader::create(&mut image, b"/N OTE", &time, b"a note").expect("room");
+    for save in ["/S2", "/SAVE"] {
+        reader::make_dir(&mut image, save.as_bytes(), &time).expect("room");
+        reader::create(&mut image, format!("{save}/a").as_bytes(), &time, b"in it").expect("room");
+    }
+    assert!(folder.read("card") == image);
+    folder.run(&["put", "card", "note.txt"]).refused(Refusal::number(11));
+    for name in ["", ".", "..", "a*", "0123456789012345678901234567890x"] {
+        folder.run(&["put", "card", "note.txt", "--as", name]).refused(Refusal::number(8));
+    }
+    assert!(folder.read("card") == image);
+}
+
+/// What no card can hold is refused before more than that is read: with memory for a few cards only, a file without an
+/// end, a file of a terabyte, and a thousand files of 8 MB.
+#[test]
+fn put_reads_no_more_than_a_card_holds() {
+    let folder = Folder::new();
+    let image = build::standard();
+    folder.write("card", &image);
+    let sparse = |name: &str, length: u64| File::create(folder.path(name)).and_then(|file| file.set_len(length));
+    sparse("huge", 1 << 40).expect("a sparse file");
+    fs::create_dir(folder.path("MANY")).expect("a folder");
+    (0..1000).for_each(|number| sparse(&format!("MANY/{number:03}"), 8_000_000).expect("a sparse file"));
+    let refused = |source: &str, at: &str| {
+        let script = "ulimit -v 200000; exec \"$@\"";
+        let words = ["-c", script, "sh", env!("CARGO_BIN_EXE_ps2card"), "put", "card", source, "--as", "X"];
+        let given = Outcome::of(folder.tool("sh", &words));
+        assert!(given.err.ends_with(&format!(" (card: {at})\n")), "{given:?}");
+        given.refused(Refusal::number(12));
+    };
+    refused("/dev/zero", "/X");
+    refused("huge", "/X");
+    refused("MANY", "/X/001");
+    assert!(folder.read("card") == image && folder.names() == ["MANY", "card", "huge"]);
 }

@@ -9,7 +9,11 @@ use std::path::{Path, PathBuf};
 use std::process::{Child, Command, Output, Stdio};
 use std::sync::atomic::{AtomicUsize, Ordering};
 
-use reader::Refusal;
+use reader::build::{directory, file, Assembly, Layout};
+use reader::content::visit;
+use reader::entry::NO_CLUSTER;
+use reader::tree::Checked;
+use reader::{page, Refusal};
 
 /// The time of the cards that the independent builder makes.
 pub const USUAL: &str = "2000-02-29T12:34:56";
@@ -23,6 +27,14 @@ pub struct Outcome {
 }
 
 impl Outcome {
+    pub fn of(output: Output) -> Outcome {
+        Outcome {
+            status: output.status.code().unwrap_or(-1),
+            out: output.stdout,
+            err: String::from_utf8(output.stderr).expect("text"),
+        }
+    }
+
     /// It did what it was asked, without a word of complaint; its output.
     #[track_caller]
     pub fn done(self) -> Vec<u8> {
@@ -107,12 +119,24 @@ impl Folder {
         let mut child = self.start(words);
         // It need not read them.
         let _ = child.stdin.take().expect("standard input").write_all(input);
-        let output = child.wait_with_output().expect("the command ends");
-        Outcome {
-            status: output.status.code().unwrap_or(-1),
-            out: output.stdout,
-            err: String::from_utf8(output.stderr).expect("text"),
+        Outcome::of(child.wait_with_output().expect("the command ends"))
+    }
+
+    /// Runs it with a system call that fails: "folder sync", "attribute", "owner" or "rename".
+    pub fn run_failing(&self, call: &str, words: &[&str]) -> Outcome {
+        let shim = self.path(".shim.so");
+        if !shim.exists() {
+            let source = Path::new(env!("CARGO_MANIFEST_DIR")).join("tests/c/shim.c");
+            let made = Command::new("cc")
+                .args(["-shared", "-fPIC", "-O1", "-Wall", "-Werror", "-o"])
+                .arg(&shim)
+                .arg(source)
+                .status();
+            assert!(made.expect("cc runs").success());
         }
+        let words: Vec<&[u8]> = words.iter().map(|word| word.as_bytes()).collect();
+        let output = self.command(&words).stdin(Stdio::null()).env("LD_PRELOAD", shim).env("SHIM_FAILS", call).output();
+        Outcome::of(output.expect("the command ends"))
     }
 
     pub fn run(&self, words: &[&str]) -> Outcome {
@@ -130,4 +154,32 @@ impl Drop for Folder {
 /// A time as `--stamp` takes its bytes.
 pub fn raw_stamp(time: &[u8; 8]) -> String {
     time.iter().fold("0x".to_string(), |text, byte| text + &format!("{byte:02x}"))
+}
+
+/// The unreadable pages of every file, by path in tree order, as indices in the image; files without any too.
+pub fn unreadable_pages(image: &[u8]) -> Vec<(Vec<u8>, Vec<usize>)> {
+    let checked = Checked::of(image).expect("an accepted card");
+    let mut files = Vec::new();
+    visit(&checked.root, b"/", &mut |path, node| {
+        if node.inside.is_none() {
+            let pages = (0..(node.entry.length as usize).div_ceil(page::DATA))
+                .map(|index| checked.card.slot_page(&node.chain, index));
+            files.push((path.to_vec(), pages.filter(|&page| page::read(image, page).is_none()).collect()));
+        }
+    });
+    files
+}
+
+/// A card with so many empty files in the directory `/SAVE`, `file0000` and on; an even number.
+pub fn crowd(entries: usize) -> Vec<u8> {
+    let mut card = Assembly::new(Layout::standard());
+    card.directory(&[0, 1], 3);
+    let chain: Vec<usize> = (2..2 + (entries + 2) / 2).collect();
+    card.put(1, 0, &directory(b"SAVE", entries as u32 + 2, chain[0] as u32));
+    card.directory(&chain, entries as u32 + 2);
+    for number in 0..entries {
+        let slot = number + 2;
+        card.put(chain[slot / 2], slot % 2, &file(format!("file{number:04}").as_bytes(), 0, NO_CLUSTER));
+    }
+    card.finish()
 }

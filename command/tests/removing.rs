@@ -1,0 +1,100 @@
+//! rm -r: a whole save goes as one change, or nothing does.
+
+mod common;
+
+use std::fs;
+use std::thread::sleep;
+use std::time::Instant;
+
+use common::Folder;
+use reader::build::{self, bad, random};
+use reader::rng::Rng;
+use reader::{paths, Refusal, Tree};
+
+/// Removes a path and all below it by the reader's own single changes, the deepest last name first.
+fn remove_all(image: &mut [u8], path: &[u8]) -> usize {
+    let tree = reader::tree(image).expect("accepted");
+    let below: Vec<_> = tree.iter().filter(|(other, _)| paths::is_beginning(path, other)).collect();
+    for (path, item) in below.iter().rev() {
+        let done = if item.is_directory { reader::remove_dir(image, path) } else { reader::delete(image, path) };
+        done.expect("it is there");
+    }
+    below.len()
+}
+
+/// Every file and directory of random cards: what stays is the tree without it, every cluster of it is free, and the
+/// image is the one that single changes leave.
+#[test]
+fn random_cards() {
+    let folder = Folder::new();
+    let (mut files, mut directories, mut most) = (0, 0, 0);
+    for seed in 0..30 {
+        let mut rng = Rng::new(seed);
+        let image = random::sized(seed, 8 * rng.between(4, 40)).image;
+        let tree = reader::tree(&image).expect("accepted");
+        for path in tree.keys().filter(|path| *path != b"/" && rng.chance(1, 3)) {
+            folder.write("card", &image);
+            folder.feed(&[b"rm", b"-r", b"card", path], b"").done();
+            let mut expected = image.clone();
+            let removed = remove_all(&mut expected, path);
+            assert!(folder.read("card") == expected, "seed {seed} {}", path.escape_ascii());
+            let rest: Tree = tree.clone().into_iter().filter(|(other, _)| !paths::is_beginning(path, other)).collect();
+            assert_eq!(reader::tree(&expected).expect("accepted"), rest);
+            *(if tree[path].is_directory { &mut directories } else { &mut files }) += 1;
+            most = most.max(removed);
+        }
+    }
+    println!("{files} files, {directories} directories, up to {most} entries");
+    assert!(files > 50 && directories > 20 && most > 8, "{files} {directories} {most}");
+}
+
+#[test]
+fn refusals() {
+    let folder = Folder::new();
+    let mut image = build::bench();
+    let time = build::usual_time();
+    reader::make_dir(&mut image, b"/d", &time).expect("room");
+    reader::create(&mut image, b"/d/f", &time, b"bytes").expect("room");
+    let card = folder.write("card", &image);
+    let was = fs::metadata(&card).expect("there").modified().expect("a time");
+    for (path, number) in [("/", 8), ("d", 8), ("/x", 9), ("/d/f/x", 10), ("/d/x", 9)] {
+        let given = folder.run(&["rm", "-r", "card", path]);
+        assert!(given.err.ends_with(&format!(" (card: {path})\n")), "{given:?}");
+        given.refused(Refusal::number(number));
+    }
+    folder.run(&["rm", "card", "/d"]).refused(Refusal::number(10));
+    assert_eq!((folder.read("card"), fs::metadata(&card).expect("there").modified().expect("a time")), (image, was));
+    for bad in bad::all() {
+        folder.write("card", &bad.image);
+        folder.run(&["rm", "-r", "card", "/d"]).refused(bad.refusal);
+        assert_eq!(folder.read("card"), bad.image);
+    }
+}
+
+/// Killed at any moment, all of the save is there or nothing of it.
+#[test]
+fn killed() {
+    let folder = Folder::new();
+    let old = build::crowded();
+    let mut new = old.clone();
+    remove_all(&mut new, b"/SAVE07");
+    let words: [&[u8]; 4] = [b"rm", b"-r", b"card", b"/SAVE07"];
+    folder.write("card", &old);
+    let start = Instant::now();
+    folder.feed(&words, b"").done();
+    let mut middle = start.elapsed();
+    let (mut rng, mut kept, mut gone) = (Rng::new(8), 0, 0);
+    for _ in 0..25 {
+        folder.write("card", &old);
+        let mut child = folder.start(&words);
+        sleep(middle * rng.between(500, 1500) as u32 / 1000);
+        child.kill().expect("a kill");
+        child.wait().expect("an end");
+        let image = folder.read("card");
+        assert!(image == old || image == new, "a part of the save");
+        middle = middle * if image == new { 9 } else { 11 } / 10;
+        *(if image == new { &mut gone } else { &mut kept }) += 1;
+    }
+    println!("{kept} kept, {gone} gone");
+    assert!(kept > 4 && gone > 4, "{kept} kept, {gone} gone");
+}
