@@ -58,9 +58,17 @@ pub fn read_limited(source: impl Read) -> io::Result<Vec<u8>> {
     Ok(bytes)
 }
 
-/// The card in a file.
+/// The card in a file. What another program writes while it is read would be half old and half new: that is an error.
 pub fn load(path: &Path) -> io::Result<Card> {
-    Ok(Card::new(read_limited(File::open(path)?)?))
+    let file = File::open(path)?;
+    let before = file.metadata()?;
+    let image = read_limited(&file)?;
+    let after = file.metadata()?;
+    // A pipe's times move as it is read.
+    match before.is_file() && (before.len(), before.modified()?) != (after.len(), after.modified()?) {
+        true => Err(io::Error::other("another program is writing it")),
+        false => Ok(Card::new(image)),
+    }
 }
 
 /// Makes a change of the card in a file, alone under its lock. A refusal or a host error leaves the file as it was, and

@@ -65,9 +65,9 @@ fn standard_output_full_or_closed() {
         &[b"--help"],
     ];
     for words in runs {
-        let mut child = folder.start(words);
-        drop(child.stdout.take());
-        let output = child.wait_with_output().expect("it ends");
+        let (reader, writer) = std::io::pipe().expect("a pipe");
+        drop(reader);
+        let output = folder.command(words).stdout(writer).output().expect("it ends");
         assert_eq!((output.status.code(), output.stderr), (Some(3), Vec::new()), "{words:?}");
         let output = folder.command(words).stdout(full()).output().expect("it ends");
         let err = String::from_utf8(output.stderr).expect("text");

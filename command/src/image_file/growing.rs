@@ -14,7 +14,7 @@ use super::lock::{is_at, try_lock};
 /// How the hidden names begin; the process and a number follow.
 const HIDDEN: &str = ".ps2card-new-";
 
-/// Open neither what a link names nor wait for the other end of a pipe.
+/// O_NOFOLLOW, O_NONBLOCK: open nothing that a link names, and wait for nobody at a pipe's other end.
 const CAREFUL: c_int = 0o400_000 | 0o4_000;
 
 extern "C" {
@@ -150,7 +150,11 @@ fn sweep_one(at: &Path) -> io::Result<()> {
     if kind.is_symlink() {
         return fs::remove_file(at);
     }
-    let held = OpenOptions::new().read(true).custom_flags(CAREFUL).open(at)?;
+    if !kind.is_dir() && !kind.is_file() {
+        return Ok(());
+    }
+    // A network's lock may ask for a file that is open for writing.
+    let held = OpenOptions::new().read(true).write(kind.is_file()).custom_flags(CAREFUL).open(at)?;
     if try_lock(&held)? && is_at(&held, at) {
         remove(at, kind.is_dir());
     }
