@@ -95,9 +95,8 @@ tell_progress() {
     done
 }
 how_far() {
-    local rest=$left minutes
-    # By how fast it has been so far.
-    [ "$past" -eq 0 ] || rest=$((left * (SECONDS - began) / past))
+    # By the pace so far, beside a minute of the usual one, so that the first crates do not decide it.
+    local rest=$((left * (past > 0 ? SECONDS - began + 60 : 60) / (past + 60))) minutes
     minutes=$(((rest + 59) / 60))
     if [ "$done" -lt "$total" ]; then
         say "proving the library: crate $((done + 1)) of $total, about $minutes minute$([ "$minutes" -eq 1 ] || echo s)"

@@ -92,8 +92,7 @@ fn first_use() {
     // 150 seconds for the proofs of the middle crate, and four for each crate and for the archive.
     assert_eq!(lines[0], "ps2card: proving the library: crate 1 of 3, about 3 minutes");
     assert_eq!(lines[1], "ps2card: proving the library: crate 2 of 3, about 3 minutes");
-    // The middle one was proved at once here, so the last is thought to be.
-    assert!(lines[2].starts_with("ps2card: proving the library: crate 3 of 3, about "), "{err}");
+    assert_eq!(lines[2], "ps2card: proving the library: crate 3 of 3, about 1 minute");
     assert_eq!(lines[3..], ["ps2card: the library is proved, compiling it ...", "ps2card: compiling the command ..."]);
     assert!(fs::read_to_string(folder.path("build/library.log")).expect("a log").contains("has the functions"));
 
