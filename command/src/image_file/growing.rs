@@ -33,15 +33,22 @@ pub struct Growing {
 }
 
 impl Growing {
-    /// A hidden empty file in the target's folder. The mode is cut by the user's mask.
+    /// A hidden empty file in the target's folder, open to write and to read back. The mode is cut by the user's mask.
     pub fn file(target: &Path, mode: u32) -> io::Result<Growing> {
-        let make = |at: &Path| OpenOptions::new().write(true).create_new(true).mode(mode).open(at);
+        let make = |at: &Path| OpenOptions::new().read(true).write(true).create_new(true).mode(mode).open(at);
         Growing::new(target, false, &make)
     }
 
     /// A hidden empty directory in the target's folder.
     pub fn directory(target: &Path) -> io::Result<Growing> {
-        let make = |at: &Path| DirBuilder::new().create(at).and_then(|()| File::open(at));
+        let make = |at: &Path| {
+            DirBuilder::new().create(at)?;
+            // Who sweeps the folder may have taken it away: then the next name, as for one that is taken.
+            File::open(at).map_err(|error| match error.kind() {
+                io::ErrorKind::NotFound => io::ErrorKind::AlreadyExists.into(),
+                _ => error,
+            })
+        };
         Growing::new(target, true, &make)
     }
 
