@@ -47,8 +47,9 @@ writable() { mkdir -p "$1" 2>/dev/null && (: >"$1/.ps2card-$$") 2>/dev/null && r
 
 # One build at a time; who waited finds it done.
 hold() {
+    local lock=$home/build/ps2card.lock
     writable "$home/build" || fail "cannot write to $home/build, where the command is compiled"
-    exec 9>"$home/build/ps2card.lock"
+    { exec 9>"$lock"; } 2>/dev/null || fail "cannot write to $lock"
     flock -n 9 || { say "waiting for another build ..."; in_group flock 9; }
 }
 
@@ -117,7 +118,7 @@ build_library() {
     need rt "the Rattle kit proves the library"
     writable "$home/target" || fail "cannot write to $home/target, where the library is proved"
     local log=$home/build/library.log
-    : >"$log"
+    { : >"$log"; } 2>/dev/null || fail "cannot write to $log"
     if ! in_group prove "$log"; then
         grep -E 'NOT PROVED|: error|^rt: ' "$log" | grep -v ' proved (' | tail -n 5 >&2 || true
         fail "the library is not proved; $log has what rt said"

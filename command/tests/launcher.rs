@@ -148,6 +148,15 @@ fn unwritable() {
         assert!(err.starts_with("ps2card: cannot write to ") && err.contains(blocked), "{err}");
         assert!(!folder.path("tools/rt.called").exists());
     }
+    // A file of the launcher's own that cannot be written.
+    for blocked in ["build/ps2card.lock", "build/library.log"] {
+        let folder = repository("#!/bin/sh\nexit 1\n");
+        fs::create_dir_all(folder.path(blocked)).expect("a folder in its place");
+        let output = launch(&folder, &["ls"]).output().expect("it runs");
+        let (out, err) = texts(&output);
+        assert_eq!((output.status.code(), out.as_str(), err.lines().count()), (Some(3), "", 1), "{err}");
+        assert!(err.starts_with("ps2card: cannot write to ") && err.contains(blocked), "{err}");
+    }
 }
 
 /// Whether a process runs; one that has ended and waits to be counted does not.
