@@ -78,8 +78,6 @@ tell_progress() {
         left=$((left + seconds[$name]))
         total=$((total + 1))
     done
-    # The archive is compiled once more when all is proved.
-    left=$((left + seconds[ps2card]))
     how_far
     while IFS= read -r line; do
         echo "$line" >>"$log"
@@ -99,11 +97,8 @@ how_far() {
     # By the pace so far, beside a minute of the usual one, so that the first crates do not decide it.
     local rest=$((left * (past > 0 ? SECONDS - began + 60 : 60) / (past + 60))) minutes
     minutes=$(((rest + 59) / 60))
-    if [ "$done" -lt "$total" ]; then
-        say "proving the library: crate $((done + 1)) of $total, about $minutes minute$([ "$minutes" -eq 1 ] || echo s)"
-    else
-        say "the library is proved, compiling it ..."
-    fi
+    # rt says nothing of the last crate but that its archive is there.
+    say "proving the library: crate $((done + 1)) of $total, about $minutes minute$([ "$minutes" -eq 1 ] || echo s)"
 }
 
 prove() {

@@ -22,7 +22,6 @@ echo 'rt: low proved (unchanged since it was last proved)'
 echo 'fn low::f: proved'
 echo '/crates/middle/proofs/f/Proof.antt:1:1: note: large solution'
 echo 'rt: middle proved (3 s)'
-echo 'rt: ps2card proved (4 s)'
 mkdir -p target/staticlib
 echo archive >target/staticlib/libps2card.a
 echo 'logic=proved functions=13'
@@ -88,12 +87,12 @@ fn first_use() {
     let (out, err) = texts(&output);
     assert_eq!((output.status.code(), out.as_str()), (Some(0), "ran ls a card\n"), "{err}");
     let lines: Vec<&str> = err.lines().collect();
-    assert_eq!(lines.len(), 5, "{err}");
-    // 150 seconds for the proofs of the middle crate, and four for each crate and for the archive.
+    assert_eq!(lines.len(), 4, "{err}");
+    // 150 seconds for the proofs of the middle crate, and four for each crate.
     assert_eq!(lines[0], "ps2card: proving the library: crate 1 of 3, about 3 minutes");
     assert_eq!(lines[1], "ps2card: proving the library: crate 2 of 3, about 3 minutes");
     assert_eq!(lines[2], "ps2card: proving the library: crate 3 of 3, about 1 minute");
-    assert_eq!(lines[3..], ["ps2card: the library is proved, compiling it ...", "ps2card: compiling the command ..."]);
+    assert_eq!(lines[3], "ps2card: compiling the command ...");
     assert!(fs::read_to_string(folder.path("build/library.log")).expect("a log").contains("has the functions"));
 
     let again = launch(&folder, &["ls"]).output().expect("it runs");
