@@ -119,7 +119,14 @@ fn not_proved() {
 fn words_without_a_proof() {
     let folder = repository("#!/bin/sh\nexit 1\n");
     fs::remove_file(folder.path("tools/cargo")).expect("no cargo");
-    for words in [&["--help"][..], &["-h"], &["help"], &["--version"], &["-V"], &[]] {
+    let help = Path::new(ROOT).join("command/src/help");
+    for text in fs::read_dir(&help).expect("the texts") {
+        let name = text.expect("a text").file_name();
+        fs::copy(help.join(&name), folder.path("command/src/help").join(&name)).expect("a copy");
+    }
+    let general = [&["--help"][..], &["-h"], &["help"], &["--version"], &["-V"], &[]];
+    let of_one = [&["put", "--help"][..], &["put", "-h", "x"], &["help", "put"], &["rm", "--help"], &["help", "df"]];
+    for words in general.into_iter().chain(of_one) {
         let told = launch(&folder, words).output().expect("it runs");
         let real = Command::new(env!("CARGO_BIN_EXE_ps2card")).args(words).output().expect("it runs");
         assert_eq!((texts(&told), told.status), (texts(&real), real.status), "{words:?}");
