@@ -16,26 +16,11 @@ ghost use Rattle.ps2card.specs.Answer.{numberIn, pageAfter, pageLeft, va
 pub(crate) fn tell_refusal(refusal: Refusal, page: &mut usize) -> u32
     ensures { λ r. ⌜ (r ≡ numberOf refusal) × (now (page .exit) ≡ pageLeft (numberOf refusal) (pageOf refusal) (now (page .entry))) ⌝ }
 {
-    match refusal {
-        Refusal::BadLength => 1,
-        Refusal::UnreadablePage(p) => {
-            *page = p;
-            2
-        }
-        Refusal::BadText => 3,
-        Refusal::BadSuperblock => 4,
-        Refusal::BadTableName => 5,
-        Refusal::BadChain => 6,
-        Refusal::BadEntry => 7,
-        Refusal::BadPath => 8,
-        Refusal::BadTime => 14,
-        Refusal::Absent => 9,
-        Refusal::WrongKind => 10,
-        Refusal::Exists => 11,
-        Refusal::NotEmpty => 13,
-        Refusal::BadOffset => 15,
-        Refusal::NoRoom => 12,
+    let number = refusal.number();
+    if number == 2 {
+        *page = refusal.page();
     }
+    number
 }
 
 // The check of a card: N, free, reached and orphaned; a refusal leaves them as they were.
