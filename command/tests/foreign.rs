@@ -19,7 +19,7 @@ use reader::build;
 fn slow(folder: &Folder) -> Vec<&'static [u8]> {
     if !folder.path("SAVE").exists() {
         fs::create_dir(folder.path("SAVE")).expect("a folder");
-        (0..60).for_each(|number| drop(folder.write(&format!("SAVE/f{number:02}"), b"a file")));
+        (0..120).for_each(|number| drop(folder.write(&format!("SAVE/f{number:03}"), b"a file")));
     }
     vec![b"put", b"card", b"SAVE", b"--stamp", USUAL.as_bytes()]
 }
@@ -171,7 +171,7 @@ fn waits_for_whom() {
     let held = File::open(folder.path("card")).expect("the image");
     held.lock().expect("the lock");
     let child = folder.start(&[b"mkdir", b"card", b"/late"]);
-    sleep(Duration::from_millis(1600));
+    sleep(Duration::from_millis(2500));
     drop(held);
     let given = end(child);
     let process = std::process::id();

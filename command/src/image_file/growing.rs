@@ -100,7 +100,8 @@ impl Growing {
     fn place_without_it(&self, target: &Path) -> io::Result<()> {
         if !self.is_directory {
             match fs::hard_link(&self.at, target) {
-                Ok(()) => return fs::remove_file(&self.at),
+                // It has its name; a hidden one that stays is swept by the next run.
+                Ok(()) => return fs::remove_file(&self.at).or(Ok(())),
                 Err(error) if error.kind() == io::ErrorKind::AlreadyExists => return Err(error),
                 Err(_) => {}
             }
