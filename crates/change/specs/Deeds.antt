@@ -62,7 +62,7 @@ pub record Listed (table list : List ℕ) (need : ℕ) : Type 0 where
   pub room : need ≤ length list
 
 -- as many clusters as the data needs, and pages that land
-pub record Fits (s : Superblock) (image table growth taken bytes : List ℕ) (directory own : PageWrite) : Type 0 where
+pub record CanPut (s : Superblock) (image table growth taken bytes : List ℕ) (directory own : PageWrite) : Type 0 where
   pub card : Open s image table
   pub one : length growth ≤ 1
   pub filled : length taken ≡ clustersFor (length bytes)

@@ -120,7 +120,7 @@ fn first_entries(first: u32, number: u32, time: &[u8]) -> [u8; 1024]
     two_pages(&dot, &up)
 }
 
-// Creates a file in a directory, or makes a directory there: of length 2, with its first two entries.
+// Creates a file in a directory or, with the flag, makes a directory there: of length 2, with its first two entries.
 pub(crate) fn add_in(
     image: &mut [u8],
     table: &mut [u32],
