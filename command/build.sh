@@ -47,8 +47,9 @@ writable() { mkdir -p "$1" 2>/dev/null && (: >"$1/.ps2card-$$") 2>/dev/null && r
 
 # One build at a time; who waited finds it done.
 hold() {
+    local lock=$home/build/ps2card.lock
     writable "$home/build" || fail "cannot write to $home/build, where the command is compiled"
-    exec 9>"$home/build/ps2card.lock"
+    { exec 9>"$lock"; } 2>/dev/null || fail "cannot write to $lock"
     flock -n 9 || { say "waiting for another build ..."; in_group flock 9; }
 }
 
@@ -77,8 +78,6 @@ tell_progress() {
         left=$((left + seconds[$name]))
         total=$((total + 1))
     done
-    # The archive is compiled once more when all is proved.
-    left=$((left + seconds[ps2card]))
     how_far
     while IFS= read -r line; do
         echo "$line" >>"$log"
@@ -95,15 +94,11 @@ tell_progress() {
     done
 }
 how_far() {
-    local rest=$left minutes
-    # By how fast it has been so far.
-    [ "$past" -eq 0 ] || rest=$((left * (SECONDS - began) / past))
+    # By the pace so far, beside a minute of the usual one, so that the first crates do not decide it.
+    local rest=$((left * (past > 0 ? SECONDS - began + 60 : 60) / (past + 60))) minutes
     minutes=$(((rest + 59) / 60))
-    if [ "$done" -lt "$total" ]; then
-        say "proving the library: crate $((done + 1)) of $total, about $minutes minute$([ "$minutes" -eq 1 ] || echo s)"
-    else
-        say "the library is proved, compiling it ..."
-    fi
+    # rt says nothing of the last crate but that its archive is there.
+    say "proving the library: crate $((done + 1)) of $total, about $minutes minute$([ "$minutes" -eq 1 ] || echo s)"
 }
 
 prove() {
@@ -118,7 +113,7 @@ build_library() {
     need rt "the Rattle kit proves the library"
     writable "$home/target" || fail "cannot write to $home/target, where the library is proved"
     local log=$home/build/library.log
-    : >"$log"
+    { : >"$log"; } 2>/dev/null || fail "cannot write to $log"
     if ! in_group prove "$log"; then
         grep -E 'NOT PROVED|: error|^rt: ' "$log" | grep -v ' proved (' | tail -n 5 >&2 || true
         fail "the library is not proved; $log has what rt said"

@@ -1,5 +1,19 @@
 //! Image files on the host. A change never writes into the image: a whole new file takes its place, so that a cut at
 //! any moment leaves the old image or the new one, and a lock lets one change at a time through.
+//!
+//! ```
+//! use ps2card::{image_file, Card, Stamp};
+//!
+//! let folder = std::env::temp_dir().join(format!("ps2card-example-{}", std::process::id()));
+//! std::fs::create_dir(&folder)?;
+//! let path = folder.join("card.ps2");
+//! let mut tell = |notice| eprintln!("{notice:?}");
+//! image_file::create(&path, &mut tell, &Card::fresh(56, &Stamp::now())?)?;
+//! image_file::change(&path, &mut tell, |card| Ok(card.make_dir(b"/SAVE", &Stamp::now())?))?;
+//! assert_eq!(image_file::load(&path)?.tree()?.len(), 1);
+//! std::fs::remove_dir_all(&folder)?;
+//! # Ok::<(), Box<dyn std::error::Error>>(())
+//! ```
 
 mod attributes;
 mod growing;
@@ -58,9 +72,17 @@ pub fn read_limited(source: impl Read) -> io::Result<Vec<u8>> {
     Ok(bytes)
 }
 
-/// The card in a file.
+/// The card in a file. What another program writes while it is read would be half old and half new: that is an error.
 pub fn load(path: &Path) -> io::Result<Card> {
-    Ok(Card::new(read_limited(File::open(path)?)?))
+    let file = File::open(path)?;
+    let before = file.metadata()?;
+    let image = read_limited(&file)?;
+    let after = file.metadata()?;
+    // A pipe's times move as it is read.
+    match before.is_file() && (before.len(), before.modified()?) != (after.len(), after.modified()?) {
+        true => Err(io::Error::other("another program is writing it")),
+        false => Ok(Card::new(image)),
+    }
 }
 
 /// Makes a change of the card in a file, alone under its lock. A refusal or a host error leaves the file as it was, and
@@ -104,8 +126,10 @@ pub fn create(path: &Path, tell: Tell, card: &Card) -> Result<(), Error> {
 
 /// Syncs a new file, reads it back and checks it by the library.
 fn written(new: &Growing, card: &Card) -> Result<(), Error> {
-    new.handle().sync_all()?;
-    let read_back = load(new.at())?;
+    let mut file = new.handle();
+    file.sync_all()?;
+    file.rewind()?;
+    let read_back = Card::new(read_limited(file)?);
     if read_back.image() != card.image() {
         return Err(io::Error::other("what was written reads back differently").into());
     }

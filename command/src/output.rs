@@ -20,10 +20,13 @@ struct Progress {
     of: usize,
     /// How wide the line is that stands on the terminal now.
     width: usize,
+    /// Somebody may be typing: the terminal is theirs.
+    typing: bool,
     over: bool,
 }
 
-static PROGRESS: Mutex<Progress> = Mutex::new(Progress { doing: String::new(), done: 0, of: 0, width: 0, over: false });
+static PROGRESS: Mutex<Progress> =
+    Mutex::new(Progress { doing: String::new(), done: 0, of: 0, width: 0, typing: false, over: false });
 
 fn progress() -> MutexGuard<'static, Progress> {
     PROGRESS.lock().unwrap_or_else(PoisonError::into_inner)
@@ -58,7 +61,7 @@ pub fn watch(doing: &str) {
         if progress.over {
             return;
         }
-        if start.elapsed() >= PATIENCE {
+        if start.elapsed() >= PATIENCE && !progress.typing {
             progress.draw();
         }
     });
@@ -67,6 +70,14 @@ pub fn watch(doing: &str) {
 fn is_pipe(stream: &impl AsFd) -> io::Result<bool> {
     let file = File::from(stream.as_fd().try_clone_to_owned()?);
     Ok(file.metadata()?.file_type().is_fifo())
+}
+
+/// Reads standard input, which may be the terminal, without a word in between.
+pub fn while_typing<T>(read: impl FnOnce() -> T) -> T {
+    progress().typing = true;
+    let answer = read();
+    progress().typing = false;
+    answer
 }
 
 /// So many steps are ahead.

@@ -94,7 +94,7 @@ fn judge(folder: &Folder, images: [&[u8]; 2], seen: &mut BTreeMap<String, usize>
 }
 
 /// A field of a random entry altered, or a page of a random file broken.
-fn tamper(image: &mut Vec<u8>, rng: &mut Rng) {
+fn tamper(image: &mut [u8], rng: &mut Rng) {
     let checked = Checked::of(image).expect("accepted");
     let (mut nodes, mut paths) = (Vec::new(), Vec::new());
     reader::content::visit(&checked.root, b"/", &mut |path, node| {

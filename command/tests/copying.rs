@@ -201,6 +201,8 @@ fn put_reads_no_more_than_a_card_holds() {
     sparse("huge", 1 << 40).expect("a sparse file");
     fs::create_dir(folder.path("MANY")).expect("a folder");
     (0..1000).for_each(|number| sparse(&format!("MANY/{number:03}"), 8_000_000).expect("a sparse file"));
+    // It would be refused where it is looked at, and it is not.
+    assert!(folder.tool("mkfifo", &["MANY/zzz"]).status.success());
     let refused = |source: &str, at: &str| {
         let script = "ulimit -v 200000; exec \"$@\"";
         let words = ["-c", script, "sh", env!("CARGO_BIN_EXE_ps2card"), "put", "card", source, "--as", "X"];

@@ -8,6 +8,7 @@ use std::io::{Seek, SeekFrom, Write};
 use std::os::unix::fs::{MetadataExt, PermissionsExt};
 use std::path::Path;
 use std::process::Child;
+use std::sync::atomic::{AtomicBool, Ordering};
 use std::thread::sleep;
 use std::time::{Duration, Instant};
 
@@ -94,6 +95,41 @@ fn seen_and_left_alone() {
     // Left alone, the same change goes through.
     folder.write("card", &old);
     folder.feed(&words, b"").done();
+}
+
+/// An image that is written while it is read is not taken for a card; one that is replaced whole is.
+#[test]
+fn written_while_read() {
+    let folder = Folder::new();
+    let image = build::standard();
+    let card = folder.write("card", &image);
+    let over = AtomicBool::new(false);
+    let (mut done, mut told) = (0, 0);
+    std::thread::scope(|scope| {
+        scope.spawn(|| {
+            let mut file = File::options().write(true).open(&card).expect("open");
+            while !over.load(Ordering::Relaxed) {
+                file.rewind().and_then(|()| file.write_all(&image[..528])).expect("written");
+                sleep(Duration::from_micros(200));
+            }
+        });
+        for _ in 0..50 {
+            let given = folder.run(&["check", "card"]);
+            match given.status {
+                0 => done += 1,
+                _ => drop((given.failed(3, "cannot read card: another program is writing it"), told += 1)),
+            }
+        }
+        over.store(true, Ordering::Relaxed);
+    });
+    println!("{done} read, {told} told");
+    assert!(told > 0);
+    let mut children: Vec<_> =
+        (0..5).map(|number| folder.start(&[b"mkdir", b"card", format!("/D{number}").as_bytes()])).collect();
+    for _ in 0..20 {
+        folder.run(&["check", "card"]).done();
+    }
+    children.iter_mut().for_each(|child| assert!(child.wait().expect("an end").success()));
 }
 
 /// A look, however often, is no change.

@@ -228,6 +228,27 @@ fn constants() {
     assert_eq!(defined("PS2CARD_MOST_BYTES"), format!("({} * PS2CARD_CLUSTER_BYTES)", MOST_BYTES / cluster));
 }
 
+/// The mode bits of what a change makes, as the header gives them.
+#[test]
+fn modes() {
+    let time = Stamp(build::usual_time());
+    let mut card = Card::new(build::bench());
+    card.make_dir(b"/D", &time).expect("room");
+    card.create(b"/F", &time, b"").expect("room");
+    let bit = |name: &str| {
+        let rest = header().split_once(&format!("PS2CARD_MODE_{name} = 0x")).expect("a bit").1;
+        u16::from_str_radix(&rest[..4], 16).expect("four digits")
+    };
+    let kinds = bit("EXISTS") | bit("FILE") | bit("DIRECTORY");
+    for (path, kind, told) in
+        [(b"/F", "FILE", "new\n * file has the mode 0x"), (b"/D", "DIRECTORY", "a new directory 0x")]
+    {
+        let mode = card.find(path).expect("an entry").mode;
+        assert_eq!(mode & kinds, bit("EXISTS") | bit(kind));
+        assert!(header().contains(&format!("{told}{mode:x}")), "{mode:x}");
+    }
+}
+
 const KNOWN: [Refusal; 15] = [
     Refusal::BadLength,
     Refusal::UnreadablePage(0),

@@ -22,7 +22,6 @@ echo 'rt: low proved (unchanged since it was last proved)'
 echo 'fn low::f: proved'
 echo '/crates/middle/proofs/f/Proof.antt:1:1: note: large solution'
 echo 'rt: middle proved (3 s)'
-echo 'rt: ps2card proved (4 s)'
 mkdir -p target/staticlib
 echo archive >target/staticlib/libps2card.a
 echo 'logic=proved functions=13'
@@ -88,13 +87,12 @@ fn first_use() {
     let (out, err) = texts(&output);
     assert_eq!((output.status.code(), out.as_str()), (Some(0), "ran ls a card\n"), "{err}");
     let lines: Vec<&str> = err.lines().collect();
-    assert_eq!(lines.len(), 5, "{err}");
-    // 150 seconds for the proofs of the middle crate, and four for each crate and for the archive.
+    assert_eq!(lines.len(), 4, "{err}");
+    // 150 seconds for the proofs of the middle crate, and four for each crate.
     assert_eq!(lines[0], "ps2card: proving the library: crate 1 of 3, about 3 minutes");
     assert_eq!(lines[1], "ps2card: proving the library: crate 2 of 3, about 3 minutes");
-    // The middle one was proved at once here, so the last is thought to be.
-    assert!(lines[2].starts_with("ps2card: proving the library: crate 3 of 3, about "), "{err}");
-    assert_eq!(lines[3..], ["ps2card: the library is proved, compiling it ...", "ps2card: compiling the command ..."]);
+    assert_eq!(lines[2], "ps2card: proving the library: crate 3 of 3, about 1 minute");
+    assert_eq!(lines[3], "ps2card: compiling the command ...");
     assert!(fs::read_to_string(folder.path("build/library.log")).expect("a log").contains("has the functions"));
 
     let again = launch(&folder, &["ls"]).output().expect("it runs");
@@ -121,7 +119,14 @@ fn not_proved() {
 fn words_without_a_proof() {
     let folder = repository("#!/bin/sh\nexit 1\n");
     fs::remove_file(folder.path("tools/cargo")).expect("no cargo");
-    for words in [&["--help"][..], &["-h"], &["help"], &["--version"], &["-V"], &[]] {
+    let help = Path::new(ROOT).join("command/src/help");
+    for text in fs::read_dir(&help).expect("the texts") {
+        let name = text.expect("a text").file_name();
+        fs::copy(help.join(&name), folder.path("command/src/help").join(&name)).expect("a copy");
+    }
+    let general = [&["--help"][..], &["-h"], &["help"], &["--version"], &["-V"], &[]];
+    let of_one = [&["put", "--help"][..], &["put", "-h", "x"], &["help", "put"], &["rm", "--help"], &["help", "df"]];
+    for words in general.into_iter().chain(of_one) {
         let told = launch(&folder, words).output().expect("it runs");
         let real = Command::new(env!("CARGO_BIN_EXE_ps2card")).args(words).output().expect("it runs");
         assert_eq!((texts(&told), told.status), (texts(&real), real.status), "{words:?}");
@@ -141,6 +146,15 @@ fn unwritable() {
         assert_eq!((output.status.code(), out.as_str(), err.lines().count()), (Some(3), "", 1), "{err}");
         assert!(err.starts_with("ps2card: cannot write to ") && err.contains(blocked), "{err}");
         assert!(!folder.path("tools/rt.called").exists());
+    }
+    // A file of the launcher's own that cannot be written.
+    for blocked in ["build/ps2card.lock", "build/library.log"] {
+        let folder = repository("#!/bin/sh\nexit 1\n");
+        fs::create_dir_all(folder.path(blocked)).expect("a folder in its place");
+        let output = launch(&folder, &["ls"]).output().expect("it runs");
+        let (out, err) = texts(&output);
+        assert_eq!((output.status.code(), out.as_str(), err.lines().count()), (Some(3), "", 1), "{err}");
+        assert!(err.starts_with("ps2card: cannot write to ") && err.contains(blocked), "{err}");
     }
 }
 

@@ -3,10 +3,11 @@
 mod common;
 
 use std::fs::{File, OpenOptions};
-use std::io::Read;
+use std::io::{Read, Write};
 use std::os::fd::{FromRawFd, OwnedFd};
 use std::os::raw::{c_int, c_void};
 use std::process::{Command, Stdio};
+use std::thread::sleep;
 use std::time::{Duration, Instant};
 
 use common::{crowd, Folder, Outcome};
@@ -65,9 +66,9 @@ fn standard_output_full_or_closed() {
         &[b"--help"],
     ];
     for words in runs {
-        let mut child = folder.start(words);
-        drop(child.stdout.take());
-        let output = child.wait_with_output().expect("it ends");
+        let (reader, writer) = std::io::pipe().expect("a pipe");
+        drop(reader);
+        let output = folder.command(words).stdout(writer).output().expect("it ends");
         assert_eq!((output.status.code(), output.stderr), (Some(3), Vec::new()), "{words:?}");
         let output = folder.command(words).stdout(full()).output().expect("it ends");
         let err = String::from_utf8(output.stderr).expect("text");
@@ -171,6 +172,27 @@ fn on_terminal(folder: &Folder, words: &[&[u8]], output: Option<Stdio>) -> (Stri
     let _ = master.read_to_end(&mut shown);
     assert!(child.wait().expect("an end").success());
     (String::from_utf8(shown).expect("text"), start.elapsed())
+}
+
+/// Who types the bytes at the terminal is left in peace, however long it takes.
+#[test]
+fn no_progress_while_typing() {
+    let folder = Folder::new();
+    folder.write("card", &build::bench());
+    let (mut master, slave) = terminal();
+    let mut command = folder.command(&[b"create", b"card", b"/A", b"-"]);
+    command.stdout(slave.try_clone().expect("another")).stderr(slave);
+    let mut child = command.spawn().expect("it starts");
+    drop(command);
+    sleep(Duration::from_millis(1700));
+    child.stdin.take().expect("standard input").write_all(b"typed").expect("read");
+    let mut shown = Vec::new();
+    let _ = master.read_to_end(&mut shown);
+    assert!(child.wait().expect("an end").success());
+    assert_eq!(
+        (String::from_utf8_lossy(&shown).as_ref(), folder.run(&["cat", "card", "/A"]).done()),
+        ("", b"typed".to_vec())
+    );
 }
 
 /// What takes longer than a second says how far it is, on a terminal alone, and clears its line.

@@ -83,7 +83,6 @@ impl Pair<'_> {
         self.values("kind", [one.kind, other.kind], |kind| kind_word(*kind).to_string(), path)?;
         if !bytes_only {
             let [a, b] = [self.images[0].find(path)?, self.images[1].find(path)?];
-            // The kind's bits are told by the kind.
             self.values("mode", [a.mode, b.mode], |mode| format!("0x{mode:04x}"), path)?;
             self.values("attribute", [a.attribute, b.attribute], shown, path)?;
             self.values("created", [a.created, b.created], shown, path)?;

@@ -1,8 +1,8 @@
 //! The command that copies files out to the host: get.
 
 use std::ffi::OsStr;
-use std::fs::{self, DirBuilder, File, FileTimes, OpenOptions};
-use std::io::{self, Write};
+use std::fs::{DirBuilder, File, FileTimes};
+use std::io::{self, Read, Seek, Write};
 use std::os::unix::ffi::OsStrExt;
 use std::path::{Path, PathBuf};
 use std::time::SystemTime;
@@ -80,12 +80,12 @@ fn write(copies: &[Copy], to: &Path) -> io::Result<()> {
         None => Growing::directory(to)?,
     };
     if let Some(bytes) = &whole.bytes {
-        fill(growing.handle(), growing.at(), bytes, whole)?;
+        fill(growing.handle(), bytes, whole)?;
     }
     for copy in inside {
         let at = growing.at().join(&copy.below);
         match &copy.bytes {
-            Some(bytes) => fill(&OpenOptions::new().write(true).create_new(true).open(&at)?, &at, bytes, copy)?,
+            Some(bytes) => fill(&File::options().read(true).write(true).create_new(true).open(&at)?, bytes, copy)?,
             None => DirBuilder::new().create(&at)?,
         }
     }
@@ -100,10 +100,13 @@ fn write(copies: &[Copy], to: &Path) -> io::Result<()> {
 }
 
 /// Writes a file, and reads it back.
-fn fill(mut file: &File, at: &Path, bytes: &[u8], copy: &Copy) -> io::Result<()> {
+fn fill(mut file: &File, bytes: &[u8], copy: &Copy) -> io::Result<()> {
     file.write_all(bytes)?;
     keep(file, copy)?;
-    match fs::read(at)? == bytes {
+    let mut read_back = Vec::new();
+    file.rewind()?;
+    file.read_to_end(&mut read_back)?;
+    match read_back == bytes {
         true => Ok(()),
         false => Err(io::Error::other("what was written reads back differently")),
     }

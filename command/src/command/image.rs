@@ -1,10 +1,10 @@
 //! A card with its image's name, which every refusal tells.
 
-use std::io;
 use std::path::Path;
 
 use ps2card::{image_file, Card, Counts, Entry, Line, Refusal};
 
+use super::standard_input;
 use crate::failure::Failure;
 
 pub struct Image<'a> {
@@ -15,11 +15,7 @@ pub struct Image<'a> {
 impl<'a> Image<'a> {
     /// The card in a file; `-` is standard input.
     pub fn load(name: &'a Path) -> Result<Image<'a>, Failure> {
-        let card = if name == Path::new("-") {
-            image_file::read_limited(io::stdin().lock()).map(Card::new)
-        } else {
-            image_file::load(name)
-        };
+        let card = if name == Path::new("-") { standard_input().map(Card::new) } else { image_file::load(name) };
         Ok(Image { name, card: card.map_err(|error| Failure::host("read", name, error))? })
     }
 

@@ -55,12 +55,14 @@ pub fn print(bytes: &[u8]) -> Result<(), Failure> {
 
 /// The bytes of a host file; `-` is standard input.
 fn input(path: &Path) -> Result<Vec<u8>, Failure> {
-    let bytes = if path == Path::new("-") {
-        image_file::read_limited(io::stdin().lock())
-    } else {
-        File::open(path).and_then(image_file::read_limited)
-    };
+    let bytes =
+        if path == Path::new("-") { standard_input() } else { File::open(path).and_then(image_file::read_limited) };
     bytes.map_err(|error| Failure::host("read", path, error))
+}
+
+/// Standard input, to its end or beyond what a card has.
+fn standard_input() -> io::Result<Vec<u8>> {
+    output::while_typing(|| image_file::read_limited(io::stdin().lock()))
 }
 
 /// Changes the card in the image file; a refusal comes with the path on the card that it was met at.

@@ -14,7 +14,7 @@ use super::lock::{is_at, try_lock};
 /// How the hidden names begin; the process and a number follow.
 const HIDDEN: &str = ".ps2card-new-";
 
-/// Open neither what a link names nor wait for the other end of a pipe.
+/// O_NOFOLLOW, O_NONBLOCK: open nothing that a link names, and wait for nobody at a pipe's other end.
 const CAREFUL: c_int = 0o400_000 | 0o4_000;
 
 extern "C" {
@@ -33,15 +33,22 @@ pub struct Growing {
 }
 
 impl Growing {
-    /// A hidden empty file in the target's folder. The mode is cut by the user's mask.
+    /// A hidden empty file in the target's folder, open to write and to read back. The mode is cut by the user's mask.
     pub fn file(target: &Path, mode: u32) -> io::Result<Growing> {
-        let make = |at: &Path| OpenOptions::new().write(true).create_new(true).mode(mode).open(at);
+        let make = |at: &Path| OpenOptions::new().read(true).write(true).create_new(true).mode(mode).open(at);
         Growing::new(target, false, &make)
     }
 
     /// A hidden empty directory in the target's folder.
     pub fn directory(target: &Path) -> io::Result<Growing> {
-        let make = |at: &Path| DirBuilder::new().create(at).and_then(|()| File::open(at));
+        let make = |at: &Path| {
+            DirBuilder::new().create(at)?;
+            // Who sweeps the folder may have taken it away: then the next name, as for one that is taken.
+            File::open(at).map_err(|error| match error.kind() {
+                io::ErrorKind::NotFound => io::ErrorKind::AlreadyExists.into(),
+                _ => error,
+            })
+        };
         Growing::new(target, true, &make)
     }
 
@@ -150,7 +157,11 @@ fn sweep_one(at: &Path) -> io::Result<()> {
     if kind.is_symlink() {
         return fs::remove_file(at);
     }
-    let held = OpenOptions::new().read(true).custom_flags(CAREFUL).open(at)?;
+    if !kind.is_dir() && !kind.is_file() {
+        return Ok(());
+    }
+    // A network's lock may ask for a file that is open for writing.
+    let held = OpenOptions::new().read(true).write(kind.is_file()).custom_flags(CAREFUL).open(at)?;
     if try_lock(&held)? && is_at(&held, at) {
         remove(at, kind.is_dir());
     }

@@ -1,70 +1,76 @@
--- A new entry in a directory: each way out of creating a file and of making a directory is what the definition says.
-use Prim.Native.Nat.{ℕ, _<_}
-use mathlib.Core.Bool.{false, true}
-use mathlib.Core.List.{List, _++_}
-use mathlib.Core.Path.{_≡_, ap₂, refl, subst, sym}
+-- A new entry in a directory: each way out of the code is what the definition says.
+use Prim.Native.Nat.{ℕ, _-_, _<_}
+use mathlib.Core.Bool.{Bool, false, true}
+use mathlib.Core.List.{List}
+use mathlib.Core.Path.{_∙_, _≡_, ap, ap₂, subst, sym}
 use native.Mathlib.Omega.{arith}
-use lib.ListN.{length}
 use Rattle.layout.specs.declared.Superblock.{Superblock}
 use Rattle.layout.specs.See.{viewBy}
 use Rattle.lookup.specs.declared.along.Place.{Place}
 use Rattle.lookup.specs.declared.along.Place.the-variants as place
-use Rattle.model.specs.Bytes.{word}
-use Rattle.model.specs.Change.{directoryMode, fileMode}
-use Rattle.model.specs.Check.{fault}
+use Rattle.lookup.specs.Descend.{bearing, dying, scan}
+use Rattle.model.specs.Bytes.{wordLimit}
 use Rattle.model.specs.Entry.{entryOf, isDirectory}
-use Rattle.model.specs.Names.{dotDotName, dotName}
-use Rattle.model.specs.Pages.{newPage}
-use Rattle.model.specs.Plan.{newEntry}
-use Rattle.change.specs.Calls.{CanAdd, added, createdIn, deadOf, dotsOf, madeIn, placeOf}
-use Rattle.change.specs.Deeds.{numberBy}
-use Rattle.change.proofs.CallLaws.{Says}
+use Rattle.tree.specs.Slots.{nextOf, slotPages}
+use Rattle.change.specs.declared.entries.EntryAt.{EntryAt}
+use Rattle.change.specs.Calls.{CanAdd, CanAddIn, added, addedIn, contentsOf, deadOf, dotsOf, newOf, placeOf, refusedBy}
+use Rattle.change.specs.Deeds.{entriesOf, numberBy}
+use Rattle.change.proofs.CallLaws.{scan-so}
 
-module _ (s : Superblock) (image table : List ℕ) (at first : ℕ) (page name time : List ℕ) where
-  -- ---- a file
-  pub created-kind : (bytes : List ℕ) → isDirectory (entryOf page) ≡ false → Says (fault 10 0) image (createdIn s image table at first page name time bytes)
-  unfolding createdIn
-  created-kind bytes d = rw d (refl, refl)
+-- the first two entries of a new directory, with the slot's number
+pub dots-so : (directory : EntryAt) (dead : Place) (time : List ℕ) {entries number : ℕ} {dots : List ℕ} → entries ≡ entriesOf directory → number ≡ numberBy dead entries
+    → dots ≡ dotsOf (directory .first) number time → dots ≡ dotsOf (directory .first) (numberBy dead (entriesOf directory)) time
+dots-so directory dead time e n d = d ∙ ap (λ k. dotsOf (directory .first) k time) (n ∙ ap (numberBy dead) e)
 
-  pub made-kind : isDirectory (entryOf page) ≡ false → Says (fault 10 0) image (madeIn s image table at first page name time)
-  unfolding madeIn
-  made-kind d = rw d (refl, refl)
+module _ (s : Superblock) (image table : List ℕ) (directory : EntryAt) (name : List ℕ) where
+  -- a directory in which nothing stands at the name, and its lowest dead slot
+  pub record Vacant (dead : Place) : Type 0 where
+    pub is-directory : isDirectory (entryOf (directory .page)) ≡ true
+    pub missing : placeOf (viewBy (s .geometry) table image) table directory name ≡ place.Nowhere
+    pub dead-is : deadOf (viewBy (s .geometry) table image) table directory ≡ dead
 
-  module _ (directory : isDirectory (entryOf page) ≡ true) where
-    module _ (k p : ℕ) (there : placeOf (viewBy (s .geometry) table image) table first page name ≡ place.At k p) where
-      pub created-there : (bytes : List ℕ) → Says (fault 11 0) image (createdIn s image table at first page name time bytes)
-      unfolding createdIn
-      created-there bytes = rw (directory, there) (refl, refl)
+  -- as the code has found it
+  module _ (is-so : isDirectory (entryOf (directory .page)) ≡ true) {start count entries : ℕ} (starts : start ≡ nextOf table (directory .first)) (counted : count ≡ entries - 2)
+      (entries-are : entries ≡ entriesOf directory) {found : Place} (looked : found ≡ scan (bearing (viewBy (s .geometry) table image) name) (slotPages table start 0 count) 0) where
+    pub there-so : placeOf (viewBy (s .geometry) table image) table directory name ≡ found
+    there-so = scan-so table directory starts counted entries-are (bearing (viewBy (s .geometry) table image) name) looked
 
-      pub made-there : Says (fault 11 0) image (madeIn s image table at first page name time)
-      unfolding madeIn
-      made-there = rw (directory, there) (refl, refl)
+    pub vacant : found ≡ place.Nowhere → {dead : Place} → dead ≡ scan (dying (viewBy (s .geometry) table image)) (slotPages table start 0 count) 0 → Vacant dead
+    vacant nowhere d =
+        record {
+          is-directory = is-so;
+          missing = there-so ∙ nowhere;
+          dead-is = scan-so table directory starts counted entries-are (dying (viewBy (s .geometry) table image)) d;
+        }
 
-    module _ (missing : placeOf (viewBy (s .geometry) table image) table first page name ≡ place.Nowhere) {dead : Place}
-        (dead-is : deadOf (viewBy (s .geometry) table image) table first page ≡ dead) where
-      pub created-so : (bytes : List ℕ) → createdIn s image table at first page name time bytes ≡ added s image table at first page dead fileMode (length bytes) time name bytes
-      unfolding createdIn
-      created-so bytes = rw (directory, missing, dead-is)
+  module _ (making : Bool) (time bytes : List ℕ) where
+    pub added-kind : isDirectory (entryOf (directory .page)) ≡ false → addedIn s image table directory making name time bytes ≡ refusedBy 10 image
+    unfolding addedIn
+    added-kind d = rw d
 
-      pub made-so : {dots : List ℕ} → dots ≡ dotsOf s image table first (numberBy dead (word page 4)) time
-          → madeIn s image table at first page name time ≡ added s image table at first page dead directoryMode 2 time name dots
-      unfolding madeIn
-      made-so e = rw (directory, missing, dead-is, e)
+    pub added-there : isDirectory (entryOf (directory .page)) ≡ true → (k p : ℕ) → placeOf (viewBy (s .geometry) table image) table directory name ≡ place.At k p
+        → addedIn s image table directory making name time bytes ≡ refusedBy 11 image
+    unfolding addedIn
+    added-there is-so k p there = rw (is-so, there)
 
--- ---- the first two entries of a new directory, with the slot's number
-module _ (s : Superblock) (image table : List ℕ) (at first : ℕ) (page name time : List ℕ) where
-  pub dots-so : (dead : Place) {entries number : ℕ} {dot up dots : List ℕ} → entries ≡ word page 4 → number ≡ numberBy dead entries
-      → dot ≡ newPage (newEntry directoryMode 0 first number time dotName) → up ≡ newPage (newEntry directoryMode 0 0 0 time dotDotName) → dots ≡ dot ++ up
-      → dots ≡ dotsOf s image table first (numberBy dead (word page 4)) time
-  dots-so dead e n d u b = rw (b, d, u, n, e)
+    module _ {dead : Place} (here : Vacant dead) where
+      module _ {kind : Bool} (kind-is : making ≡ kind) {contents : List ℕ} (contents-are : contents ≡ contentsOf kind directory dead time bytes) where
+        pub added-so : addedIn s image table directory making name time bytes ≡ added s image table directory (newOf kind bytes dead) time name contents
+        unfolding addedIn
+        added-so = rw (here .is-directory, here .missing, here .dead-is, kind-is, contents-are)
 
-  module _ {dead : Place} (dead-is : deadOf (viewBy (s .geometry) table image) table first page ≡ dead)
-      (can : CanAdd s image table at first page (deadOf (viewBy (s .geometry) table image) table first page) directoryMode 2 time name
-      (dotsOf s image table first (numberBy (deadOf (viewBy (s .geometry) table image) table first page) (word page 4)) time)) where
-    pub number-fits : {entries : ℕ} → entries ≡ word page 4 → numberBy dead entries < 4294967296
-    number-fits e = let z = ap₂ numberBy dead-is (sym e) in omega (arith, can .low-slot)
+        pub can-add : CanAddIn s image table directory making name time bytes → CanAdd s image table directory (newOf kind bytes dead) time name contents
+        can-add can =
+            subst (CanAdd s image table directory (newOf kind bytes dead) time name) (sym contents-are)
+            (subst (λ (d : Place). CanAdd s image table directory (newOf kind bytes d) time name (contentsOf kind directory d time bytes)) (here .dead-is)
+            (subst (λ (b : Bool). CanAdd s image table directory (newOf b bytes (deadOf (viewBy (s .geometry) table image) table directory)) time name
+            (contentsOf b directory (deadOf (viewBy (s .geometry) table image) table directory) time bytes)) kind-is (can (here .is-directory) (here .missing))))
 
-    pub can-make : {dots : List ℕ} → dots ≡ dotsOf s image table first (numberBy dead (word page 4)) time → CanAdd s image table at first page dead directoryMode 2 time name dots
-    can-make e =
-        subst (CanAdd s image table at first page dead directoryMode 2 time name) (sym e)
-        (subst (λ (d : Place). CanAdd s image table at first page d directoryMode 2 time name (dotsOf s image table first (numberBy d (word page 4)) time)) dead-is can)
+      -- the new slot's number fits a word
+      pub number-fits : CanAddIn s image table directory making name time bytes → {entries : ℕ} → entries ≡ entriesOf directory → numberBy dead entries < wordLimit
+      number-fits can e = let z = ap₂ numberBy (here .dead-is) (sym e) in omega (arith, numbered making (can (here .is-directory) (here .missing)))
+        where
+          numbered : (b : Bool) {contents : List ℕ} → CanAdd s image table directory (newOf b bytes (deadOf (viewBy (s .geometry) table image) table directory)) time name contents
+              → numberBy (deadOf (viewBy (s .geometry) table image) table directory) (entriesOf directory) < 65536
+          numbered true x = x .low-slot
+          numbered false x = x .low-slot

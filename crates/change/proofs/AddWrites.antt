@@ -22,15 +22,16 @@ use Rattle.model.specs.Tree.{Root, Slot, entryPages}
 use Rattle.model.specs.View.{View, pagesOf}
 use Rattle.model.specs.Writes.{PageWrite, clusterWrites, pageWrites}
 use Rattle.tree.specs.Slots.{clusterAt}
+use Rattle.change.specs.declared.entries.EntryAt.{EntryAt}
 use Rattle.change.specs.Changed.{rulesOf}
-use Rattle.change.specs.Deeds.{addedWrites, growthBy, growthOf, lastOf, lengthBy, pageBy, takenOf}
+use Rattle.change.specs.Deeds.{addedWrites, entriesOf, growthBy, growthOf, lastOf, lengthBy, pageBy, takenOf}
 use Rattle.change.specs.Words.{freeList}
 use Rattle.change.proofs.AddPlans.{DeadAt, growth-is, length-is, page-is}
 use Rattle.change.proofs.Sites.{Site, directoryAt}
 
-module _ (image : List ℕ) (s : Superblock) (opened : openCard image ≡ ok s) (root : Root) (p : Path) (at first : ℕ) (page : List ℕ)
-    (site : Site (see s image) (tableOf image s) root p at first page) (dead : Place) (d : DeadAt (entryPages (Slot.directory (entryOf page) (site .chain))) (site .slots) dead)
-    (last-is : clusterAt (tableOf image s) first ((entryOf page) .length - 1) ≡ getD (site .chain) (length (site .chain) - 1) 0)
+module _ (image : List ℕ) (s : Superblock) (opened : openCard image ≡ ok s) (root : Root) (p : Path) (here : EntryAt)
+    (site : Site (see s image) (tableOf image s) root p here) (dead : Place) (d : DeadAt (entryPages (Slot.directory (entryOf (here .page)) (site .chain))) (site .slots) dead)
+    (last-is : clusterAt (tableOf image s) (here .first) ((entryOf (here .page)) .length - 1) ≡ getD (site .chain) (length (site .chain) - 1) 0)
     (free-is : freeClusters (rulesOf s) (see s image) ≡ freeList (tableOf image s)) where
   abbrev v : View
   v = see s image
@@ -39,35 +40,35 @@ module _ (image : List ℕ) (s : Superblock) (opened : openCard image ≡ ok s) 
   t = tableOf image s
 
   abbrev e : Entry
-  e = entryOf page
+  e = entryOf (here .page)
 
-  grows : growthWithOne (entryOf page) (site .slots) ≡ growthBy dead (word page 4)
-  grows = growth-is (entryOf page) (site .chain) (site .slots) (see s image) (site .below) (site .two) (site .long) (site .held) dead d
+  grows : growthWithOne (entryOf (here .page)) (site .slots) ≡ growthBy dead (entriesOf here)
+  grows = growth-is (entryOf (here .page)) (site .chain) (site .slots) (see s image) (site .below) (site .two) (site .long) (site .held) dead d
 
-  pub grown-so : growthClusters (rulesOf s) (see s image) (growthWithOne (entryOf page) (site .slots)) ≡ growthOf (tableOf image s) page dead
+  pub grown-so : growthClusters (rulesOf s) (see s image) (growthWithOne (entryOf (here .page)) (site .slots)) ≡ growthOf (tableOf image s) here dead
   grown-so = ap₂ (λ n l. take n l) grows free-is
 
-  pub own-so : (bytes : List ℕ) → ownClusters (rulesOf s) (see s image) (growthWithOne (entryOf page) (site .slots)) (clustersFor (length bytes)) ≡ takenOf (tableOf image s) page dead bytes
+  pub own-so : (bytes : List ℕ) → ownClusters (rulesOf s) (see s image) (growthWithOne (entryOf (here .page)) (site .slots)) (clustersFor (length bytes)) ≡ takenOf (tableOf image s) here dead bytes
   own-so bytes = ap₂ (λ n l. take (clustersFor (length bytes)) (drop n l)) grows free-is
 
   -- with room for the growth
-  module _ (room : growthBy dead (word page 4) ≤ length (freeList (tableOf image s))) where
-    growth-long : length (growthOf (tableOf image s) page dead) ≡ growthBy dead (word page 4)
-    growth-long = length-take-le (growthBy dead (word page 4)) (freeList (tableOf image s)) room
+  module _ (room : growthBy dead (entriesOf here) ≤ length (freeList (tableOf image s))) where
+    growth-long : length (growthOf (tableOf image s) here dead) ≡ growthBy dead (entriesOf here)
+    growth-long = length-take-le (growthBy dead (entriesOf here)) (freeList (tableOf image s)) room
 
-    slot-so : getD (entryPages (Slot.directory (withLength (entryOf page) (lengthWithOne (entryOf page) (site .slots)))
-        (site .chain ++ growthClusters (rulesOf s) (see s image) (growthWithOne (entryOf page) (site .slots))))) (firstDead (site .slots)) 0
-        ≡ pageBy dead (lastOf (tableOf image s) first page) (growthOf (tableOf image s) page dead)
+    slot-so : getD (entryPages (Slot.directory (withLength (entryOf (here .page)) (lengthWithOne (entryOf (here .page)) (site .slots)))
+        (site .chain ++ growthClusters (rulesOf s) (see s image) (growthWithOne (entryOf (here .page)) (site .slots))))) (firstDead (site .slots)) 0
+        ≡ pageBy dead (lastOf (tableOf image s) here) (growthOf (tableOf image s) here dead)
     slot-so =
-        ap (λ g. getD (entryPages (Slot.directory (withLength (entryOf page) (lengthWithOne (entryOf page) (site .slots))) (site .chain ++ g))) (firstDead (site .slots)) 0) grown-so
-        ∙ page-is (entryOf page) (site .chain) (site .slots) (see s image) (site .below) (site .two) (site .long) (site .held) dead d (growthOf (tableOf image s) page dead) growth-long
-        ∙ ap (λ l. pageBy dead l (growthOf (tableOf image s) page dead)) (sym last-is)
+        ap (λ g. getD (entryPages (Slot.directory (withLength (entryOf (here .page)) (lengthWithOne (entryOf (here .page)) (site .slots))) (site .chain ++ g))) (firstDead (site .slots)) 0) grown-so
+        ∙ page-is (entryOf (here .page)) (site .chain) (site .slots) (see s image) (site .below) (site .two) (site .long) (site .held) dead d (growthOf (tableOf image s) here dead) growth-long
+        ∙ ap (λ l. pageBy dead l (growthOf (tableOf image s) here dead)) (sym last-is)
 
     pub added-writes : (f : List ℕ → Filling) (mode size : ℕ) (time name bytes : List ℕ)
         → ((own : List ℕ) → (f own) .pages ≡ dataPages bytes) → ((own : List ℕ) → (f own) .isNew ≡ true)
         → ((own : List ℕ) → (f own) .entry ≡ newEntry mode size (firstOf own) 0 time name)
-        → pageWrites (see s image) (made (rulesOf s) (see s image) (directoryAt site) (adding (directoryAt site) (site .slots) (clustersFor (length bytes)) f))
-        ≡ addedWrites (tableOf image s) first page dead at mode size time name bytes
+        → pageWrites (see s image) (made (rulesOf s) (see s image) (directoryAt here (site .chain)) (adding (directoryAt here (site .chain)) (site .slots) (clustersFor (length bytes)) f))
+        ≡ addedWrites (tableOf image s) here (record { mode = mode; count = size; dead = dead }) time name bytes
     unfolding entryPage
     added-writes f mode size time name bytes pages new entry =
         ap₂ (λ x z. x ++ z)
@@ -75,20 +76,20 @@ module _ (image : List ℕ) (s : Superblock) (opened : openCard image ≡ ok s) 
         (ap₂ (λ x z. x ++ z) (ap₂ (λ o d. clusterWrites (pagesOf o) d) (own-so bytes) (pages own)) (ap₂ (λ (x z : PageWrite). x ∷ z ∷ []) directory slot))
       where
         own : List ℕ
-        own = ownClusters (rulesOf s) (see s image) (growthWithOne (entryOf page) (site .slots)) (clustersFor (length bytes))
+        own = ownClusters (rulesOf s) (see s image) (growthWithOne (entryOf (here .page)) (site .slots)) (clustersFor (length bytes))
 
         at-slot : ℕ
-        at-slot = getD (entryPages (Slot.directory (withLength (entryOf page) (lengthWithOne (entryOf page) (site .slots)))
-            (site .chain ++ growthClusters (rulesOf s) (see s image) (growthWithOne (entryOf page) (site .slots))))) (firstDead (site .slots)) 0
+        at-slot = getD (entryPages (Slot.directory (withLength (entryOf (here .page)) (lengthWithOne (entryOf (here .page)) (site .slots)))
+            (site .chain ++ growthClusters (rulesOf s) (see s image) (growthWithOne (entryOf (here .page)) (site .slots))))) (firstDead (site .slots)) 0
 
-        directory : _≡_ {A = PageWrite} (record { always = false; page = at; bytes = entryPage false ((see s image) .page at) (withLength (entryOf page) (lengthWithOne (entryOf page) (site .slots))) })
-            (record { always = false; page = at; bytes = alteredPage page (withLength (entryOf page) (lengthBy dead (word page 4))) })
+        directory : _≡_ {A = PageWrite} (record { always = false; page = here .at; bytes = entryPage false ((see s image) .page (here .at)) (withLength (entryOf (here .page)) (lengthWithOne (entryOf (here .page)) (site .slots))) })
+            (record { always = false; page = here .at; bytes = alteredPage (here .page) (withLength (entryOf (here .page)) (lengthBy dead (entriesOf here))) })
         directory =
-            ap₂ (λ o n. record { always = false; page = at; bytes = entryPage false o (withLength (entryOf page) n) }) (site .read)
-            (length-is (entryOf page) (site .chain) (site .slots) (see s image) (site .below) (site .two) (site .long) (site .held) dead d)
+            ap₂ (λ o n. record { always = false; page = here .at; bytes = entryPage false o (withLength (entryOf (here .page)) n) }) (site .read)
+            (length-is (entryOf (here .page)) (site .chain) (site .slots) (see s image) (site .below) (site .two) (site .long) (site .held) dead d)
 
         slot : _≡_ {A = PageWrite} (record { always = (f own) .isNew; page = at-slot; bytes = entryPage ((f own) .isNew) ((see s image) .page at-slot) ((f own) .entry) })
-            (record { always = true; page = pageBy dead (lastOf (tableOf image s) first page) (growthOf (tableOf image s) page dead); bytes = newPage (newEntry mode size (firstOf (takenOf (tableOf image s) page dead bytes)) 0 time name) })
+            (record { always = true; page = pageBy dead (lastOf (tableOf image s) here) (growthOf (tableOf image s) here dead); bytes = newPage (newEntry mode size (firstOf (takenOf (tableOf image s) here dead bytes)) 0 time name) })
         slot =
             ap (λ b. record { always = b; page = at-slot; bytes = entryPage b ((see s image) .page at-slot) ((f own) .entry) }) (new own)
             ∙ ap₂ (λ q x. record { always = true; page = q; bytes = newPage x }) slot-so (entry own ∙ ap (λ o. newEntry mode size (firstOf o) 0 time name) (own-so bytes))

@@ -1,6 +1,6 @@
 -- Creating a file and making a directory, as the code does them in the directory that it found.
 use Prim.Native.Nat.{ℕ, suc, _+_, _-_, _<_, _≤_}
-use mathlib.Core.Bool.{cond, true}
+use mathlib.Core.Bool.{cond, false, true}
 use mathlib.Core.List.{List, [], _++_, _∷_}
 use mathlib.Core.Option.{some}
 use mathlib.Core.Path.{_∙_, _≡_, ap, ap₂, refl, subst, sym}
@@ -31,8 +31,11 @@ use Rattle.model.proofs.CheckHolds.{check-holds}
 use Rattle.model.proofs.Outcome.{Deed, Outcome}
 use Rattle.model.proofs.PageBytes.{length-new}
 use Rattle.model.proofs.Refusals.{refusal-accepts}
+use Rattle.change.specs.declared.entries.EntryAt.{EntryAt}
+use Rattle.change.specs.declared.entries.NewEntry.{NewEntry}
+use Rattle.change.specs.Calls.{addedImage, doneWith, dotsOf, needOf, newOf}
 use Rattle.change.specs.Changed.{changed, rulesOf}
-use Rattle.change.specs.Deeds.{addedTable, addedWrites, growthBy, growthOf, imageBy, lastOf, numberBy, takenOf}
+use Rattle.change.specs.Deeds.{addedTable, addedWrites, entriesOf, growthBy, growthOf, imageBy, lastOf, numberBy, takenOf}
 use Rattle.change.specs.Words.{freeList}
 use Rattle.change.proofs.AddPlans.{DeadAt, growth-is, number-is}
 use Rattle.change.proofs.AddWrites.{added-writes, grown-so, own-so}
@@ -45,6 +48,11 @@ use Rattle.change.proofs.PlanTable.{same-words}
 use Rattle.change.proofs.SiteFacts.{free-is, last-is, last-of-chain, two-pages}
 use Rattle.change.proofs.SiteRefusals.{refusal-here}
 use Rattle.change.proofs.Sites.{Site, directoryAt}
+
+-- what the code does of an accepted creation
+pub record Adds (image : List ℕ) (s : Superblock) (here : EntryAt) (c : Change) (new : NewEntry) (time name bytes : List ℕ) : Type 0 where
+  pub lands : Lands (s .end) (addedWrites (tableOf image s) here new time name bytes)
+  pub done : changed c image ≡ doneWith (addedImage s image (tableOf image s) here new time name bytes)
 
 -- what is learnt of an accepted plan
 module _ (image : List ℕ) (s : Superblock) (root : Root) (m : Marks) (checked : checkImage image ≡ ok (s, root, m)) where
@@ -60,19 +68,19 @@ module _ (image : List ℕ) (s : Superblock) (root : Root) (m : Marks) (checked 
       acts (rulesOf s) (see s image) root holds (no-words image s opened) c (refusal-accepts (rulesOf s) (see s image) root holds c met) in
       subst (Deed (rulesOf s) (see s image) root) (some-same _ _ (sym (o .planned) ∙ planned)) (o .deed)
 
-  module _ (c : Change) (fine : static c ≡ 0) (at first′ : ℕ) (page : List ℕ) (site : Site (see s image) (tableOf image s) root (path c) at first′ page) where
-    pub planned-at : planOf (rulesOf s) c (see s image) root ≡ planAt (rulesOf s) c (see s image) at (found (Slot.directory (entryOf page) (site .chain)) (site .slots))
+  module _ (c : Change) (fine : static c ≡ 0) (here : EntryAt) (site : Site (see s image) (tableOf image s) root (path c) here) where
+    pub planned-at : planOf (rulesOf s) c (see s image) root ≡ planAt (rulesOf s) c (see s image) (here .at) (found (Slot.directory (entryOf (here .page)) (site .chain)) (site .slots))
     planned-at = ap₂ (λ a f. planAt (rulesOf s) c (see s image) a f) (site .page-so) (site .found-so)
 
-    module _ (creating : creates c ≡ true) (dead : Place) (d : DeadAt (entryPages (Slot.directory (entryOf page) (site .chain))) (site .slots) dead) where
-      need-is : size c + cond (creates c) (growthWithOne (entryOf page) (site .slots)) 0 ≡ size c + growthBy dead (word page 4)
+    module _ (creating : creates c ≡ true) (dead : Place) (d : DeadAt (entryPages (Slot.directory (entryOf (here .page)) (site .chain))) (site .slots) dead) where
+      need-is : size c + cond (creates c) (growthWithOne (entryOf (here .page)) (site .slots)) 0 ≡ size c + growthBy dead (entriesOf here)
       need-is =
-          rw creating (ap (λ n. size c + n) (growth-is (entryOf page) (site .chain) (site .slots) (see s image) (site .below) (site .two) (site .long) (site .held) dead d))
+          rw creating (ap (λ n. size c + n) (growth-is (entryOf (here .page)) (site .chain) (site .slots) (see s image) (site .below) (site .two) (site .long) (site .held) dead d))
 
       added-refusal : refusal (rulesOf s) c (see s image) root
-          ≡ first (own c (lookIn (site .slots) (lastName (path c) ∷ []))) (cond (leb (size c + growthBy dead (word page 4)) (length (freeList (tableOf image s)))) 0 12)
+          ≡ first (own c (lookIn (site .slots) (lastName (path c) ∷ []))) (cond (leb (size c + growthBy dead (entriesOf here)) (length (freeList (tableOf image s)))) 0 12)
       added-refusal =
-          refusal-here image s root c at first′ page site fine (free-is image s opened)
+          refusal-here image s root c here site fine (free-is image s opened)
           ∙ ap (λ n. first (own c (lookIn (site .slots) (lastName (path c) ∷ []))) (cond (leb n (length (freeList (tableOf image s)))) 0 12)) need-is
 
       -- refused by what stands at the name
@@ -80,50 +88,47 @@ module _ (image : List ℕ) (s : Superblock) (root : Root) (m : Marks) (checked 
       added-exists n e = (refuses image s root m checked c n (added-refusal ∙ rw e)) .0
 
       -- refused for want of room
-      pub added-full : own c (lookIn (site .slots) (lastName (path c) ∷ [])) ≡ 0 → length (freeList (tableOf image s)) < size c + growthBy dead (word page 4)
+      pub added-full : own c (lookIn (site .slots) (lastName (path c) ∷ [])) ≡ 0 → length (freeList (tableOf image s)) < size c + growthBy dead (entriesOf here)
           → changed c image ≡ record { answer = fault 12 0; image = image }
       added-full e l = (refuses image s root m checked c 11 (added-refusal ∙ rw (e, lt-leb _ _ l))) .0
 
       -- accepted, with a filling that is a new entry
-      module _ (free : own c (lookIn (site .slots) (lastName (path c) ∷ [])) ≡ 0) (room : size c + growthBy dead (word page 4) ≤ length (freeList (tableOf image s)))
+      module _ (free : own c (lookIn (site .slots) (lastName (path c) ∷ [])) ≡ 0) (room : size c + growthBy dead (entriesOf here) ≤ length (freeList (tableOf image s)))
           (f : List ℕ → Filling) (mode count : ℕ) (time name bytes : List ℕ) (many : size c ≡ clustersFor (length bytes))
-          (plan-so : planOf (rulesOf s) c (see s image) root ≡ some (made (rulesOf s) (see s image) (directoryAt site) (adding (directoryAt site) (site .slots) (clustersFor (length bytes)) f)))
+          (plan-so : planOf (rulesOf s) c (see s image) root ≡ some (made (rulesOf s) (see s image) (directoryAt here (site .chain)) (adding (directoryAt here (site .chain)) (site .slots) (clustersFor (length bytes)) f)))
           (pages : (own : List ℕ) → (f own) .pages ≡ dataPages bytes) (new : (own : List ℕ) → (f own) .isNew ≡ true)
           (entry : (own : List ℕ) → (f own) .entry ≡ newEntry mode count (firstOf own) 0 time name) where
         plan : Plan
-        plan = made (rulesOf s) (see s image) (directoryAt site) (adding (directoryAt site) (site .slots) (clustersFor (length bytes)) f)
+        plan = made (rulesOf s) (see s image) (directoryAt here (site .chain)) (adding (directoryAt here (site .chain)) (site .slots) (clustersFor (length bytes)) f)
 
         none-met : refusal (rulesOf s) c (see s image) root ≡ 0
         none-met = added-refusal ∙ rw (free, le-leb _ _ room)
 
-        deed : Deed (rulesOf s) (see s image) root (made (rulesOf s) (see s image) (directoryAt site) (adding (directoryAt site) (site .slots) (clustersFor (length bytes)) f))
+        deed : Deed (rulesOf s) (see s image) root (made (rulesOf s) (see s image) (directoryAt here (site .chain)) (adding (directoryAt here (site .chain)) (site .slots) (clustersFor (length bytes)) f))
         deed = deed-of c none-met _ plan-so
 
-        written : pageWrites (see s image) (made (rulesOf s) (see s image) (directoryAt site) (adding (directoryAt site) (site .slots) (clustersFor (length bytes)) f))
-            ≡ addedWrites (tableOf image s) first′ page dead at mode count time name bytes
+        written : pageWrites (see s image) (made (rulesOf s) (see s image) (directoryAt here (site .chain)) (adding (directoryAt here (site .chain)) (site .slots) (clustersFor (length bytes)) f))
+            ≡ addedWrites (tableOf image s) here (record { mode = mode; count = count; dead = dead }) time name bytes
         written =
-            added-writes image s opened root (path c) at first′ page site dead d (last-of-chain image s opened root (path c) at first′ page site) (free-is image s opened)
+            added-writes image s opened root (path c) here site dead d (last-of-chain image s opened root (path c) here site) (free-is image s opened)
             (omega arith) f mode count time name bytes pages new entry
 
-        pub added-lands : Lands (s .end) (addedWrites (tableOf image s) first′ page dead at mode count time name bytes)
-        added-lands = lands-as image s root m checked c none-met _ plan-so _ written
-
-        worded : (x : ℕ) → x < s .end → wordsAfter (made (rulesOf s) (see s image) (directoryAt site) (adding (directoryAt site) (site .slots) (clustersFor (length bytes)) f)) (λ c. getD (tableOf image s) c 0) x
-            ≡ getD (addedTable (tableOf image s) first′ page dead bytes) x 0
+        worded : (x : ℕ) → x < s .end → wordsAfter (made (rulesOf s) (see s image) (directoryAt here (site .chain)) (adding (directoryAt here (site .chain)) (site .slots) (clustersFor (length bytes)) f)) (λ c. getD (tableOf image s) c 0) x
+            ≡ getD (addedTable (tableOf image s) here dead bytes) x 0
         worded x h =
             ap₂ (λ g o. chainWords (site .chain ++ g) (chainWords o (λ c. getD (tableOf image s) c 0)) x) grown own-is
-            ∙ ap (λ cs. chainWords (cs ++ growthOf (tableOf image s) page dead) (chainWords (takenOf (tableOf image s) page dead bytes) (λ c. getD (tableOf image s) c 0)) x) (site .starts)
-            ∙ same-words (see s image) (tableOf image s) (λ c. refl) first′ (site .rest) [] (takenOf (tableOf image s) page dead bytes) 0 (rw (site .starts) at (site .linked)) tt
-            (λ c. omega (arith, apart c)) (growthOf (tableOf image s) page dead) (lastOf (tableOf image s) first′ page) (omega (arith, length-take (growthBy dead (word page 4)) (freeList (tableOf image s)), growth-small dead (word page 4)))
-            (λ c. omega (arith, apart c)) (last-is image s opened root (path c) at first′ page site) x (omega (arith, length-table image s))
+            ∙ ap (λ cs. chainWords (cs ++ growthOf (tableOf image s) here dead) (chainWords (takenOf (tableOf image s) here dead bytes) (λ c. getD (tableOf image s) c 0)) x) (site .starts)
+            ∙ same-words (see s image) (tableOf image s) (λ c. refl) (here .first) (site .rest) [] (takenOf (tableOf image s) here dead bytes) 0 (rw (site .starts) at (site .linked)) tt
+            (λ c. omega (arith, apart c)) (growthOf (tableOf image s) here dead) (lastOf (tableOf image s) here) (omega (arith, length-take (growthBy dead (entriesOf here)) (freeList (tableOf image s)), growth-small dead (entriesOf here)))
+            (λ c. omega (arith, apart c)) (last-is image s opened root (path c) here site) x (omega (arith, length-table image s))
           where
-            grown : growthClusters (rulesOf s) (see s image) (growthWithOne (entryOf page) (site .slots)) ≡ growthOf (tableOf image s) page dead
-            grown = grown-so image s opened root (path c) at first′ page site dead d (last-of-chain image s opened root (path c) at first′ page site) (free-is image s opened)
+            grown : growthClusters (rulesOf s) (see s image) (growthWithOne (entryOf (here .page)) (site .slots)) ≡ growthOf (tableOf image s) here dead
+            grown = grown-so image s opened root (path c) here site dead d (last-of-chain image s opened root (path c) here site) (free-is image s opened)
 
-            own-is : ownClusters (rulesOf s) (see s image) (growthWithOne (entryOf page) (site .slots)) (clustersFor (length bytes)) ≡ takenOf (tableOf image s) page dead bytes
-            own-is = own-so image s opened root (path c) at first′ page site dead d (last-of-chain image s opened root (path c) at first′ page site) (free-is image s opened) bytes
+            own-is : ownClusters (rulesOf s) (see s image) (growthWithOne (entryOf (here .page)) (site .slots)) (clustersFor (length bytes)) ≡ takenOf (tableOf image s) here dead bytes
+            own-is = own-so image s opened root (path c) here site dead d (last-of-chain image s opened root (path c) here site) (free-is image s opened) bytes
 
-            apart : (c : ℕ) → times (first′ ∷ site .rest) c + (times (takenOf (tableOf image s) page dead bytes) c + times (growthOf (tableOf image s) page dead) c) ≤ 1
+            apart : (c : ℕ) → times (here .first ∷ site .rest) c + (times (takenOf (tableOf image s) here dead bytes) c + times (growthOf (tableOf image s) here dead) c) ≤ 1
             apart c =
                 omega (
                   arith,
@@ -134,66 +139,51 @@ module _ (image : List ℕ) (s : Superblock) (root : Root) (m : Marks) (checked 
                   ap (λ cs. times cs c) grown,
                 )
 
-        pub added-done : changed c image
-            ≡ record { answer = ok tt; image = imageBy s image (addedWrites (tableOf image s) first′ page dead at mode count time name bytes) (addedTable (tableOf image s) first′ page dead bytes) }
-        added-done = done-as image s root m checked c none-met _ plan-so _ written (addedTable (tableOf image s) first′ page dead bytes) worded
+        pub adds : Adds image s here c (record { mode = mode; count = count; dead = dead }) time name bytes
+        adds =
+            record {
+              lands = lands-as image s root m checked c none-met _ plan-so _ written;
+              done = done-as image s root m checked c none-met _ plan-so _ written (addedTable (tableOf image s) here dead bytes) worded;
+            }
 
 -- ---- the two creations
-module _ (image : List ℕ) (s : Superblock) (root : Root) (m : Marks) (checked : checkImage image ≡ ok (s, root, m)) (p : Path) (time : List ℕ) (at first : ℕ) (page : List ℕ)
-    (site : Site (see s image) (tableOf image s) root p at first page) (dead : Place) (d : DeadAt (entryPages (Slot.directory (entryOf page) (site .chain))) (site .slots) dead)
+module _ (image : List ℕ) (s : Superblock) (root : Root) (m : Marks) (checked : checkImage image ≡ ok (s, root, m)) (p : Path) (time : List ℕ) (here : EntryAt)
+    (site : Site (see s image) (tableOf image s) root p here) (dead : Place) (d : DeadAt (entryPages (Slot.directory (entryOf (here .page)) (site .chain))) (site .slots) dead)
     (absent-so : lookIn (site .slots) (lastName p ∷ []) ≡ absent) where
-  -- what the code does of an accepted creation
-  pub record Adds (c : Change) (mode count : ℕ) (bytes : List ℕ) : Type 0 where
-    pub lands : Lands (s .end) (addedWrites (tableOf image s) first page dead at mode count time (lastName p) bytes)
-    pub done : changed c image
-        ≡ record { answer = ok tt; image = imageBy s image (addedWrites (tableOf image s) first page dead at mode count time (lastName p) bytes) (addedTable (tableOf image s) first page dead bytes) }
-
-  pub create-done : (bytes : List ℕ) → static (create p time bytes) ≡ 0 → clustersFor (length bytes) + growthBy dead (word page 4) ≤ length (freeList (tableOf image s))
-      → Adds (create p time bytes) fileMode (length bytes) bytes
+  pub create-done : (bytes : List ℕ) → static (create p time bytes) ≡ 0 → needOf here dead bytes ≤ length (freeList (tableOf image s))
+      → Adds image s here (create p time bytes) (newOf false bytes dead) time (lastName p) bytes
   create-done bytes fine room =
-      let lacks : own (create p time bytes) (lookIn (site .slots) (lastName p ∷ [])) ≡ 0 = rw absent-so in
-      let plan = planned-at image s root m checked (create p time bytes) fine at first page site in
-      record {
-        lands = added-lands image s root m checked (create p time bytes) fine at first page site refl dead d lacks room (newFile (lastName p) time bytes) fileMode (length bytes) time (lastName p) bytes refl plan (λ o. refl) (λ o. refl) (λ o. refl);
-        done = added-done image s root m checked (create p time bytes) fine at first page site refl dead d lacks room (newFile (lastName p) time bytes) fileMode (length bytes) time (lastName p) bytes refl plan (λ o. refl) (λ o. refl) (λ o. refl);
-      }
+      adds image s root m checked (create p time bytes) fine here site refl dead d (rw absent-so) room (newFile (lastName p) time bytes) fileMode (length bytes) time (lastName p) bytes
+      refl (planned-at image s root m checked (create p time bytes) fine here site) (λ o. refl) (λ o. refl) (λ o. refl)
 
   -- the first two entries of a new directory
-  abbrev pub dots : List ℕ
-  dots = newPage (newEntry directoryMode 0 first (numberBy dead (word page 4)) time dotName) ++ newPage (newEntry directoryMode 0 0 0 time dotDotName)
-
   abbrev dot-page : ℕ → ℕ → List ℕ
   dot-page cluster slot = newPage (newEntry directoryMode 0 cluster slot time dotName)
 
   abbrev up-page : List ℕ
   up-page = newPage (newEntry directoryMode 0 0 0 time dotDotName)
 
-  two : length (dot-page first (numberBy dead (word page 4)) ++ up-page) ≡ 1024
-  two = length-append (dot-page first (numberBy dead (word page 4))) up-page ∙ ap₂ (λ a b. a + b) (length-new _) (length-new _)
+  pub one-cluster : clustersFor (length (dotsOf (here .first) (numberBy dead (entriesOf here)) time)) ≡ 1
+  one-cluster = ap clustersFor (length-append (dot-page (here .first) (numberBy dead (entriesOf here))) up-page ∙ ap₂ (λ a b. a + b) (length-new _) (length-new _))
 
-  one-cluster : clustersFor (length (dot-page first (numberBy dead (word page 4)) ++ up-page)) ≡ 1
-  one-cluster = ap clustersFor two
-
-  begins : firstOf (site .chain) ≡ first
+  begins : firstOf (site .chain) ≡ here .first
   begins = ap firstOf (site .starts)
 
-  numbered : 2 + firstDead (site .slots) ≡ numberBy dead (word page 4)
-  numbered = number-is (entryOf page) (site .chain) (site .slots) (see s image) (site .below) (site .two) (site .long) (site .held) dead d
+  numbered : 2 + firstDead (site .slots) ≡ numberBy dead (entriesOf here)
+  numbered = number-is (entryOf (here .page)) (site .chain) (site .slots) (see s image) (site .below) (site .two) (site .long) (site .held) dead d
 
-  filled : (own : List ℕ) → (newDirectory (lastName p) time (firstOf (site .chain)) (2 + firstDead (site .slots)) own) .pages ≡ dataPages (dot-page first (numberBy dead (word page 4)) ++ up-page)
+  filled : (own : List ℕ) → (newDirectory (lastName p) time (firstOf (site .chain)) (2 + firstDead (site .slots)) own) .pages ≡ dataPages (dotsOf (here .first) (numberBy dead (entriesOf here)) time)
   unfolding entryPage
   filled own =
       ap₂ (λ a b. some (dot-page a b) ∷ some up-page ∷ []) begins numbered
-      ∙ sym (two-pages (dot-page first (numberBy dead (word page 4))) up-page (length-new _) (length-new _))
+      ∙ sym (two-pages (dot-page (here .first) (numberBy dead (entriesOf here))) up-page (length-new _) (length-new _))
 
-  pub make-done : static (makeDirectory p time) ≡ 0 → 1 + growthBy dead (word page 4) ≤ length (freeList (tableOf image s)) → Adds (makeDirectory p time) directoryMode 2 dots
-  make-done fine room =
-      let lacks : own (makeDirectory p time) (lookIn (site .slots) (lastName p ∷ [])) ≡ 0 = rw absent-so in
+  pub make-done : (bytes : List ℕ) → static (makeDirectory p time) ≡ 0 → needOf here dead (dotsOf (here .first) (numberBy dead (entriesOf here)) time) ≤ length (freeList (tableOf image s))
+      → Adds image s here (makeDirectory p time) (newOf true bytes dead) time (lastName p) (dotsOf (here .first) (numberBy dead (entriesOf here)) time)
+  make-done bytes fine room =
       let f = newDirectory (lastName p) time (firstOf (site .chain)) (2 + firstDead (site .slots)) in
-      let plan =
-      planned-at image s root m checked (makeDirectory p time) fine at first page site
-      ∙ ap (λ k. some (made (rulesOf s) (see s image) (directoryAt site) (adding (directoryAt site) (site .slots) k f))) (sym one-cluster) in
-      record {
-        lands = added-lands image s root m checked (makeDirectory p time) fine at first page site refl dead d lacks room f directoryMode 2 time (lastName p) dots (sym one-cluster) plan filled (λ o. refl) (λ o. refl);
-        done = added-done image s root m checked (makeDirectory p time) fine at first page site refl dead d lacks room f directoryMode 2 time (lastName p) dots (sym one-cluster) plan filled (λ o. refl) (λ o. refl);
-      }
+      adds image s root m checked (makeDirectory p time) fine here site refl dead d (rw absent-so) (omega (arith, one-cluster)) f directoryMode 2 time (lastName p)
+      (dotsOf (here .first) (numberBy dead (entriesOf here)) time) (sym one-cluster)
+      (planned-at image s root m checked (makeDirectory p time) fine here site
+      ∙ ap (λ k. some (made (rulesOf s) (see s image) (directoryAt here (site .chain)) (adding (directoryAt here (site .chain)) (site .slots) k f))) (sym one-cluster))
+      filled (λ o. refl) (λ o. refl)

@@ -1,25 +1,28 @@
--- What the laws of the changes in a directory share: what an outcome says, and the slots that are scanned.
+-- What the laws of the changes in a directory share: what a call leaves, and the slots that are scanned.
 use Prim.Native.Nat.{ℕ, _-_}
 use mathlib.Core.Bool.{Bool}
 use mathlib.Core.List.{List}
 use mathlib.Core.Path.{_∙_, _≡_, ap, sym}
 use Rattle.lookup.specs.declared.along.Place.{Place}
 use Rattle.lookup.specs.Descend.{scan}
-use Rattle.model.specs.Bytes.{word}
-use Rattle.model.specs.Check.{Result}
 use Rattle.tree.specs.Slots.{nextOf, slotPages}
+use Rattle.change.specs.declared.Answer.{Answer}
+use Rattle.change.specs.declared.entries.EntryAt.{EntryAt}
+use Rattle.change.specs.Answers.{Leaves, toldAnswer}
 use Rattle.change.specs.Calls.{slotsOf}
 use Rattle.change.specs.Changed.{Outcome}
+use Rattle.change.specs.Deeds.{entriesOf}
 
--- an answer and an image are those of an outcome
-abbrev pub Says : Result (Unit {0}) → List ℕ → Outcome → Type 0
-Says answer image o = (answer ≡ o .answer) × (image ≡ o .image)
+module _ {outcome : Outcome} {answer : Answer} {image : List ℕ} where
+  pub leaves : outcome ≡ record { answer = toldAnswer answer; image = image } → Leaves outcome answer image
+  leaves e = record { told = ap (λ (x : Outcome). x .answer) (sym e); left = ap (λ (x : Outcome). x .image) (sym e) }
 
-pub says-as : {answer : Result (Unit {0})} {image : List ℕ} {o p : Outcome} → p ≡ o → Says answer image o → Says answer image p
-says-as e h = (h .0 ∙ ap (λ (x : Outcome). x .answer) (sym e), h .1 ∙ ap (λ (x : Outcome). x .image) (sym e))
+  pub leaves-as : {other : Outcome} → outcome ≡ other → Leaves other answer image → Leaves outcome answer image
+  leaves-as e h =
+      record { told = h .told ∙ ap (λ (x : Outcome). x .answer) (sym e); left = h .left ∙ ap (λ (x : Outcome). x .image) (sym e) }
 
 -- ---- the slots that the code scans are the directory's
-module _ (table : List ℕ) (first : ℕ) (page : List ℕ) {start count entries : ℕ} (starts : start ≡ nextOf table first) (counted : count ≡ entries - 2)
-    (entries-are : entries ≡ word page 4) where
-  pub scan-so : (test : ℕ → ℕ → Bool) {found : Place} → found ≡ scan test (slotPages table start 0 count) 0 → scan test (slotsOf table first page) 0 ≡ found
+module _ (table : List ℕ) (directory : EntryAt) {start count entries : ℕ} (starts : start ≡ nextOf table (directory .first)) (counted : count ≡ entries - 2)
+    (entries-are : entries ≡ entriesOf directory) where
+  pub scan-so : (test : ℕ → ℕ → Bool) {found : Place} → found ≡ scan test (slotPages table start 0 count) 0 → scan test (slotsOf table directory) 0 ≡ found
   scan-so test e = sym (rw (starts, counted, entries-are) at e)

@@ -4,7 +4,7 @@ use mathlib.Core.Bool.{Bool, _&&_, cond, false, true}
 use mathlib.Core.List.{List, [], _∷_}
 use mathlib.Core.Logic.{_⊎_, inl, inr}
 use mathlib.Core.Option.{none, some}
-use mathlib.Core.Path.{_∙_, _≡_, ap, refl, sym}
+use mathlib.Core.Path.{_∙_, _≡_, ap, refl, subst, sym}
 use native.Mathlib.Omega.{arith}
 use borrow.Author.Tests.{le-leb, lt-leb, lt-ltb, ltb-true}
 use lib.Dec.{eqb, leb, ltb}
@@ -30,9 +30,11 @@ use Rattle.model.proofs.CheckHolds.{check-holds}
 use Rattle.model.proofs.Equality.{and-l, and-r, bool, tf}
 use Rattle.change.specs.declared.calls.Kind.{Kind}
 use Rattle.change.specs.declared.calls.Kind.the-variants as kind
-use Rattle.change.specs.Calls.{CanDelete, CanRemove, CanReplace, createdIn, deletedIn, madeIn, refusedBy, removedIn, replacedIn}
+use Rattle.change.specs.declared.editing.Action.{Action}
+use Rattle.change.specs.declared.editing.Action.the-variants as action
+use Rattle.change.specs.Calls.{CanEditIn, addedIn, editedIn, refusedBy}
 use Rattle.change.specs.Changed.{changed, rulesOf}
-use Rattle.change.specs.Kinds.{Can, changeOf, changedIn, takesNames, takesTime}
+use Rattle.change.specs.Kinds.{CanChange, changeOf, changedIn, takesNames, takesTime}
 use Rattle.change.proofs.AddOutcomes.{can-create, can-make, created-here, made-here}
 use Rattle.change.proofs.ChangedLaws.{checked-parts, refuses}
 use Rattle.change.proofs.EditOutcomes.{can-delete, can-remove, can-replace, deleted-here, removed-here, replaced-here}
@@ -141,35 +143,17 @@ module _ (image : List ℕ) (s : Superblock) (root : Root) (m : Marks) (checked 
     call-kind K time bytes fine e =
         refused-way K time bytes 9 fine (lookup.site-kind (see s image) (tableOf image s) (λ c. refl) (λ q. refl) root holds path′ names k parsed count a led e)
 
-    module _ (first : ℕ) (e : a .arrival ≡ arrival.At first) where
-      last-so : isDirectory (entryOf (a .page)) ≡ true → nameAt path′ k ≡ lastName names
-      last-so d = sym ((lookup.site-at (see s image) (tableOf image s) (λ c. refl) (λ q. refl) root holds path′ names k parsed count a led first e d) .last)
+    last-so : nameAt path′ k ≡ lastName names
+    last-so = sym (lookup.site-last (see s image) (tableOf image s) (λ c. refl) (λ q. refl) root holds path′ names k parsed count a led)
 
-      site-here : isDirectory (entryOf (a .page)) ≡ true → Site (see s image) (tableOf image s) root names (a .at) first (a .page)
-      site-here d =
-          let z = lookup.site-at (see s image) (tableOf image s) (λ c. refl) (λ q. refl) root holds path′ names k parsed count a led first e d in
-          record {
-            chain = z .chain;
-            rest = z .rest;
-            slots = z .slots;
-            below = z .below;
-            open-way = z .open-way;
-            found-so = z .found-so;
-            page-so = z .number;
-            read = z .shown;
-            two = z .two;
-            long = z .long;
-            linked = z .links;
-            starts = z .begins;
-            pages = z .pages;
-            held = rw (z .pages) (z .held);
-            named = z .asked;
-          }
+    module _ (first : ℕ) (e : a .arrival ≡ arrival.At first) where
+      site-here : isDirectory (entryOf (a .page)) ≡ true → Site (see s image) (tableOf image s) root names (record { at = a .at; first = first; page = a .page })
+      site-here d = lookup.site-at (see s image) (tableOf image s) (λ c. refl) (λ q. refl) root holds path′ names k parsed count a led first e d
 
       -- a file in the directory's place
       no-directory : (K : Kind) (time bytes : List ℕ) → isDirectory (entryOf (a .page)) ≡ false
-          → changedIn s image (tableOf image s) (a .at) first (a .page) (nameAt path′ k) time bytes K ≡ refusedBy 10 image
-      unfolding createdIn madeIn replacedIn deletedIn removedIn entered
+          → changedIn s image (tableOf image s) (record { at = a .at; first = first; page = a .page }) (nameAt path′ k) time bytes K ≡ refusedBy 10 image
+      unfolding addedIn editedIn entered
       no-directory kind.Create time bytes f = rw f
       no-directory kind.Make time bytes f = rw f
       no-directory kind.Replace time bytes f = rw f
@@ -177,52 +161,50 @@ module _ (image : List ℕ) (s : Superblock) (root : Root) (m : Marks) (checked 
       no-directory kind.Remove time bytes f = rw f
 
       in-directory : (K : Kind) (time bytes : List ℕ) → static (changeOf K names time bytes) ≡ 0 → isDirectory (entryOf (a .page)) ≡ true
-          → changedIn s image (tableOf image s) (a .at) first (a .page) (lastName names) time bytes K ≡ changed (changeOf K names time bytes) image
-      in-directory kind.Create time bytes fine d = created-here image s root m checked names (a .at) first (a .page) (site-here d) d time bytes fine
-      in-directory kind.Make time bytes fine d = made-here image s root m checked names (a .at) first (a .page) (site-here d) d time fine
-      in-directory kind.Replace time bytes fine d = replaced-here image s root m checked names (a .at) first (a .page) (site-here d) d time bytes fine
-      in-directory kind.Delete time bytes fine d = deleted-here image s root m checked names (a .at) first (a .page) (site-here d) d fine
-      in-directory kind.Remove time bytes fine d = removed-here image s root m checked names (a .at) first (a .page) (site-here d) d fine
+          → changedIn s image (tableOf image s) (record { at = a .at; first = first; page = a .page }) (lastName names) time bytes K ≡ changed (changeOf K names time bytes) image
+      in-directory kind.Create time bytes fine d = created-here image s root m checked names (record { at = a .at; first = first; page = a .page }) (site-here d) time bytes d fine
+      in-directory kind.Make time bytes fine d = made-here image s root m checked names (record { at = a .at; first = first; page = a .page }) (site-here d) time bytes d fine
+      in-directory kind.Replace time bytes fine d = replaced-here image s root m checked names (record { at = a .at; first = first; page = a .page }) (site-here d) d time bytes fine
+      in-directory kind.Delete time bytes fine d = deleted-here image s root m checked names (record { at = a .at; first = first; page = a .page }) (site-here d) d time bytes fine
+      in-directory kind.Remove time bytes fine d = removed-here image s root m checked names (record { at = a .at; first = first; page = a .page }) (site-here d) d time bytes fine
 
       pub call-in : (K : Kind) (time bytes : List ℕ) → static (changeOf K names time bytes) ≡ 0
-          → changedIn s image (tableOf image s) (a .at) first (a .page) (nameAt path′ k) time bytes K ≡ changed (changeOf K names time bytes) image
+          → changedIn s image (tableOf image s) (record { at = a .at; first = first; page = a .page }) (nameAt path′ k) time bytes K ≡ changed (changeOf K names time bytes) image
       call-in K time bytes fine = go (bool (isDirectory (entryOf (a .page))))
         where
           go : (isDirectory (entryOf (a .page)) ≡ true) ⊎ (isDirectory (entryOf (a .page)) ≡ false)
-              → changedIn s image (tableOf image s) (a .at) first (a .page) (nameAt path′ k) time bytes K ≡ changed (changeOf K names time bytes) image
-          go (inl d) = ap (λ n. changedIn s image (tableOf image s) (a .at) first (a .page) n time bytes K) (last-so d) ∙ in-directory K time bytes fine d
+              → changedIn s image (tableOf image s) (record { at = a .at; first = first; page = a .page }) (nameAt path′ k) time bytes K ≡ changed (changeOf K names time bytes) image
+          go (inl d) =
+              ap (λ n. changedIn s image (tableOf image s) (record { at = a .at; first = first; page = a .page }) n time bytes K) last-so ∙ in-directory K time bytes fine d
           go (inr f) =
               no-directory K time bytes f
               ∙ sym (refused-way K time bytes 9 fine (lookup.site-file (see s image) (tableOf image s) (λ c. refl) (λ q. refl) root holds path′ names k parsed count a led first e f))
 
       -- no entry is entered from a file
-      not-entered : {A : Type 0} (next : ℕ) → isDirectory (entryOf (a .page)) ≡ false → (entered (see s image) (tableOf image s) first (a .page) (nameAt path′ k)) .arrival ≡ arrival.At next → A
+      not-entered : (action : Action) (time bytes : List ℕ) → isDirectory (entryOf (a .page)) ≡ false
+          → CanEditIn s image (tableOf image s) (record { at = a .at; first = first; page = a .page }) action (lastName names) time bytes
       unfolding entered
-      not-entered next f h = absurd (let z : arrival.WrongKind ≡ arrival.At next = rw f at h in let y : _≡_ {A = ℕ} 0 1 = cc in omega arith)
+      not-entered action time bytes f next h = absurd (let z : arrival.WrongKind ≡ arrival.At next = rw f at h in let y : _≡_ {A = ℕ} 0 1 = cc in omega arith)
 
-      pub call-can : (K : Kind) (time bytes : List ℕ) → static (changeOf K names time bytes) ≡ 0 → Can s image (tableOf image s) (a .at) first (a .page) (nameAt path′ k) time bytes K
-      call-can kind.Create time bytes fine =
-          λ d l. let n = last-so d in rw n (can-create image s root m checked names (a .at) first (a .page) (site-here d) (rw n at l) time bytes fine)
-      call-can kind.Make time bytes fine =
-          λ d l. let n = last-so d in rw n (can-make image s root m checked names (a .at) first (a .page) (site-here d) (rw n at l) time fine)
-      call-can kind.Replace time bytes fine = λ next h. go next h (bool (isDirectory (entryOf (a .page))))
+      edits : (action : Action) (time bytes : List ℕ)
+          → (isDirectory (entryOf (a .page)) ≡ true → CanEditIn s image (tableOf image s) (record { at = a .at; first = first; page = a .page }) action (lastName names) time bytes)
+          → CanEditIn s image (tableOf image s) (record { at = a .at; first = first; page = a .page }) action (lastName names) time bytes
+      edits action time bytes can = go (bool (isDirectory (entryOf (a .page))))
         where
-          go : (next : ℕ) → (entered (see s image) (tableOf image s) first (a .page) (nameAt path′ k)) .arrival ≡ arrival.At next
-              → (isDirectory (entryOf (a .page)) ≡ true) ⊎ (isDirectory (entryOf (a .page)) ≡ false)
-              → CanReplace s image (tableOf image s) (a .at) (a .page) time bytes ((entered (see s image) (tableOf image s) first (a .page) (nameAt path′ k)) .at) ((entered (see s image) (tableOf image s) first (a .page) (nameAt path′ k)) .page)
-          go next h (inl d) = let n = last-so d in rw n (can-replace image s root m checked names (a .at) first (a .page) (site-here d) d time bytes fine next (rw n at h))
-          go next h (inr f) = not-entered next f h
-      call-can kind.Delete time bytes fine = λ next h. go next h (bool (isDirectory (entryOf (a .page))))
-        where
-          go : (next : ℕ) → (entered (see s image) (tableOf image s) first (a .page) (nameAt path′ k)) .arrival ≡ arrival.At next
-              → (isDirectory (entryOf (a .page)) ≡ true) ⊎ (isDirectory (entryOf (a .page)) ≡ false)
-              → CanDelete s image (tableOf image s) (a .at) (a .page) ((entered (see s image) (tableOf image s) first (a .page) (nameAt path′ k)) .at) ((entered (see s image) (tableOf image s) first (a .page) (nameAt path′ k)) .page)
-          go next h (inl d) = let n = last-so d in rw n (can-delete image s root m checked names (a .at) first (a .page) (site-here d) d fine next (rw n at h))
-          go next h (inr f) = not-entered next f h
-      call-can kind.Remove time bytes fine = λ next h. go next h (bool (isDirectory (entryOf (a .page))))
-        where
-          go : (next : ℕ) → (entered (see s image) (tableOf image s) first (a .page) (nameAt path′ k)) .arrival ≡ arrival.At next
-              → (isDirectory (entryOf (a .page)) ≡ true) ⊎ (isDirectory (entryOf (a .page)) ≡ false)
-              → CanRemove s image (tableOf image s) (a .at) (a .page) ((entered (see s image) (tableOf image s) first (a .page) (nameAt path′ k)) .at) ((entered (see s image) (tableOf image s) first (a .page) (nameAt path′ k)) .page)
-          go next h (inl d) = let n = last-so d in rw n (can-remove image s root m checked names (a .at) first (a .page) (site-here d) d fine next (rw n at h))
-          go next h (inr f) = not-entered next f h
+          go : (isDirectory (entryOf (a .page)) ≡ true) ⊎ (isDirectory (entryOf (a .page)) ≡ false)
+              → CanEditIn s image (tableOf image s) (record { at = a .at; first = first; page = a .page }) action (lastName names) time bytes
+          go (inl d) = can d
+          go (inr f) = not-entered action time bytes f
+
+      can-here : (K : Kind) (time bytes : List ℕ) → static (changeOf K names time bytes) ≡ 0
+          → CanChange s image (tableOf image s) (record { at = a .at; first = first; page = a .page }) (lastName names) time bytes K
+      can-here kind.Create time bytes fine = λ d l. can-create image s root m checked names (record { at = a .at; first = first; page = a .page }) (site-here d) time bytes fine d l
+      can-here kind.Make time bytes fine = λ d l. can-make image s root m checked names (record { at = a .at; first = first; page = a .page }) (site-here d) time bytes fine d l
+      can-here kind.Replace time bytes fine = edits action.Replace time bytes (λ d. can-replace image s root m checked names (record { at = a .at; first = first; page = a .page }) (site-here d) d time bytes fine)
+      can-here kind.Delete time bytes fine = edits action.Delete time bytes (λ d. can-delete image s root m checked names (record { at = a .at; first = first; page = a .page }) (site-here d) d time bytes fine)
+      can-here kind.Remove time bytes fine = edits action.Remove time bytes (λ d. can-remove image s root m checked names (record { at = a .at; first = first; page = a .page }) (site-here d) d time bytes fine)
+
+      pub call-can : (K : Kind) (time bytes : List ℕ) → static (changeOf K names time bytes) ≡ 0
+          → CanChange s image (tableOf image s) (record { at = a .at; first = first; page = a .page }) (nameAt path′ k) time bytes K
+      call-can K time bytes fine =
+          subst (λ n. CanChange s image (tableOf image s) (record { at = a .at; first = first; page = a .page }) n time bytes K) (sym last-so) (can-here K time bytes fine)

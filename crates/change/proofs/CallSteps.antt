@@ -27,7 +27,7 @@ use Rattle.change.specs.declared.calls.Kind.{Kind}
 use Rattle.change.specs.declared.calls.Kind.the-variants as kind
 use Rattle.change.specs.Calls.{refusedBy}
 use Rattle.change.specs.Changed.{changed, changedBy, orRoot, pathIn}
-use Rattle.change.specs.Kinds.{Can, Loaded, Ready, changeOf, changedIn, takesNames, takesTime}
+use Rattle.change.specs.Kinds.{CanChange, Loaded, Ready, changeOf, changedIn, takesNames, takesTime}
 use Rattle.change.proofs.CallOutcomes.{call-absent, call-can, call-in, call-kind, no-path, path-good, static-deep, static-fine, static-late, static-refused}
 use Rattle.change.proofs.ChangedLaws.{checked-parts}
 
@@ -84,15 +84,15 @@ module _ (image : List ℕ) (s : Superblock) (table : List ℕ) (K : Kind) (path
   at-kind e = own ∙ call-kind image s (r .card .root) (r .card .marks) (r .card .checked) path (r .names) (count - 1) (r .parsed) many a led-so K time bytes (r .fine) e
 
   module _ (first : ℕ) (e : a .arrival ≡ arrival.At first) (name : List ℕ) (last : name ≡ nameAt path (count - 1)) where
-    pub at-in : changed (changeOf K (pathIn path) time bytes) image ≡ changedIn s image table (a .at) first (a .page) name time bytes K
+    pub at-in : changed (changeOf K (pathIn path) time bytes) image ≡ changedIn s image table (record { at = a .at; first = first; page = a .page }) name time bytes K
     at-in =
-        own ∙ sym (ap₂ (λ t n. changedIn s image t (a .at) first (a .page) n time bytes K) (r .card .words) last
+        own ∙ sym (ap₂ (λ t n. changedIn s image t (record { at = a .at; first = first; page = a .page }) n time bytes K) (r .card .words) last
         ∙ call-in image s (r .card .root) (r .card .marks) (r .card .checked) path (r .names) (count - 1) (r .parsed) many a led-so first e K time bytes (r .fine))
 
-    pub at-can : Can s image table (a .at) first (a .page) name time bytes K
+    pub at-can : CanChange s image table (record { at = a .at; first = first; page = a .page }) name time bytes K
     at-can =
-        subst (λ n. Can s image table (a .at) first (a .page) n time bytes K) (sym last)
-        (subst (λ t. Can s image t (a .at) first (a .page) (nameAt path (count - 1)) time bytes K) (sym (r .card .words))
+        subst (λ n. CanChange s image table (record { at = a .at; first = first; page = a .page }) n time bytes K) (sym last)
+        (subst (λ t. CanChange s image t (record { at = a .at; first = first; page = a .page }) (nameAt path (count - 1)) time bytes K) (sym (r .card .words))
         (call-can image s (r .card .root) (r .card .marks) (r .card .checked) path (r .names) (count - 1) (r .parsed) many a led-so first e K time bytes (r .fine)))
 
 -- ---- of any image

@@ -2,7 +2,7 @@
 use Rattle.layout.specs.See.{imagePage}
 use Rattle.layout.specs.declared.Geometry.{Geometry}
 use Prim.Native.Nat.{ℕ, _*_, _+_, _<_, _≤_}
-use mathlib.Core.Bool.{Bool, false, true}
+use mathlib.Core.Bool.{true}
 use mathlib.Core.List.{List, [], _++_, _∷_}
 use mathlib.Core.Option.{some}
 use mathlib.Core.Path.{_∙_, _≡_, ap, ap₂, refl, sym}
@@ -65,26 +65,25 @@ module _ (geometry : Geometry) (image : List ℕ) where
   zeros-written (g ∷ h ∷ gs) n k z p e f = absurd (omega arith)
 
   -- growth, data, the directory's entry and the change's own, one after the other
-  pub all-written : (growth taken bytes : List ℕ) (at : ℕ) (directory : List ℕ) (new : Bool) (slot : ℕ) (entry : List ℕ) {zeroed filled entered whole : List ℕ}
+  pub all-written : (growth taken bytes : List ℕ) (directory own : PageWrite) {zeroed filled entered whole : List ℕ}
       → zeroed ≡ writePages geometry (clusterWrites (pagesOf growth) (some zeroPage ∷ some zeroPage ∷ [])) image
       → filled ≡ writePages geometry (clusterWrites (pagesOf taken) (dataPages bytes)) zeroed
-      → entered ≡ put false (imagePage geometry at) directory filled → whole ≡ put new (imagePage geometry slot) entry entered
-      → whole ≡ writePages geometry (writesOf growth taken bytes at directory new slot entry) image
-  all-written growth taken bytes at directory new slot entry e f g h =
+      → entered ≡ writePages geometry (directory ∷ []) filled → whole ≡ writePages geometry (own ∷ []) entered
+      → whole ≡ writePages geometry (writesOf growth taken bytes directory own) image
+  all-written growth taken bytes directory own e f g h =
       let zeros = clusterWrites (pagesOf growth) (some zeroPage ∷ some zeroPage ∷ []) in
       let filling = clusterWrites (pagesOf taken) (dataPages bytes) in
-      let entries : List PageWrite = record { always = false; page = at; bytes = directory } ∷ record { always = new; page = slot; bytes = entry } ∷ [] in
-      h ∙ ap (put new (imagePage geometry slot) entry) (g ∙ ap (put false (imagePage geometry at) directory) (f ∙ ap (writePages geometry filling) e))
-      ∙ sym (written-append geometry zeros (filling ++ entries) image ∙ written-append geometry filling entries (writePages geometry zeros image))
+      h ∙ ap (writePages geometry (own ∷ [])) (g ∙ ap (writePages geometry (directory ∷ [])) (f ∙ ap (writePages geometry filling) e))
+      ∙ sym (written-append geometry zeros (filling ++ (directory ∷ own ∷ [])) image ∙ written-append geometry filling (directory ∷ own ∷ []) (writePages geometry zeros image))
 
 -- ---- the pages of the last two writes lie among the allocatable clusters
 lands-behind : (end : ℕ) (xs zs : List PageWrite) → Lands end (xs ++ zs) → Lands end zs
 lands-behind end [] zs h = h
 lands-behind end (w ∷ xs) zs h = lands-behind end xs zs (h .2)
 
-pub entries-land : (end : ℕ) (growth taken bytes : List ℕ) (at : ℕ) (directory : List ℕ) (new : Bool) (slot : ℕ) (entry : List ℕ)
-    → Lands end (writesOf growth taken bytes at directory new slot entry) → (at < 2 * end) × (slot < 2 * end)
-entries-land end growth taken bytes at directory new slot entry h =
+pub entries-land : (end : ℕ) (growth taken bytes : List ℕ) (directory own : PageWrite) → Lands end (writesOf growth taken bytes directory own)
+    → (directory .page < 2 * end) × (own .page < 2 * end)
+entries-land end growth taken bytes directory own h =
     let both =
     lands-behind end (clusterWrites (pagesOf taken) (dataPages bytes)) _
     (lands-behind end (clusterWrites (pagesOf growth) (some zeroPage ∷ some zeroPage ∷ [])) _ h) in

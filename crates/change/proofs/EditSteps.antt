@@ -6,42 +6,41 @@ use mathlib.Core.Path.{_∙_, _≡_, ap, ap₂, refl, subst, sym}
 use native.Mathlib.Omega.{arith}
 use borrow.Author.Tests.{le-leb, lt-leb}
 use lib.ListN.{length, take}
-use lib.Seq.{length-take-le, take-take}
+use lib.Seq.{length-take-le}
 use Rattle.layout.specs.declared.Superblock.{Superblock}
-use Rattle.layout.specs.Table.{openCard}
-use Rattle.model.specs.Bytes.{word}
-use Rattle.model.specs.Check.{fault, ok}
+use Rattle.model.specs.Bytes.{wordLimit}
 use Rattle.model.specs.Entry.{clustersFor, entryOf, isDirectory}
 use Rattle.model.specs.Pages.{alteredEntry, alteredPage}
 use Rattle.model.specs.Plan.{firstOf, killed, withLength}
 use Rattle.model.specs.Tree.{times}
 use Rattle.model.specs.View.{topBit}
-use Rattle.change.specs.Calls.{CanReplace, replacedEntry}
-use Rattle.change.specs.Deeds.{imageBy, keptDirectory, relinked, removedTable, removedWrites, replacedTable, replacedWrites, writesOf}
+use Rattle.model.specs.Writes.{PageWrite}
+use Rattle.change.specs.declared.editing.Action.the-variants as action
+use Rattle.change.specs.declared.entries.EntryAt.{EntryAt}
+use Rattle.change.specs.Calls.{CanEdit, doneWith, enough, refusedBy, replacedEntry, replacedImage}
+use Rattle.change.specs.Deeds.{Open, directoryWrite, entriesOf, keptWrite, relinked, removedWrites, replacedTable, replacedWrites, writesOf}
 use Rattle.change.specs.Image.{Lands}
 use Rattle.change.specs.Words.{freeList}
-use Rattle.change.proofs.CallLaws.{Says}
 use Rattle.change.proofs.FreeLaws.{free-few, taken-low}
 
 -- the directory's entry with the length that it has
-kept-so : (page : List ℕ) {entries : ℕ} {directory : List ℕ} → entries ≡ word page 4 → directory ≡ alteredPage page (withLength (entryOf page) entries) → directory ≡ keptDirectory page
-kept-so page e d = d ∙ ap (λ n. alteredPage page (withLength (entryOf page) n)) e
+kept-so : (directory : EntryAt) {entries : ℕ} {kept : List ℕ} → entries ≡ entriesOf directory → kept ≡ alteredPage (directory .page) (withLength (entryOf (directory .page)) entries)
+    → _≡_ {A = PageWrite} (record { always = false; page = directory .at; bytes = kept }) (keptWrite directory)
+kept-so directory e d = ap (λ p. record { always = false; page = directory .at; bytes = p }) d ∙ ap (directoryWrite directory) e
 
 -- ---- removing
-module _ (page : List ℕ) (at slot : ℕ) (entry : List ℕ) {entries : ℕ} {directory gone : List ℕ} (entries-are : entries ≡ word page 4)
-    (directory-is : directory ≡ alteredPage page (withLength (entryOf page) entries)) (gone-is : gone ≡ alteredPage entry (killed (entryOf entry))) where
-  pub removed-writes : writesOf [] [] [] at directory false slot gone ≡ removedWrites page at slot entry
-  removed-writes = ap₂ (λ (d g : List ℕ). writesOf [] [] [] at d false slot g) (kept-so page entries-are directory-is) gone-is
+module _ (directory entry : EntryAt) {entries : ℕ} {kept gone : List ℕ} (entries-are : entries ≡ entriesOf directory)
+    (kept-is : kept ≡ alteredPage (directory .page) (withLength (entryOf (directory .page)) entries)) (gone-is : gone ≡ alteredPage (entry .page) (killed (entryOf (entry .page)))) where
+  pub removed-writes : writesOf [] [] [] (record { always = false; page = directory .at; bytes = kept }) (record { always = false; page = entry .at; bytes = gone })
+      ≡ removedWrites directory entry
+  removed-writes = ap₂ (λ d g. writesOf [] [] [] d (record { always = false; page = entry .at; bytes = g })) (kept-so directory entries-are kept-is) gone-is
 
-  pub removed-lands : (end : ℕ) → Lands end (removedWrites page at slot entry) → Lands end (writesOf [] [] [] at directory false slot gone)
+  pub removed-lands : (end : ℕ) → Lands end (removedWrites directory entry)
+      → Lands end (writesOf [] [] [] (record { always = false; page = directory .at; bytes = kept }) (record { always = false; page = entry .at; bytes = gone }))
   removed-lands end h = subst (Lands end) (sym removed-writes) h
 
-pub removed-words : (table entry : List ℕ) (count : ℕ) {back : ℕ} {after : List ℕ} → back ≡ word entry 0x10 → after ≡ relinked back count [] 0 [] table → after ≡ removedTable table entry count
-removed-words table entry count b e = e ∙ ap (λ n. relinked n count [] 0 [] table) b
-
 -- ---- replacing: the clusters taken are the first of the free ones
-module _ (table list bytes : List ℕ) (free : ℕ) (inside : free ≤ length list) (listed : take free list ≡ freeList table) (room : clustersFor (length bytes) ≤ free)
-    {own : ℕ} (own-is : own ≡ clustersFor (length bytes)) where
+module _ (table list bytes : List ℕ) (listed : list ≡ freeList table) (room : clustersFor (length bytes) ≤ length list) {own : ℕ} (own-is : own ≡ clustersFor (length bytes)) where
   pub own-inside : own ≤ length list
   own-inside = omega arith
 
@@ -49,41 +48,42 @@ module _ (table list bytes : List ℕ) (free : ℕ) (inside : free ≤ length li
   own-taken = length-take-le own list own-inside ∙ own-is
 
   taken-is : take own list ≡ take (clustersFor (length bytes)) (freeList table)
-  taken-is = sym (take-take own free list (omega arith)) ∙ ap₂ take own-is listed
+  taken-is = ap₂ take own-is listed
 
-  module _ (image : List ℕ) (s : Superblock) (opened : openCard image ≡ ok s) (long : length table ≡ s .end) where
-    pub few-bytes : length bytes < 4294967296
-    few-bytes = omega (arith, ap length listed, length-take-le free list inside, free-few image table s opened long)
+  module _ (image : List ℕ) (s : Superblock) (card : Open s image table) where
+    pub few-bytes : length bytes < wordLimit
+    few-bytes = omega (arith, ap length listed, free-few image table s (card .opened) (card .long))
 
     pub own-low : (x : ℕ) → topBit ≤ x → times (take own list) x + 0 ≡ 0
-    own-low x h = rw taken-is (taken-low image table s opened long 0 (clustersFor (length bytes)) (freeList table) refl x h)
+    own-low x h = rw taken-is (taken-low image table s (card .opened) (card .long) 0 (clustersFor (length bytes)) (freeList table) refl x h)
 
-  pub replaced-words : (entry : List ℕ) {back count size : ℕ} {after : List ℕ} → back ≡ word entry 0x10 → count ≡ clustersFor size → size ≡ word entry 4
-      → after ≡ relinked back count (take own list) 0 [] table → after ≡ replacedTable table entry bytes
-  replaced-words entry b c z e = e ∙ rw (b, c, z, taken-is)
+  pub replaced-words : (entry : EntryAt) {count size : ℕ} {after : List ℕ} → count ≡ clustersFor size → size ≡ entriesOf entry
+      → after ≡ relinked (entry .first) count (take own list) 0 [] table → after ≡ replacedTable table entry bytes
+  replaced-words entry c z e = e ∙ rw (c, z, taken-is)
 
-  module _ (page : List ℕ) (at slot : ℕ) (entry time : List ℕ) {entries start : ℕ} {directory contents : List ℕ} (entries-are : entries ≡ word page 4)
-      (directory-is : directory ≡ alteredPage page (withLength (entryOf page) entries)) (start-is : start ≡ firstOf (take own list))
-      (contents-are : contents ≡ alteredPage entry (alteredEntry (entryOf entry) ((entryOf entry) .mode) (length bytes) start time)) where
-    pub replaced-writes : writesOf [] (take own list) bytes at directory false slot contents ≡ replacedWrites table page at slot entry time bytes
-    replaced-writes = rw (kept-so page entries-are directory-is, contents-are, start-is, taken-is)
+  module _ (directory entry : EntryAt) (time : List ℕ) {entries start : ℕ} {kept contents : List ℕ} (entries-are : entries ≡ entriesOf directory)
+      (kept-is : kept ≡ alteredPage (directory .page) (withLength (entryOf (directory .page)) entries)) (start-is : start ≡ firstOf (take own list))
+      (contents-are : contents ≡ alteredPage (entry .page) (alteredEntry (entryOf (entry .page)) ((entryOf (entry .page)) .mode) (length bytes) start time)) where
+    pub replaced-writes : writesOf [] (take own list) bytes (record { always = false; page = directory .at; bytes = kept }) (record { always = false; page = entry .at; bytes = contents })
+        ≡ replacedWrites table directory entry time bytes
+    replaced-writes = rw (kept-so directory entries-are kept-is, contents-are, start-is, taken-is)
 
-    pub replaced-lands : (end : ℕ) → Lands end (replacedWrites table page at slot entry time bytes) → Lands end (writesOf [] (take own list) bytes at directory false slot contents)
+    pub replaced-lands : (end : ℕ) → Lands end (replacedWrites table directory entry time bytes)
+        → Lands end (writesOf [] (take own list) bytes (record { always = false; page = directory .at; bytes = kept }) (record { always = false; page = entry .at; bytes = contents }))
     replaced-lands end h = subst (Lands end) (sym replaced-writes) h
 
 -- ---- judged against what is free
-module _ (s : Superblock) (image table : List ℕ) (at : ℕ) (page time bytes : List ℕ) (slot : ℕ) (entry : List ℕ) where
-  pub replaced-kind : isDirectory (entryOf entry) ≡ true → Says (fault 10 0) image (replacedEntry s image table at page time bytes slot entry)
-  replaced-kind d = rw d (refl, refl)
+module _ (s : Superblock) (image table : List ℕ) (directory entry : EntryAt) (time bytes : List ℕ) where
+  pub replaced-kind : isDirectory (entryOf (entry .page)) ≡ true → replacedEntry s image table directory entry time bytes ≡ refusedBy 10 image
+  replaced-kind d = rw d
 
-  module _ (file : isDirectory (entryOf entry) ≡ false) where
-    pub replaced-full : length (freeList table) < clustersFor (length bytes) → Says (fault 12 0) image (replacedEntry s image table at page time bytes slot entry)
-    replaced-full h = rw (file, lt-leb (clustersFor (length bytes)) (length (freeList table)) h) (refl, refl)
+  module _ (file : isDirectory (entryOf (entry .page)) ≡ false) where
+    pub replaced-full : length (freeList table) < clustersFor (length bytes) → replacedEntry s image table directory entry time bytes ≡ refusedBy 12 image
+    replaced-full h = rw (file, lt-leb (clustersFor (length bytes)) (length (freeList table)) h)
 
     module _ (room : clustersFor (length bytes) ≤ length (freeList table)) where
-      pub can-land : CanReplace s image table at page time bytes slot entry → Lands (s .end) (replacedWrites table page at slot entry time bytes)
-      can-land can = can file (le-leb (clustersFor (length bytes)) (length (freeList table)) room)
+      pub can-land : CanEdit s image table action.Replace directory time bytes entry → Lands (s .end) (replacedWrites table directory entry time bytes)
+      can-land can = can .lands file (le-leb (clustersFor (length bytes)) (length (freeList table)) room)
 
-      pub replaced-done : {after : List ℕ} → after ≡ imageBy s image (replacedWrites table page at slot entry time bytes) (replacedTable table entry bytes)
-          → Says (ok tt) after (replacedEntry s image table at page time bytes slot entry)
-      replaced-done e = rw (file, le-leb (clustersFor (length bytes)) (length (freeList table)) room) (refl, e)
+      pub replaced-done : {after : List ℕ} → after ≡ replacedImage s image table directory entry time bytes → replacedEntry s image table directory entry time bytes ≡ doneWith after
+      replaced-done e = rw (file, le-leb (clustersFor (length bytes)) (length (freeList table)) room) (ap doneWith (sym e))

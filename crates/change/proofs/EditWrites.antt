@@ -16,35 +16,36 @@ use Rattle.model.specs.Plan.{Filling, altering, freeClusters, made, newContents
 use Rattle.model.specs.Tree.{Root, Slot, entryPages}
 use Rattle.model.specs.View.{pagesOf}
 use Rattle.model.specs.Writes.{PageWrite, clusterWrites, pageWrites}
+use Rattle.change.specs.declared.entries.EntryAt.{EntryAt}
 use Rattle.change.specs.Changed.{rulesOf}
-use Rattle.change.specs.Deeds.{keptDirectory, removedWrites, replacedWrites}
+use Rattle.change.specs.Deeds.{keptWrite, removedWrites, replacedWrites}
 use Rattle.change.specs.Words.{freeList}
-use Rattle.change.proofs.Sites.{Site, directoryAt}
+use Rattle.change.proofs.Sites.{Site, directoryAt, entryIn}
 
-module _ (image : List ℕ) (s : Superblock) (root : Root) (p : Path) (at first : ℕ) (page : List ℕ)
-    (site : Site (see s image) (tableOf image s) root p at first page) (name : Name) (slot : ℕ) (entry : List ℕ)
-    (read : (see s image) .page slot ≡ some entry) (placed : slot ≡ getD (entryPages (Slot.directory (entryOf page) (site .chain))) (indexOf name (site .slots)) 0)
+module _ (image : List ℕ) (s : Superblock) (root : Root) (p : Path) (here : EntryAt)
+    (site : Site (see s image) (tableOf image s) root p here) (name : Name) (slot : ℕ) (entry : List ℕ)
+    (read : (see s image) .page slot ≡ some entry) (placed : slot ≡ getD (entryPages (Slot.directory (entryOf (here .page)) (site .chain))) (indexOf name (site .slots)) 0)
     (free-is : freeClusters (rulesOf s) (see s image) ≡ freeList (tableOf image s)) where
-  slot-so : getD (entryPages (Slot.directory (withLength (entryOf page) ((entryOf page) .length)) (site .chain ++ []))) (indexOf name (site .slots)) 0 ≡ slot
-  slot-so = ap (λ c. getD (entryPages (Slot.directory (withLength (entryOf page) ((entryOf page) .length)) c)) (indexOf name (site .slots)) 0) (append-nil (site .chain)) ∙ sym placed
+  slot-so : getD (entryPages (Slot.directory (withLength (entryOf (here .page)) ((entryOf (here .page)) .length)) (site .chain ++ []))) (indexOf name (site .slots)) 0 ≡ slot
+  slot-so = ap (λ c. getD (entryPages (Slot.directory (withLength (entryOf (here .page)) ((entryOf (here .page)) .length)) c)) (indexOf name (site .slots)) 0) (append-nil (site .chain)) ∙ sym placed
 
   edited-writes : (k : ℕ) (given : List ℕ) (f : List ℕ → Filling) → ((own : List ℕ) → (f own) .isNew ≡ false)
-      → pageWrites (see s image) (made (rulesOf s) (see s image) (directoryAt site) (altering (directoryAt site) (site .slots) name k given f))
+      → pageWrites (see s image) (made (rulesOf s) (see s image) (directoryAt here (site .chain)) (altering (directoryAt here (site .chain)) (site .slots) name k given f))
       ≡ clusterWrites (pagesOf (take k (freeList (tableOf image s)))) ((f (take k (freeList (tableOf image s)))) .pages)
-      ++ (record { always = false; page = at; bytes = keptDirectory page }
+      ++ (keptWrite here
       ∷ record { always = false; page = slot; bytes = alteredPage entry ((f (take k (freeList (tableOf image s)))) .entry) } ∷ [])
   unfolding entryPage
   edited-writes k given f old =
       ap₂ (λ x z. x ++ z) (ap (λ l. clusterWrites (pagesOf (take k l)) ((f (take k l)) .pages)) free-is)
       (ap₂ (λ (x z : PageWrite). x ∷ z ∷ [])
-      (ap (λ o. record { always = false; page = at; bytes = entryPage false o (withLength (entryOf page) ((entryOf page) .length)) }) (site .read))
+      (ap (λ o. record { always = false; page = here .at; bytes = entryPage false o (withLength (entryOf (here .page)) ((entryOf (here .page)) .length)) }) (site .read))
       own-slot)
     where
       own : List ℕ
       own = take k (freeClusters (rulesOf s) (see s image))
 
       at-slot : ℕ
-      at-slot = getD (entryPages (Slot.directory (withLength (entryOf page) ((entryOf page) .length)) (site .chain ++ []))) (indexOf name (site .slots)) 0
+      at-slot = getD (entryPages (Slot.directory (withLength (entryOf (here .page)) ((entryOf (here .page)) .length)) (site .chain ++ []))) (indexOf name (site .slots)) 0
 
       own-slot : _≡_ {A = PageWrite} (record { always = (f own) .isNew; page = at-slot; bytes = entryPage ((f own) .isNew) ((see s image) .page at-slot) ((f own) .entry) })
           (record { always = false; page = slot; bytes = alteredPage entry ((f (take k (freeList (tableOf image s)))) .entry) })
@@ -54,11 +55,11 @@ module _ (image : List ℕ) (s : Superblock) (root : Root) (p : Path) (at first 
           ∙ ap₂ (λ o l. record { always = false; page = slot; bytes = entryPage false o ((f (take k l)) .entry) }) read free-is
 
   pub replaced-writes : (given time bytes : List ℕ)
-      → pageWrites (see s image) (made (rulesOf s) (see s image) (directoryAt site) (altering (directoryAt site) (site .slots) name (clustersFor (length bytes)) given (newContents (entryOf entry) time bytes)))
-      ≡ replacedWrites (tableOf image s) page at slot entry time bytes
+      → pageWrites (see s image) (made (rulesOf s) (see s image) (directoryAt here (site .chain)) (altering (directoryAt here (site .chain)) (site .slots) name (clustersFor (length bytes)) given (newContents (entryOf entry) time bytes)))
+      ≡ replacedWrites (tableOf image s) here (entryIn slot entry) time bytes
   replaced-writes given time bytes = edited-writes (clustersFor (length bytes)) given (newContents (entryOf entry) time bytes) (λ own. refl)
 
   pub removed-writes : (given : List ℕ)
-      → pageWrites (see s image) (made (rulesOf s) (see s image) (directoryAt site) (altering (directoryAt site) (site .slots) name 0 given (removal (entryOf entry))))
-      ≡ removedWrites page at slot entry
+      → pageWrites (see s image) (made (rulesOf s) (see s image) (directoryAt here (site .chain)) (altering (directoryAt here (site .chain)) (site .slots) name 0 given (removal (entryOf entry))))
+      ≡ removedWrites here (entryIn slot entry)
   removed-writes given = edited-writes 0 given (removal (entryOf entry)) (λ own. refl)

@@ -30,6 +30,7 @@ use Rattle.model.proofs.Equality.{and-l, bool, tf}
 use Rattle.model.proofs.Outcome.{Deed}
 use Rattle.reached.specs.Table.{tableLinks}
 use Rattle.lookup.proofs.EnterLaws.{file-kind, some-same}
+use Rattle.change.specs.declared.entries.EntryAt.{EntryAt}
 use Rattle.change.specs.Changed.{Outcome, changed, rulesOf}
 use Rattle.change.specs.Deeds.{imageBy, relinked, removedTable, removedWrites, replacedTable, replacedWrites}
 use Rattle.change.specs.Words.{freeList}
@@ -42,7 +43,7 @@ use Rattle.change.specs.Image.{Lands}
 use Rattle.change.proofs.PlanTable.{same-words}
 use Rattle.change.proofs.SiteFacts.{free-is}
 use Rattle.change.proofs.SiteRefusals.{refusal-here}
-use Rattle.change.proofs.Sites.{Site, directoryAt}
+use Rattle.change.proofs.Sites.{Site, directoryAt, entryIn}
 
 -- the chain that an entry's first cluster leads to, as the code steps through it
 pub entry-follows : (v : View) (t : List ℕ) → ((c : ℕ) → v .link c ≡ tableLinks t c) → (e : Entry) (cs : List ℕ) → Chain v (firstLink e) cs → Follows t (e .firstCluster) cs
@@ -54,15 +55,15 @@ entry-follows v t links e (c ∷ cs) h = go (bool (eqb (e .firstCluster) endMark
     go (inr i) h = chain-follows v t links (e .firstCluster) (c ∷ cs) (rw i at h)
 
 module _ (image : List ℕ) (s : Superblock) (root : Root) (m : Marks) (checked : checkImage image ≡ ok (s, root, m)) (c : Change) (fine : static c ≡ 0) (standing : creates c ≡ false)
-    (at start : ℕ) (page : List ℕ) (site : Site (see s image) (tableOf image s) root (path c) at start page) where
+    (here : EntryAt) (site : Site (see s image) (tableOf image s) root (path c) here) where
   opened : openCard image ≡ ok s
   opened = (checked-parts image s root m checked) .0
 
   edit-refusal : refusal (rulesOf s) c (see s image) root
       ≡ first (own c (lookIn (site .slots) (lastName (path c) ∷ []))) (cond (leb (size c + 0) (length (freeList (tableOf image s)))) 0 12)
   edit-refusal =
-      refusal-here image s root c at start page site fine (free-is image s opened)
-      ∙ ap (λ b. first (own c (lookIn (site .slots) (lastName (path c) ∷ []))) (cond (leb (size c + cond b (growthWithOne (entryOf page) (site .slots)) 0) (length (freeList (tableOf image s)))) 0 12)) standing
+      refusal-here image s root c here site fine (free-is image s opened)
+      ∙ ap (λ b. first (own c (lookIn (site .slots) (lastName (path c) ∷ []))) (cond (leb (size c + cond b (growthWithOne (entryOf (here .page)) (site .slots)) 0) (length (freeList (tableOf image s)))) 0 12)) standing
 
   -- refused by what stands at the name, or for want of room
   pub edit-refused : (n : ℕ) → own c (lookIn (site .slots) (lastName (path c) ∷ [])) ≡ suc n → changed c image ≡ record { answer = fault (suc n) 0; image = image }
@@ -73,14 +74,14 @@ module _ (image : List ℕ) (s : Superblock) (root : Root) (m : Marks) (checked 
 
   module _ (lacks : own c (lookIn (site .slots) (lastName (path c) ∷ [])) ≡ 0) (room : size c ≤ length (freeList (tableOf image s)))
       (k : ℕ) (given : List ℕ) (f : List ℕ → Filling)
-      (plan-so : planOf (rulesOf s) c (see s image) root ≡ some (made (rulesOf s) (see s image) (directoryAt site) (altering (directoryAt site) (site .slots) (lastName (path c)) k given f))) where
+      (plan-so : planOf (rulesOf s) c (see s image) root ≡ some (made (rulesOf s) (see s image) (directoryAt here (site .chain)) (altering (directoryAt here (site .chain)) (site .slots) (lastName (path c)) k given f))) where
     none-met : refusal (rulesOf s) c (see s image) root ≡ 0
     none-met = edit-refusal ∙ rw (lacks, le-leb (size c + 0) (length (freeList (tableOf image s))) (omega arith))
 
-    deed : Deed (rulesOf s) (see s image) root (made (rulesOf s) (see s image) (directoryAt site) (altering (directoryAt site) (site .slots) (lastName (path c)) k given f))
+    deed : Deed (rulesOf s) (see s image) root (made (rulesOf s) (see s image) (directoryAt here (site .chain)) (altering (directoryAt here (site .chain)) (site .slots) (lastName (path c)) k given f))
     deed = deed-of image s root m checked c none-met _ plan-so
 
-    module _ (writes : List PageWrite) (written : pageWrites (see s image) (made (rulesOf s) (see s image) (directoryAt site) (altering (directoryAt site) (site .slots) (lastName (path c)) k given f)) ≡ writes)
+    module _ (writes : List PageWrite) (written : pageWrites (see s image) (made (rulesOf s) (see s image) (directoryAt here (site .chain)) (altering (directoryAt here (site .chain)) (site .slots) (lastName (path c)) k given f)) ≡ writes)
         (back : ℕ) (follows : Follows (tableOf image s) back given) where
       pub edit-lands : Lands (s .end) writes
       edit-lands = lands-as image s root m checked c none-met _ plan-so _ written
@@ -88,7 +89,7 @@ module _ (image : List ℕ) (s : Superblock) (root : Root) (m : Marks) (checked 
       pub edit-done : changed c image ≡ record { answer = ok tt; image = imageBy s image writes (relinked back (length given) (take k (freeList (tableOf image s))) 0 [] (tableOf image s)) }
       edit-done = done-as image s root m checked c none-met _ plan-so _ written (relinked back (length given) (take k (freeList (tableOf image s))) 0 [] (tableOf image s)) words
         where
-          apart : (x : ℕ) → times (start ∷ site .rest) x + times given x + times (take k (freeList (tableOf image s))) x ≤ 1
+          apart : (x : ℕ) → times (here .first ∷ site .rest) x + times given x + times (take k (freeList (tableOf image s))) x ≤ 1
           apart x =
               omega (
                 arith,
@@ -100,12 +101,12 @@ module _ (image : List ℕ) (s : Superblock) (root : Root) (m : Marks) (checked 
               )
 
           words : (x : ℕ) → x < s .end
-              → wordsAfter (made (rulesOf s) (see s image) (directoryAt site) (altering (directoryAt site) (site .slots) (lastName (path c)) k given f)) (λ d. getD (tableOf image s) d 0) x
+              → wordsAfter (made (rulesOf s) (see s image) (directoryAt here (site .chain)) (altering (directoryAt here (site .chain)) (site .slots) (lastName (path c)) k given f)) (λ d. getD (tableOf image s) d 0) x
               ≡ getD (relinked back (length given) (take k (freeList (tableOf image s))) 0 [] (tableOf image s)) x 0
           words x h =
               ap₂ (λ cs l. chainWords (cs ++ []) (chainWords (take k l) (clearedWords given (λ d. getD (tableOf image s) d 0))) x) (site .starts) (free-is image s opened)
-              ∙ same-words (see s image) (tableOf image s) (λ d. refl) start (site .rest) given (take k (freeList (tableOf image s))) back (rw (site .starts) at (site .linked)) follows apart
-              [] (lastIn start (site .rest)) (omega arith) (λ d. omega (arith, apart d)) refl x (omega (arith, length-table image s))
+              ∙ same-words (see s image) (tableOf image s) (λ d. refl) (here .first) (site .rest) given (take k (freeList (tableOf image s))) back (rw (site .starts) at (site .linked)) follows apart
+              [] (lastIn (here .first) (site .rest)) (omega arith) (λ d. omega (arith, apart d)) refl x (omega (arith, length-table image s))
 
 -- ---- the entry at the last name
 pub record There (image : List ℕ) (s : Superblock) (below : ℕ) (pages : List ℕ) (slots : Tree) (name : Name) (slot : ℕ) (entry : List ℕ) : Type 0 where
@@ -118,9 +119,9 @@ pub record There (image : List ℕ) (s : Superblock) (below : ℕ) (pages : List
   pub held : HoldsSlot (see s image) below slot head
   pub within : HoldsSlots (see s image) (pred below) (entryPages head) inside
 
-module _ (image : List ℕ) (s : Superblock) (root : Root) (m : Marks) (checked : checkImage image ≡ ok (s, root, m)) (p : Path) (at start : ℕ) (page : List ℕ)
-    (site : Site (see s image) (tableOf image s) root p at start page) (slot : ℕ) (entry : List ℕ)
-    (there : There image s (site .below) (entryPages (Slot.directory (entryOf page) (site .chain))) (site .slots) (lastName p) slot entry) where
+module _ (image : List ℕ) (s : Superblock) (root : Root) (m : Marks) (checked : checkImage image ≡ ok (s, root, m)) (p : Path) (here : EntryAt)
+    (site : Site (see s image) (tableOf image s) root p here) (slot : ℕ) (entry : List ℕ)
+    (there : There image s (site .below) (entryPages (Slot.directory (entryOf (here .page)) (site .chain))) (site .slots) (lastName p) slot entry) where
   same-entry : (e : Entry) → (see s image) .entry slot ≡ some e → entryOf entry ≡ e
   same-entry e h = some-same (entryOf entry) e (ap decoded (sym (there .read)) ∙ h)
 
@@ -182,52 +183,52 @@ module _ (image : List ℕ) (s : Superblock) (root : Root) (m : Marks) (checked 
     pub done : changed c image ≡ record { answer = ok tt; image = imageBy s image writes table }
 
   pub replace-done : (time bytes : List ℕ) → static (replace p time bytes) ≡ 0 → IsFile → clustersFor (length bytes) ≤ length (freeList (tableOf image s))
-      → Edits (replace p time bytes) (replacedWrites (tableOf image s) page at slot entry time bytes) (replacedTable (tableOf image s) entry bytes)
+      → Edits (replace p time bytes) (replacedWrites (tableOf image s) here (entryIn slot entry) time bytes) (replacedTable (tableOf image s) (entryIn slot entry) bytes)
   replace-done time bytes fine file room =
       let c = replace p time bytes in
       let stands : own (replace p time bytes) (lookIn (site .slots) (lastName p ∷ [])) ≡ 0 = rw (file .found-file) in
       let plan =
-      planned-at image s root m checked (replace p time bytes) fine at start page site
-      ∙ ap (λ g. planBy (rulesOf s) (see s image) (directoryAt site) (editFor (replace p time bytes) (directoryAt site) (site .slots) g)) (file .found-file) in
-      let written = replaced-writes image s root p at start page site (lastName p) slot entry (there .read) (there .placed) (free-is image s ((checked-parts image s root m checked) .0)) (file .given) time bytes in
+      planned-at image s root m checked (replace p time bytes) fine here site
+      ∙ ap (λ g. planBy (rulesOf s) (see s image) (directoryAt here (site .chain)) (editFor (replace p time bytes) (directoryAt here (site .chain)) (site .slots) g)) (file .found-file) in
+      let written = replaced-writes image s root p here site (lastName p) slot entry (there .read) (there .placed) (free-is image s ((checked-parts image s root m checked) .0)) (file .given) time bytes in
       record {
-        lands = edit-lands image s root m checked (replace p time bytes) fine refl at start page site stands room (clustersFor (length bytes)) (file .given) (newContents (entryOf entry) time bytes) plan _ written (word entry 0x10) (file .leads);
+        lands = edit-lands image s root m checked (replace p time bytes) fine refl here site stands room (clustersFor (length bytes)) (file .given) (newContents (entryOf entry) time bytes) plan _ written (word entry 0x10) (file .leads);
         done =
-            edit-done image s root m checked (replace p time bytes) fine refl at start page site stands room (clustersFor (length bytes)) (file .given) (newContents (entryOf entry) time bytes) plan _ written (word entry 0x10) (file .leads)
-            ∙ ap (λ n. record { answer = ok tt; image = imageBy s image (replacedWrites (tableOf image s) page at slot entry time bytes) (relinked (word entry 0x10) n (take (clustersFor (length bytes)) (freeList (tableOf image s))) 0 [] (tableOf image s)) }) (file .many);
+            edit-done image s root m checked (replace p time bytes) fine refl here site stands room (clustersFor (length bytes)) (file .given) (newContents (entryOf entry) time bytes) plan _ written (word entry 0x10) (file .leads)
+            ∙ ap (λ n. record { answer = ok tt; image = imageBy s image (replacedWrites (tableOf image s) here (entryIn slot entry) time bytes) (relinked (word entry 0x10) n (take (clustersFor (length bytes)) (freeList (tableOf image s))) 0 [] (tableOf image s)) }) (file .many);
       }
 
   -- ---- deleting and removing
-  written-gone : (given : List ℕ) → pageWrites (see s image) (made (rulesOf s) (see s image) (directoryAt site) (altering (directoryAt site) (site .slots) (lastName p) 0 given (removal (entryOf entry)))) ≡ removedWrites page at slot entry
-  written-gone given = removed-writes image s root p at start page site (lastName p) slot entry (there .read) (there .placed) (free-is image s ((checked-parts image s root m checked) .0)) given
+  written-gone : (given : List ℕ) → pageWrites (see s image) (made (rulesOf s) (see s image) (directoryAt here (site .chain)) (altering (directoryAt here (site .chain)) (site .slots) (lastName p) 0 given (removal (entryOf entry)))) ≡ removedWrites here (entryIn slot entry)
+  written-gone given = removed-writes image s root p here site (lastName p) slot entry (there .read) (there .placed) (free-is image s ((checked-parts image s root m checked) .0)) given
 
-  gone-as : (n k : ℕ) → n ≡ k → _≡_ {A = Outcome} (record { answer = ok tt; image = imageBy s image (removedWrites page at slot entry) (removedTable (tableOf image s) entry n) })
-      (record { answer = ok tt; image = imageBy s image (removedWrites page at slot entry) (removedTable (tableOf image s) entry k) })
-  gone-as n k e = ap (λ i. record { answer = ok tt; image = imageBy s image (removedWrites page at slot entry) (removedTable (tableOf image s) entry i) }) e
+  gone-as : (n k : ℕ) → n ≡ k → _≡_ {A = Outcome} (record { answer = ok tt; image = imageBy s image (removedWrites here (entryIn slot entry)) (removedTable (tableOf image s) (entryIn slot entry) n) })
+      (record { answer = ok tt; image = imageBy s image (removedWrites here (entryIn slot entry)) (removedTable (tableOf image s) (entryIn slot entry) k) })
+  gone-as n k e = ap (λ i. record { answer = ok tt; image = imageBy s image (removedWrites here (entryIn slot entry)) (removedTable (tableOf image s) (entryIn slot entry) i) }) e
 
-  pub delete-done : static (delete p) ≡ 0 → IsFile → Edits (delete p) (removedWrites page at slot entry) (removedTable (tableOf image s) entry (clustersFor (word entry 4)))
+  pub delete-done : static (delete p) ≡ 0 → IsFile → Edits (delete p) (removedWrites here (entryIn slot entry)) (removedTable (tableOf image s) (entryIn slot entry) (clustersFor (word entry 4)))
   delete-done fine file =
       let stands : own (delete p) (lookIn (site .slots) (lastName p ∷ [])) ≡ 0 = rw (file .found-file) in
       let plan =
-      planned-at image s root m checked (delete p) fine at start page site
-      ∙ ap (λ g. planBy (rulesOf s) (see s image) (directoryAt site) (editFor (delete p) (directoryAt site) (site .slots) g)) (file .found-file) in
+      planned-at image s root m checked (delete p) fine here site
+      ∙ ap (λ g. planBy (rulesOf s) (see s image) (directoryAt here (site .chain)) (editFor (delete p) (directoryAt here (site .chain)) (site .slots) g)) (file .found-file) in
       record {
-        lands = edit-lands image s root m checked (delete p) fine refl at start page site stands (omega arith) 0 (file .given) (removal (entryOf entry)) plan _ (written-gone (file .given)) (word entry 0x10) (file .leads);
+        lands = edit-lands image s root m checked (delete p) fine refl here site stands (omega arith) 0 (file .given) (removal (entryOf entry)) plan _ (written-gone (file .given)) (word entry 0x10) (file .leads);
         done =
-            edit-done image s root m checked (delete p) fine refl at start page site stands (omega arith) 0 (file .given) (removal (entryOf entry)) plan _ (written-gone (file .given)) (word entry 0x10) (file .leads)
+            edit-done image s root m checked (delete p) fine refl here site stands (omega arith) 0 (file .given) (removal (entryOf entry)) plan _ (written-gone (file .given)) (word entry 0x10) (file .leads)
             ∙ gone-as (length (file .given)) (clustersFor (word entry 4)) (file .many);
       }
 
   pub remove-done : static (removeDirectory p) ≡ 0 → IsDirectory → slotCount (there .inside) ≡ deadSlots (there .inside)
-      → Edits (removeDirectory p) (removedWrites page at slot entry) (removedTable (tableOf image s) entry ((word entry 4 + 1) / 2))
+      → Edits (removeDirectory p) (removedWrites here (entryIn slot entry)) (removedTable (tableOf image s) (entryIn slot entry) ((word entry 4 + 1) / 2))
   remove-done fine directory empty =
       let stands : own (removeDirectory p) (lookIn (site .slots) (lastName p ∷ [])) ≡ 0 = rw (directory .found-directory, eq-eqb _ _ empty) in
       let plan =
-      planned-at image s root m checked (removeDirectory p) fine at start page site
-      ∙ ap (λ g. planBy (rulesOf s) (see s image) (directoryAt site) (editFor (removeDirectory p) (directoryAt site) (site .slots) g)) (directory .found-directory) in
+      planned-at image s root m checked (removeDirectory p) fine here site
+      ∙ ap (λ g. planBy (rulesOf s) (see s image) (directoryAt here (site .chain)) (editFor (removeDirectory p) (directoryAt here (site .chain)) (site .slots) g)) (directory .found-directory) in
       record {
-        lands = edit-lands image s root m checked (removeDirectory p) fine refl at start page site stands (omega arith) 0 (directory .given) (removal (entryOf entry)) plan _ (written-gone (directory .given)) (word entry 0x10) (directory .leads);
+        lands = edit-lands image s root m checked (removeDirectory p) fine refl here site stands (omega arith) 0 (directory .given) (removal (entryOf entry)) plan _ (written-gone (directory .given)) (word entry 0x10) (directory .leads);
         done =
-            edit-done image s root m checked (removeDirectory p) fine refl at start page site stands (omega arith) 0 (directory .given) (removal (entryOf entry)) plan _ (written-gone (directory .given)) (word entry 0x10) (directory .leads)
+            edit-done image s root m checked (removeDirectory p) fine refl here site stands (omega arith) 0 (directory .given) (removal (entryOf entry)) plan _ (written-gone (directory .given)) (word entry 0x10) (directory .leads)
             ∙ gone-as (length (directory .given)) ((word entry 4 + 1) / 2) (directory .many);
       }

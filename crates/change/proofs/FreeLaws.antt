@@ -1,9 +1,9 @@
 -- How many clusters a change can take: a directory grows by at most one, and a card's free clusters are few and low.
 use Prim.Native.Nat.{ℕ, zero, suc, _+_, _≤_}
 use mathlib.Core.List.{List}
-use mathlib.Core.Path.{_≡_}
+use mathlib.Core.Path.{_≡_, ap}
 use native.Mathlib.Omega.{arith}
-use lib.ListN.{drop, getD, length, length-append, take}
+use lib.ListN.{drop, getD, length, length-append, length-take, take}
 use Rattle.layout.specs.declared.Superblock.{Superblock}
 use Rattle.layout.specs.Table.{openCard}
 use Rattle.layout.proofs.OpenFacts.{open-facts}
@@ -31,6 +31,10 @@ few-below link (suc k) = rw (length-append (freeBelow link k) (ifFree (link k) k
     one Link.free = omega arith
     one Link.last = omega arith
     one (Link.next a) = omega arith
+
+-- a list whose first elements are the free clusters is at least as long
+pub collected-inside : (list : List ℕ) {count : ℕ} {free : List ℕ} → count ≡ length free → take count list ≡ free → count ≤ length list
+collected-inside list {count} n t = omega (arith, ap length t, length-take count list)
 
 module _ (image table : List ℕ) (s : Superblock) (opened : openCard image ≡ ok s) (long : length table ≡ s .end) where
   pub table-small : length table ≤ mostClusters

@@ -21,6 +21,7 @@ use Rattle.model.specs.Tree.{Root}
 use Rattle.model.specs.View.{Link}
 use Rattle.model.specs.Writes.{linksOf}
 use Rattle.tree.specs.Slots.{clusterAt}
+use Rattle.change.specs.declared.entries.EntryAt.{EntryAt}
 use Rattle.change.specs.Changed.{rulesOf}
 use Rattle.change.specs.Words.{freeList}
 use Rattle.change.proofs.ChainWords.{cluster-in, last-at, lastIn}
@@ -42,17 +43,17 @@ module _ (image : List ℕ) (s : Superblock) (opened : openCard image ≡ ok s) 
       ap (freeBelow (takeable (λ c. true) ((see s image) .link))) (end-is image s opened ∙ sym (length-table image s))
       ∙ sym (free-table (tableOf image s))
 
-  module _ (root : Root) (p : Path) (at first : ℕ) (page : List ℕ) (site : Site (see s image) (tableOf image s) root p at first page) where
-    half : length (site .rest) ≡ ((entryOf page) .length - 1) / 2
+  module _ (root : Root) (p : Path) (here : EntryAt) (site : Site (see s image) (tableOf image s) root p here) where
+    half : length (site .rest) ≡ ((entryOf (here .page)) .length - 1) / 2
     half = let z : suc (length (site .rest)) ≡ length (site .chain) = ap length (sym (site .starts)) in omega (arith, site .two, site .long)
 
-    at-last : clusterAt (tableOf image s) first ((entryOf page) .length - 1) ≡ getD (first ∷ site .rest) (((entryOf page) .length - 1) / 2) 0
-    at-last = cluster-in (see s image) (tableOf image s) (λ c. refl) (Link.next first) first (site .rest) (rw (site .starts) at (site .linked)) ((entryOf page) .length - 1) (omega (arith, half))
+    at-last : clusterAt (tableOf image s) (here .first) ((entryOf (here .page)) .length - 1) ≡ getD (here .first ∷ site .rest) (((entryOf (here .page)) .length - 1) / 2) 0
+    at-last = cluster-in (see s image) (tableOf image s) (λ c. refl) (Link.next (here .first)) (here .first) (site .rest) (rw (site .starts) at (site .linked)) ((entryOf (here .page)) .length - 1) (omega (arith, half))
 
-    pub last-is : clusterAt (tableOf image s) first ((entryOf page) .length - 1) ≡ lastIn first (site .rest)
-    last-is = at-last ∙ ap (λ i. getD (first ∷ site .rest) i 0) (sym half) ∙ last-at first (site .rest)
+    pub last-is : clusterAt (tableOf image s) (here .first) ((entryOf (here .page)) .length - 1) ≡ lastIn (here .first) (site .rest)
+    last-is = at-last ∙ ap (λ i. getD (here .first ∷ site .rest) i 0) (sym half) ∙ last-at (here .first) (site .rest)
 
-    pub last-of-chain : clusterAt (tableOf image s) first ((entryOf page) .length - 1) ≡ getD (site .chain) (length (site .chain) - 1) 0
+    pub last-of-chain : clusterAt (tableOf image s) (here .first) ((entryOf (here .page)) .length - 1) ≡ getD (site .chain) (length (site .chain) - 1) 0
     last-of-chain =
         at-last
         ∙ ap₂ (λ l i. getD l i 0) (sym (site .starts)) (sym half ∙ (let z : suc (length (site .rest)) ≡ length (site .chain) = ap length (sym (site .starts)) in omega arith))

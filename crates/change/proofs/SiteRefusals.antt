@@ -16,16 +16,17 @@ use Rattle.model.specs.Plan.{freeClusters, growthWithOne}
 use Rattle.model.specs.Refusal.{first, growthIn, own, refusal, static}
 use Rattle.model.specs.Tree.{Root}
 use Rattle.model.proofs.Allocation.{length-free}
+use Rattle.change.specs.declared.entries.EntryAt.{EntryAt}
 use Rattle.change.specs.Changed.{rulesOf}
 use Rattle.change.specs.Words.{freeList}
 use Rattle.change.proofs.Sites.{Site}
 
-module _ (image : List ℕ) (s : Superblock) (root : Root) (c : Change) (at start : ℕ) (page : List ℕ)
-    (site : Site (see s image) (tableOf image s) root (path c) at start page) (fine : static c ≡ 0)
+module _ (image : List ℕ) (s : Superblock) (root : Root) (c : Change) (here : EntryAt)
+    (site : Site (see s image) (tableOf image s) root (path c) here) (fine : static c ≡ 0)
     (free-is : freeClusters (rulesOf s) (see s image) ≡ freeList (tableOf image s)) where
   pub refusal-here : refusal (rulesOf s) c (see s image) root
       ≡ first (own c (lookIn (site .slots) (lastName (path c) ∷ [])))
-      (cond (leb (size c + cond (creates c) (growthWithOne (entryOf page) (site .slots)) 0) (length (freeList (tableOf image s)))) 0 12)
+      (cond (leb (size c + cond (creates c) (growthWithOne (entryOf (here .page)) (site .slots)) 0) (length (freeList (tableOf image s)))) 0 12)
   unfolding refusal
   refusal-here =
       rw (fine, site .open-way)

@@ -1,5 +1,4 @@
--- The five changes as the code does them in the directory that a path leads to, whose entry is in page `at` with the data
--- `page` and whose chain begins with cluster `first`: what is refused there, and the image afterwards.
+-- The five changes as the code does them in the directory that a path leads to: what is refused there, and the image afterwards.
 use Prim.Native.Nat.{ℕ, _+_, _-_, _/_, _<_, _≤_}
 use mathlib.Core.Bool.{Bool, false, true}
 use mathlib.Core.List.{List, _++_}
@@ -14,7 +13,7 @@ use Rattle.lookup.specs.declared.way.Arrived.{Arrived}
 use Rattle.lookup.specs.declared.way.Arrival.{Arrival}
 use Rattle.lookup.specs.declared.way.Arrival.the-variants as arrival
 use Rattle.lookup.specs.Descend.{bearing, dying, entered, livingFrom, scan}
-use Rattle.model.specs.Bytes.{word}
+use Rattle.model.specs.Bytes.{word, wordLimit}
 use Rattle.model.specs.Change.{directoryMode, fileMode}
 use Rattle.model.specs.Check.{fault, ok}
 use Rattle.model.specs.Entry.{clustersFor, entryOf, isDirectory}
@@ -23,8 +22,12 @@ use Rattle.model.specs.Pages.{newPage}
 use Rattle.model.specs.Plan.{newEntry}
 use Rattle.model.specs.View.{View, topBit}
 use Rattle.tree.specs.Slots.{nextOf, slotPages}
+use Rattle.change.specs.declared.editing.Action.{Action}
+use Rattle.change.specs.declared.editing.Action.the-variants as action
+use Rattle.change.specs.declared.entries.EntryAt.{EntryAt}
+use Rattle.change.specs.declared.entries.NewEntry.{NewEntry}
 use Rattle.change.specs.Changed.{Outcome}
-use Rattle.change.specs.Deeds.{addedTable, addedWrites, growthBy, imageBy, lastOf, numberBy, removedTable, removedWrites, replacedTable, replacedWrites}
+use Rattle.change.specs.Deeds.{Open, addedTable, addedWrites, entriesOf, growthBy, imageBy, lastOf, numberBy, removedTable, removedWrites, replacedTable, replacedWrites}
 use Rattle.change.specs.Image.{Lands}
 use Rattle.change.specs.Words.{freeList}
 
@@ -39,116 +42,141 @@ pickOutcome true a b = a
 pickOutcome false a b = b
 
 -- the pages of a directory's slots
-abbrev pub slotsOf : List ℕ → ℕ → List ℕ → List ℕ
-slotsOf table first page = slotPages table (nextOf table first) 0 (word page 4 - 2)
+abbrev pub slotsOf : List ℕ → EntryAt → List ℕ
+slotsOf table directory = slotPages table (nextOf table (directory .first)) 0 (entriesOf directory - 2)
 
--- the place of a name, and of the lowest dead slot
-abbrev pub placeOf : View → List ℕ → ℕ → List ℕ → Name → Place
-placeOf v table first page name = scan (bearing v name) (slotsOf table first page) 0
+-- the place of a name, of the lowest dead slot and of the lowest live one
+abbrev pub placeOf : View → List ℕ → EntryAt → Name → Place
+placeOf v table directory name = scan (bearing v name) (slotsOf table directory) 0
 
-abbrev pub deadOf : View → List ℕ → ℕ → List ℕ → Place
-deadOf v table first page = scan (dying v) (slotsOf table first page) 0
+abbrev pub deadOf : View → List ℕ → EntryAt → Place
+deadOf v table directory = scan (dying v) (slotsOf table directory) 0
+
+abbrev pub liveOf : View → List ℕ → EntryAt → Place
+liveOf v table directory = scan (livingFrom v 0) (slotsOf table directory) 0
+
+-- ---- what a new entry is, and what its clusters hold: a file with its bytes, or a directory of length 2 with its first two entries
+
+abbrev pub newOf : Bool → List ℕ → Place → NewEntry
+newOf false bytes dead = record { mode = fileMode; count = length bytes; dead = dead }
+newOf true bytes dead = record { mode = directoryMode; count = 2; dead = dead }
+
+abbrev pub dotsOf : ℕ → ℕ → List ℕ → List ℕ
+dotsOf first number time = newPage (newEntry directoryMode 0 first number time dotName) ++ newPage (newEntry directoryMode 0 0 0 time dotDotName)
+
+abbrev pub contentsOf : Bool → EntryAt → Place → List ℕ → List ℕ → List ℕ
+contentsOf false directory dead time bytes = bytes
+contentsOf true directory dead time bytes = dotsOf (directory .first) (numberBy dead (entriesOf directory)) time
+
+-- enough clusters are free
+abbrev pub enough : List ℕ → ℕ → Bool
+enough table need = leb need (length (freeList table))
+
+-- the clusters that a new entry needs
+abbrev pub needOf : EntryAt → Place → List ℕ → ℕ
+needOf directory dead bytes = clustersFor (length bytes) + growthBy dead (entriesOf directory)
 
 module _ (s : Superblock) (image table : List ℕ) where
-  abbrev v : View
-  v = viewBy (s .geometry) table image
+  -- ---- a new entry: 12 where fewer clusters are free than it needs
+  abbrev pub addedImage : EntryAt → NewEntry → List ℕ → Name → List ℕ → List ℕ
+  addedImage directory new time name bytes =
+      imageBy s image (addedWrites table directory new time name bytes) (addedTable table directory (new .dead) bytes)
 
-  -- ---- a new entry: 12 where there are fewer free clusters than needed
-  abbrev pub enough : List ℕ → Place → List ℕ → Bool
-  enough page dead bytes = leb (clustersFor (length bytes) + growthBy dead (word page 4)) (length (freeList table))
+  abbrev pub added : EntryAt → NewEntry → List ℕ → Name → List ℕ → Outcome
+  added directory new time name bytes =
+      pickOutcome (enough table (needOf directory (new .dead) bytes)) (doneWith (addedImage directory new time name bytes)) (refusedBy 12 image)
 
-  abbrev pub added : ℕ → ℕ → List ℕ → Place → ℕ → ℕ → List ℕ → Name → List ℕ → Outcome
-  added at first page dead mode count time name bytes =
-      pickOutcome (enough page dead bytes)
-      (doneWith (imageBy s image (addedWrites table first page dead at mode count time name bytes) (addedTable table first page dead bytes)))
-      (refusedBy 12 image)
+  -- what the code knows of a new entry: its numbers fit, and its pages land
+  pub record CanAdd (directory : EntryAt) (new : NewEntry) (time name bytes : List ℕ) : Type 0 where
+    pub card : Open s image table
+    pub some-entries : 1 ≤ entriesOf directory
+    pub few-entries : entriesOf directory < 65536
+    pub low-last : lastOf table directory < topBit
+    pub low-slot : numberBy (new .dead) (entriesOf directory) < 65536
+    pub small : enough table (needOf directory (new .dead) bytes) ≡ true → new .count < wordLimit
+    pub lands : enough table (needOf directory (new .dead) bytes) ≡ true → Lands (s .end) (addedWrites table directory new time name bytes)
 
-  -- what the code needs to know of a new entry: its numbers fit, and its pages land
-  pub record CanAdd (at first : ℕ) (page : List ℕ) (dead : Place) (mode count : ℕ) (time name bytes : List ℕ) : Type 0 where
-    pub some-entries : 1 ≤ word page 4
-    pub few-entries : word page 4 < 65536
-    pub low-last : lastOf table first page < topBit
-    pub low-slot : numberBy dead (word page 4) < 65536
-    pub small : enough page dead bytes ≡ true → count < 4294967296
-    pub lands : enough page dead bytes ≡ true → Lands (s .end) (addedWrites table first page dead at mode count time name bytes)
-
-  -- 10 where a file stands in the directory's place, 11 where the name is there
+  -- 11 where the name is there, 10 where a file stands in the directory's place
   abbrev pub unlessThere : Place → Outcome → Outcome
   unlessThere place.Nowhere rest = rest
   unlessThere (place.At k p) rest = refusedBy 11 image
 
-  unfoldable pub createdIn : ℕ → ℕ → List ℕ → Name → List ℕ → List ℕ → Outcome
-  createdIn at first page name time bytes =
-      pickOutcome (isDirectory (entryOf page))
-      (unlessThere (placeOf (viewBy (s .geometry) table image) table first page name)
-      (added at first page (deadOf (viewBy (s .geometry) table image) table first page) fileMode (length bytes) time name bytes))
+  unfoldable pub addedIn : EntryAt → Bool → Name → List ℕ → List ℕ → Outcome
+  addedIn directory making name time bytes =
+      let v = viewBy (s .geometry) table image in
+      let dead = deadOf v table directory in
+      pickOutcome (isDirectory (entryOf (directory .page)))
+      (unlessThere (placeOf v table directory name) (added directory (newOf making bytes dead) time name (contentsOf making directory dead time bytes)))
       (refusedBy 10 image)
 
-  -- the first two entries of a new directory
-  abbrev pub dotsOf : ℕ → ℕ → List ℕ → List ℕ
-  dotsOf first number time = newPage (newEntry directoryMode 0 first number time dotName) ++ newPage (newEntry directoryMode 0 0 0 time dotDotName)
+  abbrev pub CanAddIn : EntryAt → Bool → Name → List ℕ → List ℕ → Type 0
+  CanAddIn directory making name time bytes =
+      let v = viewBy (s .geometry) table image in
+      let dead = deadOf v table directory in
+      isDirectory (entryOf (directory .page)) ≡ true → placeOf v table directory name ≡ place.Nowhere
+      → CanAdd directory (newOf making bytes dead) time name (contentsOf making directory dead time bytes)
 
-  unfoldable pub madeIn : ℕ → ℕ → List ℕ → Name → List ℕ → Outcome
-  madeIn at first page name time =
-      let dead = deadOf (viewBy (s .geometry) table image) table first page in
-      pickOutcome (isDirectory (entryOf page))
-      (unlessThere (placeOf (viewBy (s .geometry) table image) table first page name)
-      (added at first page dead directoryMode 2 time name (dotsOf first (numberBy dead (word page 4)) time)))
-      (refusedBy 10 image)
+  -- ---- an entry that stands: 10 where it is of the other kind
+  abbrev pub replacedImage : EntryAt → EntryAt → List ℕ → List ℕ → List ℕ
+  replacedImage directory entry time bytes =
+      imageBy s image (replacedWrites table directory entry time bytes) (replacedTable table entry bytes)
 
-  -- ---- an entry that stands: 9 where the name is absent, 10 where a file stands in the directory's place
-  abbrev pub onArrival : Arrival → Outcome → Outcome
-  onArrival (arrival.At first) rest = rest
-  onArrival arrival.Absent rest = refusedBy 9 image
-  onArrival arrival.WrongKind rest = refusedBy 10 image
+  -- 12 where too few clusters are free; the old ones do not help
+  abbrev pub replacedEntry : EntryAt → EntryAt → List ℕ → List ℕ → Outcome
+  replacedEntry directory entry time bytes =
+      pickOutcome (isDirectory (entryOf (entry .page))) (refusedBy 10 image)
+      (pickOutcome (enough table (clustersFor (length bytes))) (doneWith (replacedImage directory entry time bytes)) (refusedBy 12 image))
 
-  abbrev pub onEntry : Arrived → (ℕ → List ℕ → Outcome) → Outcome
-  onEntry a rest = onArrival (a .arrival) (rest (a .at) (a .page))
+  abbrev pub removedImage : EntryAt → EntryAt → ℕ → List ℕ
+  removedImage directory entry count = imageBy s image (removedWrites directory entry) (removedTable table entry count)
 
-  -- 10 where a directory stands there
-  abbrev pub replacedEntry : ℕ → List ℕ → List ℕ → List ℕ → ℕ → List ℕ → Outcome
-  replacedEntry at page time bytes slot entry =
-      pickOutcome (isDirectory (entryOf entry)) (refusedBy 10 image)
-      (pickOutcome (leb (clustersFor (length bytes)) (length (freeList table)))
-      (doneWith (imageBy s image (replacedWrites table page at slot entry time bytes) (replacedTable table entry bytes)))
-      (refusedBy 12 image))
+  abbrev pub deletedEntry : EntryAt → EntryAt → Outcome
+  deletedEntry directory entry =
+      pickOutcome (isDirectory (entryOf (entry .page))) (refusedBy 10 image) (doneWith (removedImage directory entry (clustersFor (word (entry .page) 4))))
 
-  -- what the code needs to know of an entry that it replaces, deletes or removes: its pages land
-  abbrev pub CanReplace : ℕ → List ℕ → List ℕ → List ℕ → ℕ → List ℕ → Type 0
-  CanReplace at page time bytes slot entry =
-      isDirectory (entryOf entry) ≡ false → leb (clustersFor (length bytes)) (length (freeList table)) ≡ true → Lands (s .end) (replacedWrites table page at slot entry time bytes)
-
-  abbrev pub CanDelete : ℕ → List ℕ → ℕ → List ℕ → Type 0
-  CanDelete at page slot entry = isDirectory (entryOf entry) ≡ false → Lands (s .end) (removedWrites page at slot entry)
-
-  abbrev pub CanRemove : ℕ → List ℕ → ℕ → List ℕ → Type 0
-  CanRemove at page slot entry =
-      isDirectory (entryOf entry) ≡ true → scan (livingFrom (viewBy (s .geometry) table image) 0) (slotsOf table (word entry 0x10) entry) 0 ≡ place.Nowhere
-      → Lands (s .end) (removedWrites page at slot entry)
-
-  unfoldable pub replacedIn : ℕ → ℕ → List ℕ → Name → List ℕ → List ℕ → Outcome
-  replacedIn at first page name time bytes = onEntry (entered (viewBy (s .geometry) table image) table first page name) (replacedEntry at page time bytes)
-
-  abbrev pub gone : ℕ → List ℕ → ℕ → List ℕ → ℕ → Outcome
-  gone at page slot entry count = doneWith (imageBy s image (removedWrites page at slot entry) (removedTable table entry count))
-
-  abbrev pub deleted : ℕ → List ℕ → ℕ → List ℕ → Outcome
-  deleted at page slot entry =
-      pickOutcome (isDirectory (entryOf entry)) (refusedBy 10 image) (gone at page slot entry (clustersFor (word entry 4)))
-
-  unfoldable pub deletedIn : ℕ → ℕ → List ℕ → Name → Outcome
-  deletedIn at first page name = onEntry (entered (viewBy (s .geometry) table image) table first page name) (deleted at page)
-
-  -- 10 where a file stands there, 13 where a live entry is in the directory
+  -- 13 where a live entry is in the directory
   abbrev pub unlessLive : Place → Outcome → Outcome
   unlessLive place.Nowhere rest = rest
   unlessLive (place.At k p) rest = refusedBy 13 image
 
-  abbrev pub removed : ℕ → List ℕ → ℕ → List ℕ → Outcome
-  removed at page slot entry =
-      pickOutcome (isDirectory (entryOf entry))
-      (unlessLive (scan (livingFrom (viewBy (s .geometry) table image) 0) (slotsOf table (word entry 0x10) entry) 0) (gone at page slot entry ((word entry 4 + 1) / 2)))
+  abbrev pub removedEntry : EntryAt → EntryAt → Outcome
+  removedEntry directory entry =
+      pickOutcome (isDirectory (entryOf (entry .page)))
+      (unlessLive (liveOf (viewBy (s .geometry) table image) table entry) (doneWith (removedImage directory entry ((entriesOf entry + 1) / 2))))
       (refusedBy 10 image)
 
-  unfoldable pub removedIn : ℕ → ℕ → List ℕ → Name → Outcome
-  removedIn at first page name = onEntry (entered (viewBy (s .geometry) table image) table first page name) (removed at page)
+  abbrev pub edited : Action → EntryAt → List ℕ → List ℕ → EntryAt → Outcome
+  edited action.Replace directory time bytes entry = replacedEntry directory entry time bytes
+  edited action.Delete directory time bytes entry = deletedEntry directory entry
+  edited action.Remove directory time bytes entry = removedEntry directory entry
+
+  -- what the code knows of the entry: its pages land
+  abbrev pub EditLands : Action → EntryAt → List ℕ → List ℕ → EntryAt → Type 0
+  EditLands action.Replace directory time bytes entry =
+      isDirectory (entryOf (entry .page)) ≡ false → enough table (clustersFor (length bytes)) ≡ true → Lands (s .end) (replacedWrites table directory entry time bytes)
+  EditLands action.Delete directory time bytes entry =
+      isDirectory (entryOf (entry .page)) ≡ false → Lands (s .end) (removedWrites directory entry)
+  EditLands action.Remove directory time bytes entry =
+      isDirectory (entryOf (entry .page)) ≡ true → liveOf (viewBy (s .geometry) table image) table entry ≡ place.Nowhere → Lands (s .end) (removedWrites directory entry)
+
+  pub record CanEdit (action : Action) (directory : EntryAt) (time bytes : List ℕ) (entry : EntryAt) : Type 0 where
+    pub card : Open s image table
+    pub lands : EditLands action directory time bytes entry
+
+  -- 9 where the name is absent, 10 where a file stands in the directory's place
+  abbrev pub onArrival : Arrival → (ℕ → Outcome) → Outcome
+  onArrival (arrival.At first) rest = rest first
+  onArrival arrival.Absent rest = refusedBy 9 image
+  onArrival arrival.WrongKind rest = refusedBy 10 image
+
+  abbrev pub onEntry : Arrived → (EntryAt → Outcome) → Outcome
+  onEntry a rest = onArrival (a .arrival) (λ first. rest (record { at = a .at; first = first; page = a .page }))
+
+  unfoldable pub editedIn : EntryAt → Action → Name → List ℕ → List ℕ → Outcome
+  editedIn directory action name time bytes =
+      onEntry (entered (viewBy (s .geometry) table image) table (directory .first) (directory .page) name) (edited action directory time bytes)
+
+  abbrev pub CanEditIn : EntryAt → Action → Name → List ℕ → List ℕ → Type 0
+  CanEditIn directory action name time bytes =
+      let a = entered (viewBy (s .geometry) table image) table (directory .first) (directory .page) name in
+      (first : ℕ) → a .arrival ≡ arrival.At first → CanEdit action directory time bytes (record { at = a .at; first = first; page = a .page })

@@ -1,21 +1,26 @@
 -- A change as the code does it: the words of the table, the pages written, and the slot of a new entry.
-use Prim.Native.Nat.{ℕ, _+_, _-_, _*_, _%_}
-use mathlib.Core.Bool.{Bool, false, true}
+use Prim.Native.Nat.{ℕ, _+_, _-_, _*_, _%_, _≤_}
+use mathlib.Core.Bool.{false, true}
 use mathlib.Core.List.{List, [], _++_, _∷_}
 use mathlib.Core.Option.{some}
+use mathlib.Core.Path.{_≡_}
 use lib.ListN.{drop, getD, length, take}
 use Rattle.layout.specs.declared.Superblock.{Superblock}
-use Rattle.layout.specs.Table.{namesOf, tableClusters}
+use Rattle.layout.specs.Table.{namesOf, openCard, tableClusters}
 use Rattle.lookup.specs.declared.along.Place.{Place}
 use Rattle.lookup.specs.declared.along.Place.the-variants as place
 use Rattle.model.specs.Bytes.{word}
+use Rattle.model.specs.Check.{ok}
 use Rattle.model.specs.Entry.{clustersFor, entryOf}
 use Rattle.model.specs.Pages.{alteredPage, dataPages, newPage, zeroPage}
 use Rattle.model.specs.Plan.{firstOf, killed, newContents, newEntry, withLength}
 use Rattle.model.specs.View.{pagesOf}
 use Rattle.model.specs.Writes.{PageWrite, clusterWrites}
 use Rattle.tree.specs.Slots.{clusterAt}
-use Rattle.change.specs.Image.{storeTable, writePages}
+use Rattle.change.specs.declared.entries.EntryAt.{EntryAt}
+use Rattle.change.specs.declared.entries.EntryWrite.{EntryWrite}
+use Rattle.change.specs.declared.entries.NewEntry.{NewEntry}
+use Rattle.change.specs.Image.{Lands, storeTable, writePages}
 use Rattle.change.specs.Words.{chained, clearedFrom, freeList}
 
 -- ---- the table
@@ -31,17 +36,32 @@ relinked first count taken last growth table = grown last growth (chained taken 
 
 -- ---- the pages
 
+abbrev pub writeOf : EntryWrite → PageWrite
+writeOf w = record { always = w .always; page = w .at; bytes = w .page }
+
 -- growth of at most one cluster in zeros, the new clusters' data, the directory's entry, the change's own entry
-abbrev pub writesOf : List ℕ → List ℕ → List ℕ → ℕ → List ℕ → Bool → ℕ → List ℕ → List PageWrite
-writesOf growth taken bytes at directory new slot entry =
-    clusterWrites (pagesOf growth) (some zeroPage ∷ some zeroPage ∷ [])
-    ++ (clusterWrites (pagesOf taken) (dataPages bytes)
-    ++ (record { always = false; page = at; bytes = directory } ∷ record { always = new; page = slot; bytes = entry } ∷ []))
+abbrev pub writesOf : List ℕ → List ℕ → List ℕ → PageWrite → PageWrite → List PageWrite
+writesOf growth taken bytes directory own =
+    clusterWrites (pagesOf growth) (some zeroPage ∷ some zeroPage ∷ []) ++ (clusterWrites (pagesOf taken) (dataPages bytes) ++ (directory ∷ own ∷ []))
 
 -- the image after pages are written and then the table
 abbrev pub imageBy : Superblock → List ℕ → List PageWrite → List ℕ → List ℕ
 imageBy s image writes table =
     storeTable (namesOf image s) (s .end) (λ c. getD table c 0) (2 * tableClusters (s .end)) (writePages (s .geometry) writes image)
+
+-- ---- what the code knows before it writes
+
+-- a card that is open, and a table of its length
+pub record Open (s : Superblock) (image table : List ℕ) : Type 0 where
+  pub opened : openCard image ≡ ok s
+  pub long : length table ≡ s .end
+
+-- as many clusters as the data needs, and pages that land
+pub record Fits (s : Superblock) (image table growth taken bytes : List ℕ) (directory own : PageWrite) : Type 0 where
+  pub card : Open s image table
+  pub one : length growth ≤ 1
+  pub filled : length taken ≡ clustersFor (length bytes)
+  pub lands : Lands (s .end) (writesOf growth taken bytes directory own)
 
 -- ---- the slot of a new entry, by the lowest dead one and the directory's length
 
@@ -63,46 +83,63 @@ pageBy place.Nowhere last [] = 2 * last + 1
 pageBy place.Nowhere last (g ∷ gs) = 2 * g
 pageBy (place.At k p) last growth = p
 
--- ---- a new entry in the directory whose entry is in a page and whose chain begins with cluster `first`
+-- ---- a new entry in a directory
+
+-- the entries of a directory, by its own entry
+abbrev pub entriesOf : EntryAt → ℕ
+entriesOf directory = word (directory .page) 4
 
 -- the clusters for the directory's growth, and those for the entry's own data
-abbrev pub growthOf : List ℕ → List ℕ → Place → List ℕ
-growthOf table page dead = take (growthBy dead (word page 4)) (freeList table)
+abbrev pub growthOf : List ℕ → EntryAt → Place → List ℕ
+growthOf table directory dead = take (growthBy dead (entriesOf directory)) (freeList table)
 
-abbrev pub takenOf : List ℕ → List ℕ → Place → List ℕ → List ℕ
-takenOf table page dead bytes = take (clustersFor (length bytes)) (drop (growthBy dead (word page 4)) (freeList table))
+abbrev pub takenOf : List ℕ → EntryAt → Place → List ℕ → List ℕ
+takenOf table directory dead bytes = take (clustersFor (length bytes)) (drop (growthBy dead (entriesOf directory)) (freeList table))
 
 -- the last cluster of the directory's chain
-abbrev pub lastOf : List ℕ → ℕ → List ℕ → ℕ
-lastOf table first page = clusterAt table first (word page 4 - 1)
+abbrev pub lastOf : List ℕ → EntryAt → ℕ
+lastOf table directory = clusterAt table (directory .first) (entriesOf directory - 1)
 
-abbrev pub addedTable : List ℕ → ℕ → List ℕ → Place → List ℕ → List ℕ
-addedTable table first page dead bytes = relinked 0 0 (takenOf table page dead bytes) (lastOf table first page) (growthOf table page dead) table
+-- the directory's entry with a length
+abbrev pub directoryWrite : EntryAt → ℕ → PageWrite
+directoryWrite directory length =
+    record { always = false; page = directory .at; bytes = alteredPage (directory .page) (withLength (entryOf (directory .page)) length) }
 
-abbrev pub addedWrites : List ℕ → ℕ → List ℕ → Place → ℕ → ℕ → ℕ → List ℕ → List ℕ → List ℕ → List PageWrite
-addedWrites table first page dead at mode size time name bytes =
-    writesOf (growthOf table page dead) (takenOf table page dead bytes) bytes at
-    (alteredPage page (withLength (entryOf page) (lengthBy dead (word page 4)))) true (pageBy dead (lastOf table first page) (growthOf table page dead))
-    (newPage (newEntry mode size (firstOf (takenOf table page dead bytes)) 0 time name))
+abbrev pub addedTable : List ℕ → EntryAt → Place → List ℕ → List ℕ
+addedTable table directory dead bytes =
+    relinked 0 0 (takenOf table directory dead bytes) (lastOf table directory) (growthOf table directory dead) table
 
--- ---- an entry that stands, in page `slot` with the data `entry`; the directory keeps its length
+abbrev pub addedWrites : List ℕ → EntryAt → NewEntry → List ℕ → List ℕ → List ℕ → List PageWrite
+addedWrites table directory new time name bytes =
+    let growth = growthOf table directory (new .dead) in
+    let taken = takenOf table directory (new .dead) bytes in
+    writesOf growth taken bytes (directoryWrite directory (lengthBy (new .dead) (entriesOf directory)))
+    (record {
+      always = true;
+      page = pageBy (new .dead) (lastOf table directory) growth;
+      bytes = newPage (newEntry (new .mode) (new .count) (firstOf taken) 0 time name);
+    })
 
-abbrev pub keptDirectory : List ℕ → List ℕ
-keptDirectory page = alteredPage page (withLength (entryOf page) ((entryOf page) .length))
+-- ---- an entry that stands; the directory keeps its length
+
+abbrev pub keptWrite : EntryAt → PageWrite
+keptWrite directory = directoryWrite directory ((entryOf (directory .page)) .length)
 
 -- replacing takes new clusters and gives back the old ones
-abbrev pub replacedTable : List ℕ → List ℕ → List ℕ → List ℕ
+abbrev pub replacedTable : List ℕ → EntryAt → List ℕ → List ℕ
 replacedTable table entry bytes =
-    relinked (word entry 0x10) (clustersFor (word entry 4)) (take (clustersFor (length bytes)) (freeList table)) 0 [] table
+    relinked (entry .first) (clustersFor (word (entry .page) 4)) (take (clustersFor (length bytes)) (freeList table)) 0 [] table
 
-abbrev pub replacedWrites : List ℕ → List ℕ → ℕ → ℕ → List ℕ → List ℕ → List ℕ → List PageWrite
-replacedWrites table page at slot entry time bytes =
+abbrev pub replacedWrites : List ℕ → EntryAt → EntryAt → List ℕ → List ℕ → List PageWrite
+replacedWrites table directory entry time bytes =
     let taken = take (clustersFor (length bytes)) (freeList table) in
-    writesOf [] taken bytes at (keptDirectory page) false slot (alteredPage entry ((newContents (entryOf entry) time bytes taken) .entry))
+    writesOf [] taken bytes (keptWrite directory)
+    (record { always = false; page = entry .at; bytes = alteredPage (entry .page) ((newContents (entryOf (entry .page)) time bytes taken) .entry) })
 
 -- removing gives back `count` clusters
-abbrev pub removedTable : List ℕ → List ℕ → ℕ → List ℕ
-removedTable table entry count = relinked (word entry 0x10) count [] 0 [] table
+abbrev pub removedTable : List ℕ → EntryAt → ℕ → List ℕ
+removedTable table entry count = relinked (entry .first) count [] 0 [] table
 
-abbrev pub removedWrites : List ℕ → ℕ → ℕ → List ℕ → List PageWrite
-removedWrites page at slot entry = writesOf [] [] [] at (keptDirectory page) false slot (alteredPage entry (killed (entryOf entry)))
+abbrev pub removedWrites : EntryAt → EntryAt → List PageWrite
+removedWrites directory entry =
+    writesOf [] [] [] (keptWrite directory) (record { always = false; page = entry .at; bytes = alteredPage (entry .page) (killed (entryOf (entry .page))) })

@@ -1,31 +1,28 @@
 -- Which change a call is, and what it does in the directory that its path leads to.
 use Prim.Native.Nat.{ℕ, _<_}
-use mathlib.Core.Bool.{Bool, _&&_, true}
+use mathlib.Core.Bool.{Bool, _&&_, false, true}
 use mathlib.Core.List.{List}
 use mathlib.Core.Option.{some}
 use mathlib.Core.Path.{_≡_}
 use lib.Dec.{ltb}
 use lib.ListN.{length}
-use Rattle.layout.specs.declared.Superblock.{Superblock}
 use Rattle.fields.specs.PathBytes.{pathOf}
-use Rattle.layout.specs.See.{checkImage, viewBy}
+use Rattle.layout.specs.declared.Superblock.{Superblock}
+use Rattle.layout.specs.See.{checkImage}
 use Rattle.layout.specs.Table.{tableOf}
-use Rattle.lookup.specs.declared.along.Place.the-variants as place
-use Rattle.lookup.specs.declared.way.Arrival.the-variants as arrival
-use Rattle.lookup.specs.Descend.{entered}
-use Rattle.model.specs.Bytes.{word}
-use Rattle.model.specs.Change.{Change, create, delete, directoryMode, fileMode, makeDirectory, removeDirectory, replace}
+use Rattle.model.specs.Change.{Change, create, delete, makeDirectory, removeDirectory, replace}
 use Rattle.model.specs.Check.{Marks, ok}
-use Rattle.model.specs.Entry.{entryOf, isDirectory}
+use Rattle.model.specs.Holds.{mostNames}
 use Rattle.model.specs.Names.{Name, Path}
 use Rattle.model.specs.Refusal.{static}
 use Rattle.model.specs.Time.{validTime}
 use Rattle.model.specs.Tree.{Root}
 use Rattle.change.specs.declared.calls.Kind.{Kind}
 use Rattle.change.specs.declared.calls.Kind.the-variants as kind
-use Rattle.change.specs.Calls.{CanAdd, CanDelete, CanRemove, CanReplace, createdIn, deadOf, deletedIn, dotsOf, madeIn, placeOf, removedIn, replacedIn}
+use Rattle.change.specs.declared.editing.Action.the-variants as action
+use Rattle.change.specs.declared.entries.EntryAt.{EntryAt}
+use Rattle.change.specs.Calls.{CanAddIn, CanEditIn, addedIn, editedIn}
 use Rattle.change.specs.Changed.{Outcome}
-use Rattle.change.specs.Deeds.{numberBy}
 
 abbrev pub changeOf : Kind → Path → List ℕ → List ℕ → Change
 changeOf kind.Create p time bytes = create p time bytes
@@ -37,7 +34,7 @@ changeOf kind.Remove p time bytes = removeDirectory p
 -- of a well-formed path's number of names: the root is none, and a new directory has at most three
 abbrev pub takesNames : Kind → ℕ → Bool
 takesNames kind.Create n = ltb 0 n
-takesNames kind.Make n = ltb 0 n && ltb n 4
+takesNames kind.Make n = ltb 0 n && ltb n mostNames
 takesNames kind.Replace n = ltb 0 n
 takesNames kind.Delete n = ltb 0 n
 takesNames kind.Remove n = ltb 0 n
@@ -50,32 +47,21 @@ takesTime kind.Replace time = validTime time
 takesTime kind.Delete time = true
 takesTime kind.Remove time = true
 
-module _ (s : Superblock) (image table : List ℕ) (at first : ℕ) (page : List ℕ) (name : Name) (time bytes : List ℕ) where
+module _ (s : Superblock) (image table : List ℕ) (directory : EntryAt) (name : Name) (time bytes : List ℕ) where
   abbrev pub changedIn : Kind → Outcome
-  changedIn kind.Create = createdIn s image table at first page name time bytes
-  changedIn kind.Make = madeIn s image table at first page name time
-  changedIn kind.Replace = replacedIn s image table at first page name time bytes
-  changedIn kind.Delete = deletedIn s image table at first page name
-  changedIn kind.Remove = removedIn s image table at first page name
+  changedIn kind.Create = addedIn s image table directory false name time bytes
+  changedIn kind.Make = addedIn s image table directory true name time bytes
+  changedIn kind.Replace = editedIn s image table directory action.Replace name time bytes
+  changedIn kind.Delete = editedIn s image table directory action.Delete name time bytes
+  changedIn kind.Remove = editedIn s image table directory action.Remove name time bytes
 
-  -- what the code needs to know before it begins
-  abbrev pub Can : Kind → Type 0
-  Can kind.Create =
-      isDirectory (entryOf page) ≡ true → placeOf (viewBy (s .geometry) table image) table first page name ≡ place.Nowhere
-      → CanAdd s image table at first page (deadOf (viewBy (s .geometry) table image) table first page) fileMode (length bytes) time name bytes
-  Can kind.Make =
-      isDirectory (entryOf page) ≡ true → placeOf (viewBy (s .geometry) table image) table first page name ≡ place.Nowhere
-      → CanAdd s image table at first page (deadOf (viewBy (s .geometry) table image) table first page) directoryMode 2 time name
-      (dotsOf s image table first (numberBy (deadOf (viewBy (s .geometry) table image) table first page) (word page 4)) time)
-  Can kind.Replace =
-      (next : ℕ) → (entered (viewBy (s .geometry) table image) table first page name) .arrival ≡ arrival.At next
-      → CanReplace s image table at page time bytes ((entered (viewBy (s .geometry) table image) table first page name) .at) ((entered (viewBy (s .geometry) table image) table first page name) .page)
-  Can kind.Delete =
-      (next : ℕ) → (entered (viewBy (s .geometry) table image) table first page name) .arrival ≡ arrival.At next
-      → CanDelete s image table at page ((entered (viewBy (s .geometry) table image) table first page name) .at) ((entered (viewBy (s .geometry) table image) table first page name) .page)
-  Can kind.Remove =
-      (next : ℕ) → (entered (viewBy (s .geometry) table image) table first page name) .arrival ≡ arrival.At next
-      → CanRemove s image table at page ((entered (viewBy (s .geometry) table image) table first page name) .at) ((entered (viewBy (s .geometry) table image) table first page name) .page)
+  -- what the code knows before it begins
+  abbrev pub CanChange : Kind → Type 0
+  CanChange kind.Create = CanAddIn s image table directory false name time bytes
+  CanChange kind.Make = CanAddIn s image table directory true name time bytes
+  CanChange kind.Replace = CanEditIn s image table directory action.Replace name time bytes
+  CanChange kind.Delete = CanEditIn s image table directory action.Delete name time bytes
+  CanChange kind.Remove = CanEditIn s image table directory action.Remove name time bytes
 
 -- ---- what stands fast at each step of a call
 

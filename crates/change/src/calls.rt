@@ -1,10 +1,9 @@
 // The five changes from their path on: the path (8), the time (14), the names on the way (9, 10), then the directory's own business.
 use crate::Answer;
-use crate::adding::create_in;
-use crate::adding::make_in;
-use crate::editing::delete_in;
-use crate::editing::remove_in;
-use crate::editing::replace_in;
+use crate::adding::add_in;
+use crate::editing::Action;
+use crate::editing::edit_in;
+use crate::entries::EntryAt;
 use fields::paths::Parsed;
 use fields::paths::name_at;
 use fields::paths::parse_path;
@@ -18,13 +17,9 @@ use model::MOST_CLUSTERS;
 use model::MOST_NAMES;
 use tree::open_checked;
 ghost use mathlib.Core.Path.{_≡_};
-ghost use Prim.Native.Nat.{_≤_};
-ghost use lib.ListN.{length, take};
-ghost use Rattle.layout.specs.Table.{openCard};
-ghost use Rattle.model.specs.Check.{ok};
-ghost use Rattle.change.specs.Answers.{toldAnswer};
+ghost use Rattle.change.specs.Answers.{Leaves};
 ghost use Rattle.change.specs.Changed.{changed, pathIn};
-ghost use Rattle.change.specs.Kinds.{Can, Loaded, Ready, changeOf, changedIn, takesNames, takesTime};
+ghost use Rattle.change.specs.Kinds.{CanChange, Loaded, Ready, changeOf, changedIn, takesNames, takesTime};
 
 // Which change.
 pub(crate) enum Kind {
@@ -67,23 +62,47 @@ fn change_in(
     table: &mut [u32],
     s: Superblock,
     kind: Kind,
-    at: usize,
-    first: u32,
-    page: &[u8; 512],
+    directory: EntryAt,
     name: &[u8],
     time: &[u8],
     bytes: &[u8],
 ) -> Answer
-    requires { ⌜ (openCard (now image) ≡ ok s) × (length (now table) ≡ s .end) × Can s (now image) (now table) at first (now page) (now name) (now time) (now bytes) kind ⌝ }
-    ensures answer { λ r. ⌜ toldAnswer r ≡ (changedIn s (now (image .entry)) (now (table .entry)) at first (now (page .entry)) (now (name .entry)) (now (time .entry)) (now (bytes .entry)) kind) .answer ⌝ }
-    ensures image { λ _. ⌜ now (image .exit) ≡ (changedIn s (now (image .entry)) (now (table .entry)) at first (now (page .entry)) (now (name .entry)) (now (time .entry)) (now (bytes .entry)) kind) .image ⌝ }
+    requires { ⌜ CanChange s (now image) (now table) directory (now name) (now time) (now bytes) kind ⌝ }
+    ensures { λ r. ⌜ Leaves (changedIn s (now (image .entry)) (now (table .entry)) directory (now (name .entry)) (now (time .entry)) (now (bytes .entry)) kind) r (now (image .exit)) ⌝ }
 {
     match kind {
-        Kind::Create => create_in(image, table, s, at, first, page, name, time, bytes),
-        Kind::Make => make_in(image, table, s, at, first, page, name, time),
-        Kind::Replace => replace_in(image, table, s, at, first, page, name, time, bytes),
-        Kind::Delete => delete_in(image, table, s, at, first, page, name),
-        Kind::Remove => remove_in(image, table, s, at, first, page, name),
+        Kind::Create => add_in(image, table, s, directory, false, name, time, bytes),
+        Kind::Make => add_in(image, table, s, directory, true, name, time, bytes),
+        Kind::Replace => edit_in(
+            image,
+            table,
+            s,
+            directory,
+            Action::Replace,
+            name,
+            time,
+            bytes,
+        ),
+        Kind::Delete => edit_in(
+            image,
+            table,
+            s,
+            directory,
+            Action::Delete,
+            name,
+            time,
+            bytes,
+        ),
+        Kind::Remove => edit_in(
+            image,
+            table,
+            s,
+            directory,
+            Action::Remove,
+            name,
+            time,
+            bytes,
+        ),
     }
 }
 
@@ -99,8 +118,7 @@ fn change_at(
     bytes: &[u8],
 ) -> Answer
     requires { ⌜ Ready (now image) s (now table) kind (now path) count (now time) (now bytes) ⌝ }
-    ensures answer { λ r. ⌜ toldAnswer r ≡ (changed (changeOf kind (pathIn (now (path .entry))) (now (time .entry)) (now (bytes .entry))) (now (image .entry))) .answer ⌝ }
-    ensures image { λ _. ⌜ now (image .exit) ≡ (changed (changeOf kind (pathIn (now (path .entry))) (now (time .entry)) (now (bytes .entry))) (now (image .entry))) .image ⌝ }
+    ensures { λ r. ⌜ Leaves (changed (changeOf kind (pathIn (now (path .entry))) (now (time .entry)) (now (bytes .entry))) (now (image .entry))) r (now (image .exit)) ⌝ }
 {
     let a = descend(image, table, s.geometry, path, count - 1);
     let arrival = a.arrival;
@@ -109,18 +127,13 @@ fn change_at(
         Arrival::WrongKind => Answer::Refused(Refusal::WrongKind),
         Arrival::At(first) => {
             let page = a.page;
-            change_in(
-                image,
-                table,
-                s,
-                kind,
-                a.at,
-                first,
-                &page,
-                name_at(path, count - 1),
-                time,
-                bytes,
-            )
+            let directory = EntryAt {
+                at: a.at,
+                first: first,
+                page: page,
+            };
+            let name = name_at(path, count - 1);
+            change_in(image, table, s, kind, directory, name, time, bytes)
         }
     }
 }
@@ -136,8 +149,7 @@ fn change_card(
     bytes: &[u8],
 ) -> Answer
     requires { ⌜ Loaded (now image) s (now table) ⌝ }
-    ensures answer { λ r. ⌜ toldAnswer r ≡ (changed (changeOf kind (pathIn (now (path .entry))) (now (time .entry)) (now (bytes .entry))) (now (image .entry))) .answer ⌝ }
-    ensures image { λ _. ⌜ now (image .exit) ≡ (changed (changeOf kind (pathIn (now (path .entry))) (now (time .entry)) (now (bytes .entry))) (now (image .entry))) .image ⌝ }
+    ensures { λ r. ⌜ Leaves (changed (changeOf kind (pathIn (now (path .entry))) (now (time .entry)) (now (bytes .entry))) (now (image .entry))) r (now (image .exit)) ⌝ }
 {
     let parsed = parse_path(path);
     match parsed {
@@ -154,48 +166,17 @@ fn change_card(
     }
 }
 
-// The same by the first `end` words of a table.
-fn change_words(
-    image: &mut [u8],
-    table: &mut [u32],
-    end: usize,
-    s: Superblock,
-    kind: Kind,
-    path: &[u8],
-    time: &[u8],
-    bytes: &[u8],
-) -> Answer
-    requires { ⌜ (end ≤ length (now table)) × Loaded (now image) s (take end (now table)) ⌝ }
-    ensures answer { λ r. ⌜ toldAnswer r ≡ (changed (changeOf kind (pathIn (now (path .entry))) (now (time .entry)) (now (bytes .entry))) (now (image .entry))) .answer ⌝ }
-    ensures image { λ _. ⌜ now (image .exit) ≡ (changed (changeOf kind (pathIn (now (path .entry))) (now (time .entry)) (now (bytes .entry))) (now (image .entry))) .image ⌝ }
-{
-    change_card(image, &mut table[..end], s, kind, path, time, bytes)
-}
-
-// The same of any image, with room for its table.
-fn change_with(
-    image: &mut [u8],
-    table: &mut [u32; MOST_CLUSTERS],
-    kind: Kind,
-    path: &[u8],
-    time: &[u8],
-    bytes: &[u8],
-) -> Answer
-    ensures answer { λ r. ⌜ toldAnswer r ≡ (changed (changeOf kind (pathIn (now (path .entry))) (now (time .entry)) (now (bytes .entry))) (now (image .entry))) .answer ⌝ }
-    ensures image { λ _. ⌜ now (image .exit) ≡ (changed (changeOf kind (pathIn (now (path .entry))) (now (time .entry)) (now (bytes .entry))) (now (image .entry))) .image ⌝ }
-{
-    let opened = open_checked(image, table);
-    match opened {
-        Opened::Refused(refusal) => Answer::Refused(refusal),
-        Opened::Card(s) => change_words(image, table, s.end as usize, s, kind, path, time, bytes),
-    }
-}
-
 // The whole call: the check first, and nothing is written before the last refusal is excluded.
 pub(crate) fn change(image: &mut [u8], kind: Kind, path: &[u8], time: &[u8], bytes: &[u8]) -> Answer
-    ensures answer { λ r. ⌜ toldAnswer r ≡ (changed (changeOf kind (pathIn (now (path .entry))) (now (time .entry)) (now (bytes .entry))) (now (image .entry))) .answer ⌝ }
-    ensures image { λ _. ⌜ now (image .exit) ≡ (changed (changeOf kind (pathIn (now (path .entry))) (now (time .entry)) (now (bytes .entry))) (now (image .entry))) .image ⌝ }
+    ensures { λ r. ⌜ Leaves (changed (changeOf kind (pathIn (now (path .entry))) (now (time .entry)) (now (bytes .entry))) (now (image .entry))) r (now (image .exit)) ⌝ }
 {
     let mut table = [0u32; MOST_CLUSTERS];
-    change_with(image, &mut table, kind, path, time, bytes)
+    let opened = open_checked(image, &mut table);
+    match opened {
+        Opened::Refused(refusal) => Answer::Refused(refusal),
+        Opened::Card(s) => {
+            let end = s.end as usize;
+            change_card(image, &mut table[..end], s, kind, path, time, bytes)
+        }
+    }
 }

@@ -1,4 +1,5 @@
 // A change put down: the table's words in memory, the pages, and the table's pages.
+use crate::entries::EntryWrite;
 use crate::pages::write_data;
 use crate::pages::zero_page;
 use crate::store::store_table;
@@ -14,15 +15,14 @@ ghost use mathlib.Core.List.{_∷_, []};
 ghost use mathlib.Core.Option.{some};
 ghost use Prim.Native.Nat.{ℕ, _+_, _<_, _≤_};
 ghost use lib.ListN.{length};
-ghost use Rattle.layout.specs.Table.{openCard};
-ghost use Rattle.model.specs.Check.{ok};
+ghost use Rattle.model.specs.Bytes.{pageLimit};
 ghost use Rattle.model.specs.Entry.{clustersFor};
 ghost use Rattle.model.specs.Pages.{zeroPage};
 ghost use Rattle.model.specs.Tree.{times};
 ghost use Rattle.model.specs.View.{pagesOf, topBit};
 ghost use Rattle.model.specs.Writes.{clusterWrites};
-ghost use Rattle.change.specs.Deeds.{imageBy, relinked, writesOf};
-ghost use Rattle.change.specs.Image.{Lands, writePages};
+ghost use Rattle.change.specs.Deeds.{Fits, imageBy, relinked, writeOf, writesOf};
+ghost use Rattle.change.specs.Image.{writePages};
 
 // Frees the clusters given back, links those taken, and leads the directory's chain on from its last cluster to its growth.
 pub(crate) fn relink(
@@ -59,15 +59,15 @@ fn write_zeros(image: &mut [u8], geometry: Geometry, growth: &[u32])
 }
 
 // Writes the page of an entry: a new one always, another where its data changes.
-fn write_entry(image: &mut [u8], geometry: Geometry, new: bool, slot: usize, entry: &[u8; 512])
-    requires { ⌜ slot < 8589934592 ⌝ }
-    ensures { λ _. ⌜ now (image .exit) ≡ writePages geometry (record { always = new; page = slot; bytes = now (entry .entry) } ∷ []) (now (image .entry)) ⌝ }
+fn write_entry(image: &mut [u8], geometry: Geometry, write: EntryWrite)
+    requires { ⌜ write .at < pageLimit ⌝ }
+    ensures { λ _. ⌜ now (image .exit) ≡ writePages geometry (writeOf write ∷ []) (now (image .entry)) ⌝ }
 {
-    let at = image_page(geometry, slot);
-    if new {
-        write_page(image, at, entry);
+    let at = image_page(geometry, write.at);
+    if write.always {
+        write_page(image, at, &write.page);
     } else {
-        rewrite_page(image, at, entry);
+        rewrite_page(image, at, &write.page);
     }
 }
 
@@ -78,19 +78,16 @@ fn write_pages(
     growth: &[u32],
     taken: &[u32],
     bytes: &[u8],
-    at: usize,
-    directory: &[u8; 512],
-    new: bool,
-    slot: usize,
-    entry: &[u8; 512],
+    directory: EntryWrite,
+    own: EntryWrite,
 )
-    requires { ⌜ (length (now growth) ≤ 1) × (length (now taken) ≡ clustersFor (length (now bytes))) × (at < 8589934592) × (slot < 8589934592) ⌝ }
-    ensures { λ _. ⌜ now (image .exit) ≡ writePages geometry (writesOf (now (growth .entry)) (now (taken .entry)) (now (bytes .entry)) at (now (directory .entry)) new slot (now (entry .entry))) (now (image .entry)) ⌝ }
+    requires { ⌜ (length (now growth) ≤ 1) × (length (now taken) ≡ clustersFor (length (now bytes))) × (directory .at < pageLimit) × (own .at < pageLimit) ⌝ }
+    ensures { λ _. ⌜ now (image .exit) ≡ writePages geometry (writesOf (now (growth .entry)) (now (taken .entry)) (now (bytes .entry)) (writeOf directory) (writeOf own)) (now (image .entry)) ⌝ }
 {
     write_zeros(image, geometry, growth);
     write_data(image, geometry, taken, bytes);
-    write_entry(image, geometry, false, at, directory);
-    write_entry(image, geometry, new, slot, entry);
+    write_entry(image, geometry, directory);
+    write_entry(image, geometry, own);
 }
 
 // Writes the pages of a change and then the table.
@@ -101,26 +98,12 @@ pub(crate) fn put_down(
     growth: &[u32],
     taken: &[u32],
     bytes: &[u8],
-    at: usize,
-    directory: &[u8; 512],
-    new: bool,
-    slot: usize,
-    entry: &[u8; 512],
+    directory: EntryWrite,
+    own: EntryWrite,
 )
-    requires { ⌜ (openCard (now image) ≡ ok s) × (length (now table) ≡ s .end) × (length (now growth) ≤ 1) × (length (now taken) ≡ clustersFor (length (now bytes))) × Lands (s .end) (writesOf (now growth) (now taken) (now bytes) at (now directory) new slot (now entry)) ⌝ }
-    ensures { λ _. ⌜ now (image .exit) ≡ imageBy s (now (image .entry)) (writesOf (now (growth .entry)) (now (taken .entry)) (now (bytes .entry)) at (now (directory .entry)) new slot (now (entry .entry))) (now (table .entry)) ⌝ }
+    requires { ⌜ Fits s (now image) (now table) (now growth) (now taken) (now bytes) (writeOf directory) (writeOf own) ⌝ }
+    ensures { λ _. ⌜ now (image .exit) ≡ imageBy s (now (image .entry)) (writesOf (now (growth .entry)) (now (taken .entry)) (now (bytes .entry)) (writeOf directory) (writeOf own)) (now (table .entry)) ⌝ }
 {
-    write_pages(
-        image,
-        s.geometry,
-        growth,
-        taken,
-        bytes,
-        at,
-        directory,
-        new,
-        slot,
-        entry,
-    );
+    write_pages(image, s.geometry, growth, taken, bytes, directory, own);
     store_table(image, s, table);
 }

@@ -2,6 +2,8 @@
 use crate::Answer;
 use crate::deeds::put_down;
 use crate::deeds::relink;
+use crate::entries::EntryAt;
+use crate::entries::EntryWrite;
 use crate::pages::killed_page;
 use crate::pages::replaced_page;
 use crate::pages::with_length;
@@ -21,52 +23,46 @@ use lookup::way::enter;
 use model::MOST_CLUSTERS;
 use tree::slots::next_of;
 use tree::slots::slots_of;
+ghost use mathlib.Core.List.{[]};
 ghost use mathlib.Core.Path.{_≡_};
-ghost use Prim.Native.Nat.{ℕ, _<_, _≤_};
-ghost use lib.ListN.{length, take};
-ghost use Rattle.layout.specs.See.{viewBy};
-ghost use Rattle.layout.specs.Table.{openCard};
-ghost use Rattle.lookup.specs.Descend.{entered};
-ghost use Rattle.lookup.specs.declared.way.Arrival.the-variants.{At};
-ghost use Rattle.model.specs.Check.{ok};
+ghost use Prim.Native.Nat.{_≤_};
+ghost use lib.ListN.{length};
+ghost use Rattle.change.specs.declared.editing.Action.the-variants as action;
 ghost use Rattle.model.specs.Entry.{clustersFor};
-ghost use Rattle.change.specs.Answers.{toldAnswer};
-ghost use Rattle.change.specs.Calls.{CanDelete, CanRemove, CanReplace, deletedIn, removedIn, replacedEntry, replacedIn};
-ghost use Rattle.change.specs.Deeds.{imageBy, removedTable, removedWrites, replacedTable, replacedWrites};
+ghost use Rattle.change.specs.Answers.{Leaves};
+ghost use Rattle.change.specs.Calls.{CanEdit, CanEditIn, deletedEntry, editedIn, removedEntry, removedImage, replacedEntry, replacedImage};
+ghost use Rattle.change.specs.Deeds.{Open, removedWrites, replacedWrites};
 ghost use Rattle.change.specs.Image.{Lands};
 ghost use Rattle.change.specs.Words.{freeList};
 
-// Puts new contents down; the free clusters are the first `free` of a list, and enough.
-fn replace_first(
+// What is done with an entry that stands.
+pub(crate) enum Action {
+    Replace,
+    Delete,
+    Remove,
+}
+
+// Puts new contents down; the free clusters are listed, and enough.
+fn replace_listed(
     image: &mut [u8],
     table: &mut [u32],
     s: Superblock,
     list: &[u32],
-    free: usize,
-    at: usize,
-    page: &[u8; 512],
-    slot: usize,
-    entry: &[u8; 512],
+    directory: EntryAt,
+    entry: EntryAt,
     time: &[u8],
     bytes: &[u8],
 )
-    requires { ⌜ (openCard (now image) ≡ ok s) × (length (now table) ≡ s .end) × (free ≤ length (now list)) × (take free (now list) ≡ freeList (now table)) × (clustersFor (length (now bytes)) ≤ free) × Lands (s .end) (replacedWrites (now table) (now page) at slot (now entry) (now time) (now bytes)) ⌝ }
-    ensures { λ _. ⌜ now (image .exit) ≡ imageBy s (now (image .entry)) (replacedWrites (now (table .entry)) (now (page .entry)) at slot (now (entry .entry)) (now (time .entry)) (now (bytes .entry))) (replacedTable (now (table .entry)) (now (entry .entry)) (now (bytes .entry))) ⌝ }
+    requires { ⌜ Open s (now image) (now table) × (now list ≡ freeList (now table)) × (clustersFor (length (now bytes)) ≤ length (now list)) × Lands (s .end) (replacedWrites (now table) directory entry (now time) (now bytes)) ⌝ }
+    ensures { λ _. ⌜ now (image .exit) ≡ replacedImage s (now (image .entry)) (now (table .entry)) directory entry (now (time .entry)) (now (bytes .entry)) ⌝ }
 {
     let own = clusters_for(bytes.len());
     let taken = &list[..own];
     let none = &list[..0];
-    let contents = replaced_page(entry, bytes.len() as u32, first_of(taken), time);
-    let directory = with_length(page, word_at(page, 0x04));
-    let back = word_at(entry, 0x10);
-    relink(
-        table,
-        back,
-        file_clusters(word_at(entry, 0x04)),
-        taken,
-        0,
-        none,
-    );
+    let contents = replaced_page(&entry.page, bytes.len() as u32, first_of(taken), time);
+    let kept = with_length(&directory.page, word_at(&directory.page, 0x04));
+    let back = file_clusters(word_at(&entry.page, 0x04));
+    relink(table, entry.first, back, taken, 0, none);
     put_down(
         image,
         s,
@@ -74,47 +70,46 @@ fn replace_first(
         none,
         taken,
         bytes,
-        at,
-        &directory,
-        false,
-        slot,
-        &contents,
+        EntryWrite {
+            always: false,
+            at: directory.at,
+            page: kept,
+        },
+        EntryWrite {
+            always: false,
+            at: entry.at,
+            page: contents,
+        },
     );
 }
 
-// Judges need against what is free, and then puts the new contents down.
-fn replace_with(
+// Replaces the bytes of a file: judges need against what is free, and then puts the new contents down.
+fn replace_entry(
     image: &mut [u8],
     table: &mut [u32],
     s: Superblock,
-    list: &mut [u32; MOST_CLUSTERS],
-    at: usize,
-    page: &[u8; 512],
-    slot: usize,
-    entry: &[u8; 512],
+    directory: EntryAt,
+    entry: EntryAt,
     time: &[u8],
     bytes: &[u8],
 ) -> Answer
-    requires { ⌜ (openCard (now image) ≡ ok s) × (length (now table) ≡ s .end) × CanReplace s (now image) (now table) at (now page) (now time) (now bytes) slot (now entry) ⌝ }
-    ensures answer { λ r. ⌜ toldAnswer r ≡ (replacedEntry s (now (image .entry)) (now (table .entry)) at (now (page .entry)) (now (time .entry)) (now (bytes .entry)) slot (now (entry .entry))) .answer ⌝ }
-    ensures image { λ _. ⌜ now (image .exit) ≡ (replacedEntry s (now (image .entry)) (now (table .entry)) at (now (page .entry)) (now (time .entry)) (now (bytes .entry)) slot (now (entry .entry))) .image ⌝ }
+    requires { ⌜ CanEdit s (now image) (now table) action.Replace directory (now time) (now bytes) entry ⌝ }
+    ensures { λ r. ⌜ Leaves (replacedEntry s (now (image .entry)) (now (table .entry)) directory entry (now (time .entry)) (now (bytes .entry))) r (now (image .exit)) ⌝ }
 {
-    if is_directory(entry) {
+    if is_directory(&entry.page) {
         return Answer::Refused(Refusal::WrongKind);
     }
-    let free = collect_free(table, list);
+    let mut list = [0u32; MOST_CLUSTERS];
+    let free = collect_free(table, &mut list);
     if free < clusters_for(bytes.len()) {
         return Answer::Refused(Refusal::NoRoom);
     }
-    replace_first(
+    replace_listed(
         image,
         table,
         s,
-        list,
-        free,
-        at,
-        page,
-        slot,
+        &list[..free],
+        directory,
         entry,
         time,
         bytes,
@@ -122,82 +117,22 @@ fn replace_with(
     Answer::Done
 }
 
-fn replace_entry(
-    image: &mut [u8],
-    table: &mut [u32],
-    s: Superblock,
-    at: usize,
-    page: &[u8; 512],
-    slot: usize,
-    entry: &[u8; 512],
-    time: &[u8],
-    bytes: &[u8],
-) -> Answer
-    requires { ⌜ (openCard (now image) ≡ ok s) × (length (now table) ≡ s .end) × CanReplace s (now image) (now table) at (now page) (now time) (now bytes) slot (now entry) ⌝ }
-    ensures answer { λ r. ⌜ toldAnswer r ≡ (replacedEntry s (now (image .entry)) (now (table .entry)) at (now (page .entry)) (now (time .entry)) (now (bytes .entry)) slot (now (entry .entry))) .answer ⌝ }
-    ensures image { λ _. ⌜ now (image .exit) ≡ (replacedEntry s (now (image .entry)) (now (table .entry)) at (now (page .entry)) (now (time .entry)) (now (bytes .entry)) slot (now (entry .entry))) .image ⌝ }
-{
-    let mut list = [0u32; MOST_CLUSTERS];
-    replace_with(
-        image,
-        table,
-        s,
-        &mut list,
-        at,
-        page,
-        slot,
-        entry,
-        time,
-        bytes,
-    )
-}
-
-// Replaces the bytes of a file in a directory.
-pub(crate) fn replace_in(
-    image: &mut [u8],
-    table: &mut [u32],
-    s: Superblock,
-    at: usize,
-    first: u32,
-    page: &[u8; 512],
-    name: &[u8],
-    time: &[u8],
-    bytes: &[u8],
-) -> Answer
-    requires { ⌜ (openCard (now image) ≡ ok s) × (length (now table) ≡ s .end) × ((next : ℕ) → (entered (viewBy (s .geometry) (now table) (now image)) (now table) first (now page) (now name)) .arrival ≡ At next → CanReplace s (now image) (now table) at (now page) (now time) (now bytes) ((entered (viewBy (s .geometry) (now table) (now image)) (now table) first (now page) (now name)) .at) ((entered (viewBy (s .geometry) (now table) (now image)) (now table) first (now page) (now name)) .page)) ⌝ }
-    ensures answer { λ r. ⌜ toldAnswer r ≡ (replacedIn s (now (image .entry)) (now (table .entry)) at first (now (page .entry)) (now (name .entry)) (now (time .entry)) (now (bytes .entry))) .answer ⌝ }
-    ensures image { λ _. ⌜ now (image .exit) ≡ (replacedIn s (now (image .entry)) (now (table .entry)) at first (now (page .entry)) (now (name .entry)) (now (time .entry)) (now (bytes .entry))) .image ⌝ }
-{
-    let a = enter(image, table, s.geometry, first, page, name);
-    let arrival = a.arrival;
-    match arrival {
-        Arrival::Absent => Answer::Refused(Refusal::Absent),
-        Arrival::WrongKind => Answer::Refused(Refusal::WrongKind),
-        Arrival::At(_) => {
-            let entry = a.page;
-            replace_entry(image, table, s, at, page, a.at, &entry, time, bytes)
-        }
-    }
-}
-
 // Takes an entry away, with the `count` clusters of its chain.
-fn remove_entry(
+fn take_away(
     image: &mut [u8],
     table: &mut [u32],
     s: Superblock,
-    at: usize,
-    page: &[u8; 512],
-    slot: usize,
-    entry: &[u8; 512],
+    directory: EntryAt,
+    entry: EntryAt,
     count: u32,
 )
-    requires { ⌜ (openCard (now image) ≡ ok s) × (length (now table) ≡ s .end) × Lands (s .end) (removedWrites (now page) at slot (now entry)) ⌝ }
-    ensures { λ _. ⌜ now (image .exit) ≡ imageBy s (now (image .entry)) (removedWrites (now (page .entry)) at slot (now (entry .entry))) (removedTable (now (table .entry)) (now (entry .entry)) count) ⌝ }
+    requires { ⌜ Open s (now image) (now table) × Lands (s .end) (removedWrites directory entry) ⌝ }
+    ensures { λ _. ⌜ now (image .exit) ≡ removedImage s (now (image .entry)) (now (table .entry)) directory entry count ⌝ }
 {
-    let gone = killed_page(entry);
-    let directory = with_length(page, word_at(page, 0x04));
+    let gone = killed_page(&entry.page);
+    let kept = with_length(&directory.page, word_at(&directory.page, 0x04));
     let none = [0u32; 0];
-    relink(table, word_at(entry, 0x10), count, &none, 0, &none);
+    relink(table, entry.first, count, &none, 0, &none);
     put_down(
         image,
         s,
@@ -205,93 +140,108 @@ fn remove_entry(
         &none,
         &none,
         b"",
-        at,
-        &directory,
-        false,
-        slot,
-        &gone,
+        EntryWrite {
+            always: false,
+            at: directory.at,
+            page: kept,
+        },
+        EntryWrite {
+            always: false,
+            at: entry.at,
+            page: gone,
+        },
     );
 }
 
-// Deletes a file in a directory.
-pub(crate) fn delete_in(
+// Deletes a file.
+fn delete_entry(
     image: &mut [u8],
     table: &mut [u32],
     s: Superblock,
-    at: usize,
-    first: u32,
-    page: &[u8; 512],
-    name: &[u8],
+    directory: EntryAt,
+    entry: EntryAt,
 ) -> Answer
-    requires { ⌜ (openCard (now image) ≡ ok s) × (length (now table) ≡ s .end) × ((next : ℕ) → (entered (viewBy (s .geometry) (now table) (now image)) (now table) first (now page) (now name)) .arrival ≡ At next → CanDelete s (now image) (now table) at (now page) ((entered (viewBy (s .geometry) (now table) (now image)) (now table) first (now page) (now name)) .at) ((entered (viewBy (s .geometry) (now table) (now image)) (now table) first (now page) (now name)) .page)) ⌝ }
-    ensures answer { λ r. ⌜ toldAnswer r ≡ (deletedIn s (now (image .entry)) (now (table .entry)) at first (now (page .entry)) (now (name .entry))) .answer ⌝ }
-    ensures image { λ _. ⌜ now (image .exit) ≡ (deletedIn s (now (image .entry)) (now (table .entry)) at first (now (page .entry)) (now (name .entry))) .image ⌝ }
+    requires { ⌜ CanEdit s (now image) (now table) action.Delete directory [] [] entry ⌝ }
+    ensures { λ r. ⌜ Leaves (deletedEntry s (now (image .entry)) (now (table .entry)) directory entry) r (now (image .exit)) ⌝ }
 {
-    let a = enter(image, table, s.geometry, first, page, name);
-    let arrival = a.arrival;
-    match arrival {
-        Arrival::Absent => Answer::Refused(Refusal::Absent),
-        Arrival::WrongKind => Answer::Refused(Refusal::WrongKind),
-        Arrival::At(_) => {
-            let entry = a.page;
-            if is_directory(&entry) {
-                return Answer::Refused(Refusal::WrongKind);
-            }
-            let count = file_clusters(word_at(&entry, 0x04));
-            remove_entry(image, table, s, at, page, a.at, &entry, count);
+    if is_directory(&entry.page) {
+        return Answer::Refused(Refusal::WrongKind);
+    }
+    let count = file_clusters(word_at(&entry.page, 0x04));
+    take_away(image, table, s, directory, entry, count);
+    Answer::Done
+}
+
+// Removes an empty directory.
+fn remove_entry(
+    image: &mut [u8],
+    table: &mut [u32],
+    s: Superblock,
+    directory: EntryAt,
+    entry: EntryAt,
+) -> Answer
+    requires { ⌜ CanEdit s (now image) (now table) action.Remove directory [] [] entry ⌝ }
+    ensures { λ r. ⌜ Leaves (removedEntry s (now (image .entry)) (now (table .entry)) directory entry) r (now (image .exit)) ⌝ }
+{
+    if !is_directory(&entry.page) {
+        return Answer::Refused(Refusal::WrongKind);
+    }
+    let entries = word_at(&entry.page, 0x04);
+    let start = next_of(table, entry.first);
+    let live = first_live(image, table, s.geometry, start, slots_of(entries), 0);
+    match live {
+        Place::At { slot: _, page: _ } => Answer::Refused(Refusal::NotEmpty),
+        Place::Nowhere => {
+            take_away(
+                image,
+                table,
+                s,
+                directory,
+                entry,
+                directory_clusters(entries),
+            );
             Answer::Done
         }
     }
 }
 
-// Removes an empty directory in a directory.
-pub(crate) fn remove_in(
+// What is done with the entry of this name in a directory.
+pub(crate) fn edit_in(
     image: &mut [u8],
     table: &mut [u32],
     s: Superblock,
-    at: usize,
-    first: u32,
-    page: &[u8; 512],
+    directory: EntryAt,
+    action: Action,
     name: &[u8],
+    time: &[u8],
+    bytes: &[u8],
 ) -> Answer
-    requires { ⌜ (openCard (now image) ≡ ok s) × (length (now table) ≡ s .end) × ((next : ℕ) → (entered (viewBy (s .geometry) (now table) (now image)) (now table) first (now page) (now name)) .arrival ≡ At next → CanRemove s (now image) (now table) at (now page) ((entered (viewBy (s .geometry) (now table) (now image)) (now table) first (now page) (now name)) .at) ((entered (viewBy (s .geometry) (now table) (now image)) (now table) first (now page) (now name)) .page)) ⌝ }
-    ensures answer { λ r. ⌜ toldAnswer r ≡ (removedIn s (now (image .entry)) (now (table .entry)) at first (now (page .entry)) (now (name .entry))) .answer ⌝ }
-    ensures image { λ _. ⌜ now (image .exit) ≡ (removedIn s (now (image .entry)) (now (table .entry)) at first (now (page .entry)) (now (name .entry))) .image ⌝ }
+    requires { ⌜ CanEditIn s (now image) (now table) directory action (now name) (now time) (now bytes) ⌝ }
+    ensures { λ r. ⌜ Leaves (editedIn s (now (image .entry)) (now (table .entry)) directory action (now (name .entry)) (now (time .entry)) (now (bytes .entry))) r (now (image .exit)) ⌝ }
 {
-    let a = enter(image, table, s.geometry, first, page, name);
+    let a = enter(
+        image,
+        table,
+        s.geometry,
+        directory.first,
+        &directory.page,
+        name,
+    );
     let arrival = a.arrival;
     match arrival {
         Arrival::Absent => Answer::Refused(Refusal::Absent),
         Arrival::WrongKind => Answer::Refused(Refusal::WrongKind),
-        Arrival::At(_) => {
-            let entry = a.page;
-            if !is_directory(&entry) {
-                return Answer::Refused(Refusal::WrongKind);
-            }
-            let length = word_at(&entry, 0x04);
-            let live = first_live(
-                image,
-                table,
-                s.geometry,
-                next_of(table, word_at(&entry, 0x10)),
-                slots_of(length),
-                0,
-            );
-            match live {
-                Place::At { slot: _, page: _ } => Answer::Refused(Refusal::NotEmpty),
-                Place::Nowhere => {
-                    remove_entry(
-                        image,
-                        table,
-                        s,
-                        at,
-                        page,
-                        a.at,
-                        &entry,
-                        directory_clusters(length),
-                    );
-                    Answer::Done
-                }
+        Arrival::At(first) => {
+            let page = a.page;
+            let entry = EntryAt {
+                at: a.at,
+                first: first,
+                page: page,
+            };
+            match action {
+                Action::Replace => replace_entry(image, table, s, directory, entry, time, bytes),
+                Action::Delete => delete_entry(image, table, s, directory, entry),
+                Action::Remove => remove_entry(image, table, s, directory, entry),
             }
         }
     }

@@ -3,6 +3,7 @@ mod adding;
 mod calls;
 mod deeds;
 mod editing;
+mod entries;
 mod pages;
 mod sizes;
 mod store;
@@ -11,9 +12,8 @@ mod words;
 use calls::Kind;
 use calls::change;
 use layout::Refusal;
-ghost use mathlib.Core.Path.{_≡_};
 ghost use Rattle.model.specs.Change as is;
-ghost use Rattle.change.specs.Answers.{toldAnswer};
+ghost use Rattle.change.specs.Answers.{Leaves};
 ghost use Rattle.change.specs.Changed.{changed, pathIn};
 
 // Whether a change was made, or why it is refused.
@@ -24,40 +24,35 @@ pub enum Answer {
 
 // Creates a file of these bytes at a path, with this time.
 pub fn create(image: &mut [u8], path: &[u8], time: &[u8], bytes: &[u8]) -> Answer
-    ensures answer { λ r. ⌜ toldAnswer r ≡ (changed (is.create (pathIn (now (path .entry))) (now (time .entry)) (now (bytes .entry))) (now (image .entry))) .answer ⌝ }
-    ensures image { λ _. ⌜ now (image .exit) ≡ (changed (is.create (pathIn (now (path .entry))) (now (time .entry)) (now (bytes .entry))) (now (image .entry))) .image ⌝ }
+    ensures { λ r. ⌜ Leaves (changed (is.create (pathIn (now (path .entry))) (now (time .entry)) (now (bytes .entry))) (now (image .entry))) r (now (image .exit)) ⌝ }
 {
     change(image, Kind::Create, path, time, bytes)
 }
 
 // Replaces the bytes of the file at a path; its time of change becomes this time.
 pub fn replace(image: &mut [u8], path: &[u8], time: &[u8], bytes: &[u8]) -> Answer
-    ensures answer { λ r. ⌜ toldAnswer r ≡ (changed (is.replace (pathIn (now (path .entry))) (now (time .entry)) (now (bytes .entry))) (now (image .entry))) .answer ⌝ }
-    ensures image { λ _. ⌜ now (image .exit) ≡ (changed (is.replace (pathIn (now (path .entry))) (now (time .entry)) (now (bytes .entry))) (now (image .entry))) .image ⌝ }
+    ensures { λ r. ⌜ Leaves (changed (is.replace (pathIn (now (path .entry))) (now (time .entry)) (now (bytes .entry))) (now (image .entry))) r (now (image .exit)) ⌝ }
 {
     change(image, Kind::Replace, path, time, bytes)
 }
 
 // Deletes the file at a path.
 pub fn delete(image: &mut [u8], path: &[u8]) -> Answer
-    ensures answer { λ r. ⌜ toldAnswer r ≡ (changed (is.delete (pathIn (now (path .entry)))) (now (image .entry))) .answer ⌝ }
-    ensures image { λ _. ⌜ now (image .exit) ≡ (changed (is.delete (pathIn (now (path .entry)))) (now (image .entry))) .image ⌝ }
+    ensures { λ r. ⌜ Leaves (changed (is.delete (pathIn (now (path .entry)))) (now (image .entry))) r (now (image .exit)) ⌝ }
 {
     change(image, Kind::Delete, path, b"", b"")
 }
 
 // Makes a directory at a path, with this time.
 pub fn make_dir(image: &mut [u8], path: &[u8], time: &[u8]) -> Answer
-    ensures answer { λ r. ⌜ toldAnswer r ≡ (changed (is.makeDirectory (pathIn (now (path .entry))) (now (time .entry))) (now (image .entry))) .answer ⌝ }
-    ensures image { λ _. ⌜ now (image .exit) ≡ (changed (is.makeDirectory (pathIn (now (path .entry))) (now (time .entry))) (now (image .entry))) .image ⌝ }
+    ensures { λ r. ⌜ Leaves (changed (is.makeDirectory (pathIn (now (path .entry))) (now (time .entry))) (now (image .entry))) r (now (image .exit)) ⌝ }
 {
     change(image, Kind::Make, path, time, b"")
 }
 
 // Removes the empty directory at a path.
 pub fn remove_dir(image: &mut [u8], path: &[u8]) -> Answer
-    ensures answer { λ r. ⌜ toldAnswer r ≡ (changed (is.removeDirectory (pathIn (now (path .entry)))) (now (image .entry))) .answer ⌝ }
-    ensures image { λ _. ⌜ now (image .exit) ≡ (changed (is.removeDirectory (pathIn (now (path .entry)))) (now (image .entry))) .image ⌝ }
+    ensures { λ r. ⌜ Leaves (changed (is.removeDirectory (pathIn (now (path .entry)))) (now (image .entry))) r (now (image .exit)) ⌝ }
 {
     change(image, Kind::Remove, path, b"", b"")
 }

@@ -3,6 +3,7 @@ use lookup::along::Place;
 ghost use mathlib.Core.Path.{_≡_};
 ghost use Prim.Native.Nat.{_+_, _/_, _<_, _≤_};
 ghost use lib.ListN.{length};
+ghost use Rattle.model.specs.Bytes.{wordLimit};
 ghost use Rattle.model.specs.Entry.{clustersFor};
 ghost use Rattle.model.specs.Plan.{firstOf};
 ghost use Rattle.change.specs.Deeds.{growthBy, lengthBy, numberBy, pageBy};
@@ -39,7 +40,7 @@ pub(crate) fn growth_by(dead: Place, length: u32) -> usize
 }
 
 pub(crate) fn length_by(dead: Place, length: u32) -> u32
-    requires { ⌜ length < 4294967295 ⌝ }
+    requires { ⌜ length + 1 < wordLimit ⌝ }
     ensures { λ r. ⌜ r ≡ lengthBy dead length ⌝ }
 {
     match dead {
@@ -50,7 +51,7 @@ pub(crate) fn length_by(dead: Place, length: u32) -> u32
 
 // The slot's number, counted from the directory's first entry.
 pub(crate) fn number_by(dead: Place, length: u32) -> u32
-    requires { ⌜ numberBy dead length < 4294967296 ⌝ }
+    requires { ⌜ numberBy dead length < wordLimit ⌝ }
     ensures { λ r. ⌜ r ≡ numberBy dead length ⌝ }
 {
     match dead {

@@ -1,5 +1,4 @@
 // The allocation table in memory: its free clusters, chains linked and freed.
-use model::MOST_CLUSTERS;
 use tree::slots::next_of;
 ghost use mathlib.Core.Path.{_≡_};
 ghost use Prim.Native.Nat.{ℕ, _≤_};
@@ -9,7 +8,7 @@ ghost use Rattle.model.specs.View.{mostClusters, topBit};
 ghost use Rattle.change.specs.Words.{chained, clearedFrom, freeList};
 
 // The free clusters of a table, ascending, into a list with room for all; how many there are.
-fn collect_free_in(table: &[u32], list: &mut [u32]) -> usize
+pub(crate) fn collect_free(table: &[u32], list: &mut [u32]) -> usize
     requires { ⌜ (length (now table) ≤ length (now list)) × (length (now table) ≤ mostClusters) ⌝ }
     ensures { λ r. ⌜ (r ≡ length (freeList (now (table .entry)))) × (take r (now (list .exit)) ≡ freeList (now (table .entry))) ⌝ }
 {
@@ -23,14 +22,6 @@ fn collect_free_in(table: &[u32], list: &mut [u32]) -> usize
         c += 1;
     }
     count
-}
-
-// The same into an array.
-pub(crate) fn collect_free(table: &[u32], list: &mut [u32; MOST_CLUSTERS]) -> usize
-    requires { ⌜ length (now table) ≤ mostClusters ⌝ }
-    ensures { λ r. ⌜ (r ≡ length (freeList (now (table .entry)))) × (take r (now (list .exit)) ≡ freeList (now (table .entry))) ⌝ }
-{
-    collect_free_in(table, list)
 }
 
 // Links the clusters into a chain, from the last to the first. One outside the table is passed over.

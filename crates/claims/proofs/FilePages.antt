@@ -10,6 +10,7 @@ use borrow.Author.Tests.{leb-true, leb-false, le-leb, ne-eqb}
 use lib.Dec.{eqb, leb}
 use lib.ListN.{drop, getD, length, take}
 use lib.Seq.{take-all, take-append-add, take-append-le}
+use Rattle.layout.specs.declared.Geometry.{Geometry}
 use Rattle.layout.specs.See.{onImage}
 use Rattle.lookup.specs.Read.{bytesFrom, bytesToCopy, dataOfPages, pagesWith}
 use Rattle.model.proofs.Equality.{bool, zero?}
@@ -143,13 +144,13 @@ module _ (f : ℕ → Option (List ℕ)) (sized : (p : ℕ) (d : List ℕ) → f
       let z : 512 * k % 512 ≡ 0 = omega arith in
       rw (with-one k _ (pagesOf cs) (b .0) (b .1), with-one k _ (map f (pagesOf cs)) (b .0) (b .1), o .0, o .1, z)
 
-  pub read-page : (n k offset : ℕ) (cs : List ℕ) → n ≤ 512 * length (pagesOf cs) → 512 * k < n
-      → pageBy (onImage offset (pageBytes n k cs)) ≡ pageFront (n - 512 * k) (f (getD (pagesOf cs) k 0))
+  pub read-page : (n k : ℕ) (geometry : Geometry) (cs : List ℕ) → n ≤ 512 * length (pagesOf cs) → 512 * k < n
+      → pageBy (onImage geometry (pageBytes n k cs)) ≡ pageFront (n - 512 * k) (f (getD (pagesOf cs) k 0))
   unfolding dataOfPages andThen
-  read-page n k offset cs h l = rw (one-read n k cs h l) (go (f (getD (pagesOf cs) k 0)) refl)
+  read-page n k geometry cs h l = rw (one-read n k cs h l) (go (f (getD (pagesOf cs) k 0)) refl)
     where
       go : (o : Option (List ℕ)) → f (getD (pagesOf cs) k 0) ≡ o
-          → pageBy (onImage offset (andThen (dataOfPages (getD (pagesOf cs) k 0 ∷ []) (o ∷ [])) (λ bytes. ok (take (bytesToCopy n (512 * k) 512) bytes))))
+          → pageBy (onImage geometry (andThen (dataOfPages (getD (pagesOf cs) k 0 ∷ []) (o ∷ [])) (λ bytes. ok (take (bytesToCopy n (512 * k) 512) bytes))))
           ≡ pageFront (n - 512 * k) o
       go none e = refl
       go (some d) e =

@@ -1,6 +1,7 @@
 -- Every claim holds.
 pub mod MarkedNumbers
 pub mod PathFinds
+pub mod PathNames
 pub mod ImageClaims
 pub mod Witness
 pub mod FilePages

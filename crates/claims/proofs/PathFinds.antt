@@ -19,7 +19,7 @@ use Rattle.model.specs.Names.{Name, Path}
 use Rattle.model.specs.Tree.{Root, Slot, Tree, chainOf, clusterUses, end, entryPages, node, reached, rootSlot, times}
 use Rattle.model.specs.View.{Link, View, pagesOf}
 
-absent-under : (t : Tree) (n m : Name) (q : Path) → lookIn t (n ∷ []) ≡ absent → lookIn t (n ∷ m ∷ q) ≡ absent
+pub absent-under : (t : Tree) (n m : Name) (q : Path) → lookIn t (n ∷ []) ≡ absent → lookIn t (n ∷ m ∷ q) ≡ absent
 absent-under end n m q e = refl
 absent-under (node x a b) n m q e =
     ⊎-elim (λ i. absurd (let f : found x a ≡ absent = rw i at e in let z : _≡_ {A = ℕ} 0 1 = cc in omega arith))

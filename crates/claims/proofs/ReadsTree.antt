@@ -12,7 +12,7 @@ use lib.ListN.{getD, length, take}
 use Rattle.change.proofs.ChangedLaws.{checked-parts}
 use Rattle.fields.specs.PathBytes.{pathOf}
 use Rattle.layout.specs.declared.Superblock.{Superblock}
-use Rattle.layout.specs.See.{checkImage, onImage, pageIn, see}
+use Rattle.layout.specs.See.{checkImage, imagePage, onImage, pageIn, see}
 use Rattle.layout.specs.Table.{tableOf}
 use Rattle.lookup.proofs.Arrivals.{arrive}
 use Rattle.lookup.proofs.CardLaws.{call-accepted}
@@ -37,6 +37,7 @@ use Rattle.page.specs.Page.{pageAt}
 use Rattle.claims.proofs.FilePages.{Whole, copy-all, firstAt, gather, gathered, read-all, read-page, read-unreadable, treeBytes, whole}
 use Rattle.claims.proofs.ImageClaims.{card-of}
 use Rattle.claims.proofs.PathFinds.{Kinded, Met, met, not-free}
+use Rattle.claims.proofs.PathNames.{path-there}
 use Rattle.claims.specs.ReadsTree.{BytesOr2, FindTells, NothingThere, ReadTells, Reads, TreeIsReading, pageRead, standingBy}
 use Rattle.claims.specs.Seen.{standingIn, treeIn}
 
@@ -65,7 +66,7 @@ module _ (image : List ℕ) (s : Superblock) where
   v = see s image
 
   abbrev sized : (p : ℕ) (d : List ℕ) → v .page p ≡ some d → length d ≡ 512
-  sized p d e = view-sized (s .offset) (length (tableOf image s)) image p d e
+  sized p d e = view-sized (s .geometry) (length (tableOf image s)) image p d e
 
   -- a chain with no free cluster, and how many bytes its pages have room for
   abbrev Used : List ℕ → Type 0
@@ -74,11 +75,11 @@ module _ (image : List ℕ) (s : Superblock) where
   room-for : (e : Entry) (cs : List ℕ) → length cs ≡ fileClusters e → e .length ≤ 512 * length (pagesOf cs)
   room-for e cs h = omega (arith, length-pages cs)
 
-  unreadable : (cs : List ℕ) → Used cs → (p : ℕ) → 1 ≤ times (pagesOf cs) p → v .page p ≡ none → pageAt image (2 * s .offset + p) ≡ none
+  unreadable : (cs : List ℕ) → Used cs → (p : ℕ) → 1 ≤ times (pagesOf cs) p → v .page p ≡ none → pageAt image (imagePage (s .geometry) p) ≡ none
   unfolding pageIn
   unreadable cs used p h e = go (ltb p (2 * length (tableOf image s))) refl e
     where
-      go : (b : Bool) → ltb p (2 * length (tableOf image s)) ≡ b → cond b (pageAt image (2 * s .offset + p)) none ≡ none → pageAt image (2 * s .offset + p) ≡ none
+      go : (b : Bool) → ltb p (2 * length (tableOf image s)) ≡ b → cond b (pageAt image (imagePage (s .geometry) p)) none ≡ none → pageAt image (imagePage (s .geometry) p) ≡ none
       go true t x = x
       go false t x =
           let past : length (tableOf image s) ≤ p / 2 = omega (arith, ltb-false p (2 * length (tableOf image s)) t) in
@@ -87,22 +88,22 @@ module _ (image : List ℕ) (s : Superblock) where
 
   -- what a read of page k of a file answers
   abbrev pageOfFile : Entry → List ℕ → ℕ → Result (List ℕ)
-  pageOfFile e cs k = onImage (s .offset) (readFrom (512 * k) 512 (Slot.file e cs (map (v .page) (pagesOf cs))) Tree.end)
+  pageOfFile e cs k = onImage (s .geometry) (readFrom (512 * k) 512 (Slot.file e cs (map (v .page) (pagesOf cs))) Tree.end)
 
   whole-told : (e : Entry) (cs : List ℕ) → length cs ≡ fileClusters e → Used cs → (k : ℕ) (w : Option (List ℕ)) (r : Result (List ℕ)) → Whole (v .page) sized (pagesOf cs) (e .length) k w r
-      → BytesOr2 image (pageOfFile e cs) k w (onImage (s .offset) (andThen r (λ bytes. ok (take (e .length) bytes))))
+      → BytesOr2 image (pageOfFile e cs) k w (onImage (s .geometry) (andThen r (λ bytes. ok (take (e .length) bytes))))
   unfolding andThen
   whole-told e cs long used k none (fault m p) x =
       let u : v .page (getD (pagesOf cs) k 0) ≡ none = rw (x .4) (x .1) in
       let one = read-unreadable (v .page) sized (e .length) k cs (room-for e cs long) (x .3) u in
-      rw (x .0) (2 * s .offset + p, refl, rw (le-leb (512 * k) (e .length) (omega (arith, x .3)), one, x .4), unreadable cs used p (x .2) (x .1))
+      rw (x .0) (imagePage (s .geometry) p, refl, rw (le-leb (512 * k) (e .length) (omega (arith, x .3)), one, x .4), unreadable cs used p (x .2) (x .1))
   whole-told e cs long used k none (ok bytes) x = absurd x
   whole-told e cs long used k (some bytes) (fault m p) x = absurd x
   whole-told e cs long used k (some bytes) (ok gathered) x = ap {B = Result (List ℕ)} ok x
 
   read-tells : (f : Found) (r : Result (Slot × Tree)) → Met v f r → ((h : Slot) (t : Tree) → f ≡ found h t → Used (chainOf h)) → (room : ℕ)
-      → ReadTells image (λ k. onImage (s .offset) (andThen r (λ x. readFrom (512 * k) 512 (x .0) (x .1)))) room (tell standing none f)
-      (onImage (s .offset) (andThen r (λ x. readFrom 0 room (x .0) (x .1))))
+      → ReadTells image (λ k. onImage (s .geometry) (andThen r (λ x. readFrom (512 * k) 512 (x .0) (x .1)))) room (tell standing none f)
+      (onImage (s .geometry) (andThen r (λ x. readFrom 0 room (x .0) (x .1))))
   unfolding andThen
   read-tells absent (fault n p) m used room = ⊎-elim (λ (e : n ≡ 9). inl (rw (m .0, e))) (λ (e : n ≡ 10). inr (rw (m .0, e))) (m .1)
   read-tells absent (ok x) m used room = absurd m
@@ -110,7 +111,7 @@ module _ (image : List ℕ) (s : Superblock) where
   read-tells (found h t) (ok x) m used room = rw (m .0, m .1) (go h (m .2) (used h t refl))
     where
       go : (h : Slot) → Kinded v h → Used (chainOf h)
-          → ReadTells image (λ k. onImage (s .offset) (readFrom (512 * k) 512 h t)) room (standing h t) (onImage (s .offset) (readFrom 0 room h t))
+          → ReadTells image (λ k. onImage (s .geometry) (readFrom (512 * k) 512 h t)) room (standing h t) (onImage (s .geometry) (readFrom 0 room h t))
       go Slot.dead k u = absurd k
       go (Slot.file e cs ds) k u = λ fits.
           rw (k .2, le-leb 0 (e .length) (omega arith), copy-all (e .length) room fits, read-all (v .page) sized (e .length) cs)
@@ -119,23 +120,23 @@ module _ (image : List ℕ) (s : Superblock) where
       go (Slot.directory e cs) k u = refl
 
   tree-tells : (f : Found) (r : Result (Slot × Tree)) → Met v f r
-      → tell standing none f ≡ standingBy (andThen r (λ x. foundEntry (x .0) (x .1))) (λ k. onImage (s .offset) (andThen r (λ x. readFrom (512 * k) 512 (x .0) (x .1))))
+      → tell standing none f ≡ standingBy (andThen r (λ x. foundEntry (x .0) (x .1))) (λ k. onImage (s .geometry) (andThen r (λ x. readFrom (512 * k) 512 (x .0) (x .1))))
   unfolding andThen
   tree-tells absent (fault n p) m = refl
   tree-tells absent (ok x) m = absurd m
   tree-tells (found h t) (fault n p) m = absurd m
   tree-tells (found h t) (ok x) m = rw (m .0, m .1) (go h (m .2))
     where
-      go : (h : Slot) → Kinded v h → standing h t ≡ standingBy (foundEntry h t) (λ k. onImage (s .offset) (readFrom (512 * k) 512 h t))
+      go : (h : Slot) → Kinded v h → standing h t ≡ standingBy (foundEntry h t) (λ k. onImage (s .geometry) (readFrom (512 * k) 512 h t))
       go Slot.dead k = absurd k
       go (Slot.file e cs ds) k =
           rw (k .2, file-kind e (k .0))
           (ap (λ (pages : List (Option (List ℕ))). some (Standing.file (fieldsOf e) (record { size = e .length; pages = pages })))
           (sym
-          (gather (v .page) sized (λ j. onImage (s .offset) (readFrom (512 * j) 512 (Slot.file e cs (map (v .page) (pagesOf cs))) t)) (pagesOf cs) (e .length) 0 (room-for e cs (k .1))
+          (gather (v .page) sized (λ j. onImage (s .geometry) (readFrom (512 * j) 512 (Slot.file e cs (map (v .page) (pagesOf cs))) t)) (pagesOf cs) (e .length) 0 (room-for e cs (k .1))
           (λ j l.
           let z : 0 + j ≡ j = omega arith in
-          rw (z, le-leb (512 * j) (e .length) (omega arith)) (read-page (v .page) sized (e .length) j (s .offset) cs (room-for e cs (k .1)) l)))))
+          rw (z, le-leb (512 * j) (e .length) (omega arith)) (read-page (v .page) sized (e .length) j (s .geometry) cs (room-for e cs (k .1)) l)))))
       go (Slot.directory e cs) k = rw k
 
 -- ---- the claim
@@ -154,13 +155,13 @@ module _ (image : List ℕ) (s : Superblock) (root : Root) (m : Marks) (checked 
   found-at : findOf image path ≡ andThen there (λ x. foundEntry (x .0) (x .1))
   found-at = call-accepted image path (λ s. findIn) s root m checked ∙ ap (λ o. withPath o (findIn root)) parsed ∙ at-path foundEntry root names
 
-  read-at : (from room : ℕ) → readOf image path from room ≡ onImage (s .offset) (andThen there (λ x. readFrom from room (x .0) (x .1)))
+  read-at : (from room : ℕ) → readOf image path from room ≡ onImage (s .geometry) (andThen there (λ x. readFrom from room (x .0) (x .1)))
   read-at from room =
-      call-accepted image path (λ t r q. onImage (t .offset) (readIn r q from room)) s root m checked
-      ∙ ap (λ o. withPath o (λ q. onImage (s .offset) (readIn root q from room))) parsed
-      ∙ ap (onImage (s .offset)) (at-path (readFrom from room) root names)
+      call-accepted image path (λ t r q. onImage (t .geometry) (readIn r q from room)) s root m checked
+      ∙ ap (λ o. withPath o (λ q. onImage (s .geometry) (readIn root q from room))) parsed
+      ∙ ap (onImage (s .geometry)) (at-path (readFrom from room) root names)
 
-  page-at : pageRead image path ≡ (λ k. onImage (s .offset) (andThen there (λ x. readFrom (512 * k) 512 (x .0) (x .1))))
+  page-at : pageRead image path ≡ (λ k. onImage (s .geometry) (andThen there (λ x. readFrom (512 * k) 512 (x .0) (x .1))))
   page-at = λ i k. read-at (512 * k) 512 i
 
   pub reads : Reads image path names
@@ -174,7 +175,19 @@ module _ (image : List ℕ) (s : Superblock) (root : Root) (m : Marks) (checked 
         tree = tree-at ∙ tree-tells image s (lookUp root names) there arrived ∙ sym (ap₂ standingBy found-at page-at);
       }
 
+module _ (image : List ℕ) (s : Superblock) (root : Root) (m : Marks) (checked : checkImage image ≡ ok (s, root, m)) where
+  pub handed : (names : Path) (there : Standing) → treeIn image names ≡ some there → (path : List ℕ) × (pathOf path ≡ some names)
+  unfolding treeIn
+  handed names there e = go (lookUp root names) refl (sym (ap (λ r. standingIn r names) checked) ∙ e)
+    where
+      go : (f : Found) → lookUp root names ≡ f → tell standing none f ≡ some there → (path : List ℕ) × (pathOf path ≡ some names)
+      go absent i k = absurd (let z : _≡_ {A = ℕ} 0 1 = cc in omega arith)
+      go (found h t) i k = path-there (see s image) root ((check-holds (see s image) root m ((checked-parts image s root m checked) .1)) .0) names h t i
+
 pub tree-is-reading : TreeIsReading
-tree-is-reading image counts e path names parsed =
+tree-is-reading image counts e =
     let c = card-of image counts e in
-    reads image (c .superblock) (c .root) (c .marks) (c .checked) path names parsed
+    record {
+      everywhere = reads image (c .superblock) (c .root) (c .marks) (c .checked);
+      handed = handed image (c .superblock) (c .root) (c .marks) (c .checked);
+    }

@@ -9,7 +9,7 @@ use lib.Dec.{eqb, lit≤}
 use lib.ListN.{length, length-replicate, replicate}
 use Rattle.change.proofs.ChangedLaws.{checked-whole}
 use Rattle.layout.specs.declared.Superblock.{Superblock}
-use Rattle.layout.proofs.Geometry.{good-card}
+use Rattle.layout.proofs.OpenFacts.{good-card}
 use Rattle.layout.proofs.Stages.{Readable}
 use Rattle.layout.specs.Superblock.{clustersIn, goodLength, goodSuperblock, goodText, superblockOf}
 use Rattle.layout.specs.Table.{dataOf, goodTableNames, namesOf, openCard, tableNames, tableOf, tablePage, tableWord, upTo}
@@ -74,7 +74,7 @@ bench-read q = written-read benchPages (erased 56) bench-fit erased-sized q
 
 -- ---- the card is open
 abbrev card : Superblock
-card = record { clusters = 56; offset = 10; end = 30; backup1 = 6; backup2 = 5; indirect = 8 }
+card = record { clusters = 56; geometry = record { offset = 10 }; end = 30; backup1 = 6; backup2 = 5; indirect = 8 }
 
 readable : (q : ℕ) (bytes : List ℕ) → pageAt benchImage q ≡ some bytes → Readable benchImage q
 readable q bytes e = e ∙ ap (λ o. some (dataOf o)) (sym e)
@@ -131,10 +131,10 @@ table-is = ap (λ names. upTo (tableWord benchImage names) 30) names-are ∙ up-
 
 -- the view with these words
 abbrev view : View
-view = viewBy 10 words benchImage
+view = viewBy (card .geometry) words benchImage
 
 view-is : see card benchImage ≡ view
-view-is = ap (λ (t : List ℕ). viewBy 10 t benchImage) table-is
+view-is = ap (λ (t : List ℕ). viewBy (card .geometry) t benchImage) table-is
 
 abbrev root : Root
 root = record { rootEntry = benchDot 2 dotName; chain = 0 ∷ []; slots = end }

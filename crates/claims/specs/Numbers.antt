@@ -1,4 +1,4 @@
--- The numbers marked P in document 01, "Numbers to meet", in its order.
+-- The numbers marked P (RULES, "Numbers to meet"), in the order there.
 use mathlib.Core.Bool.{false, true}
 use mathlib.Core.List.{[], _∷_}
 use mathlib.Core.Path.{_≡_}

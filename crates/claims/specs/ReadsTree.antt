@@ -89,6 +89,10 @@ pub record Reads (image path : List ℕ) (names : Path) : Type 0 where
   pub read : (room : ℕ) → ReadTells image (pageRead image path) room (treeIn image names) (readOf image path 0 room)
   pub tree : treeIn image names ≡ standingBy (findOf image path) (pageRead image path)
 
+-- At every path that can be handed in; and where something stands, there is such a path.
+pub record ReadsAll (image : List ℕ) : Type 0 where
+  pub everywhere : (path : List ℕ) (names : Path) → pathOf path ≡ some names → Reads image path names
+  pub handed : (names : Path) (there : Standing) → treeIn image names ≡ some there → (path : List ℕ) × (pathOf path ≡ some names)
+
 abbrev pub TreeIsReading : Type 0
-TreeIsReading =
-    (image : List ℕ) (counts : Counts) → checkOf image ≡ ok counts → (path : List ℕ) (names : Path) → pathOf path ≡ some names → Reads image path names
+TreeIsReading = (image : List ℕ) (counts : Counts) → checkOf image ≡ ok counts → ReadsAll image

@@ -1,5 +1,5 @@
--- An image that the check accepts: the bench card of document 01, "Numbers to meet", byte for byte. N 56, alloc_offset 10, alloc_end 30,
--- indirect cluster 8, table cluster 9, backup blocks 6 and 5, only a root of length 2.
+-- An image that the check accepts: the bench card (RULES, "Numbers to meet") with N 56, alloc_offset 10, alloc_end 30, indirect cluster 8,
+-- table cluster 9, backup blocks 6 and 5, and only a root of length 2. Its bytes are those of the card that `figures` runs on.
 use Prim.Native.Nat.{ℕ, _*_}
 use mathlib.Core.List.{List, [], _∷_, _++_}
 use mathlib.Core.Path.{_≡_}
@@ -86,6 +86,6 @@ benchPages =
 unfoldable pub benchImage : List ℕ
 benchImage = writeAll benchPages (erased 56)
 
--- The check accepts it with the counts that document 01 gives.
+-- The check accepts it, with the counts to meet.
 abbrev pub BenchAccepted : Type 0
 BenchAccepted = checkOf benchImage ≡ ok (record { clusters = 56; free = 29; reached = 1; orphaned = 0 })

@@ -6,7 +6,7 @@ ghost use Rattle.claims.specs.ReadsTree.{TreeIsReading};
 ghost use Rattle.claims.specs.Witness.{BenchAccepted};
 ghost use Rattle.claims.specs.Claims.{ChangeKeeps, Demand3, RefusalLeaves};
 
-// The numbers marked P in document 01.
+// The numbers to meet that are marked P.
 pub fn marked_numbers()
     ensures { λ _. ⌜ MarkedNumbers ⌝ }
 {}
@@ -36,7 +36,7 @@ pub fn demand_3()
     ensures { λ _. ⌜ Demand3 ⌝ }
 {}
 
-// The claims are of something: the check accepts the bench card, with the counts that document 01 gives.
+// The claims are of something: the check accepts the bench card, with the counts to meet.
 pub fn bench_accepted()
     ensures { λ _. ⌜ BenchAccepted ⌝ }
 {}

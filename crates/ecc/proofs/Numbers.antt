@@ -1,4 +1,4 @@
--- The numbers to meet on codes (01, marked P): the codes by computing them, the two verdicts by the syndrome.
+-- The numbers to meet on codes (RULES, marked P): the codes by computing them, the two verdicts by the syndrome.
 use mathlib.Core.Path.{_≡_, refl}
 use lib.Count.{onesIn, ones}
 use lib.ListN.{set, replicate}

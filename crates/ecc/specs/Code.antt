@@ -1,4 +1,4 @@
--- The code of a chunk (01, "Pages and their code"). A byte is a number, a chunk the list of its bytes.
+-- The code of a chunk (RULES, "Pages and their code"). A byte is a number, a chunk the list of its bytes.
 use mathlib.Core.List.{List, [], _∷_}
 use Prim.Native.Nat.{ℕ, zero, suc, _+_, _-_, _*_, _%_}
 use lib.Bits.{bitAnd, bitXor}

@@ -1,4 +1,4 @@
--- How a chunk and its stored code are judged (01, "Pages and their code").
+-- How a chunk and its stored code are judged (RULES, "Pages and their code").
 use mathlib.Core.Bool.{Bool, true, false, _&&_, cond}
 use mathlib.Core.List.{List, [], _∷_}
 use mathlib.Core.Option.{Option, none, some}

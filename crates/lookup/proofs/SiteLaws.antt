@@ -44,23 +44,22 @@ last-name path i (suc k) = let z : suc i + k ≡ i + suc k = omega arith in last
 -- ---- what is known of the directory
 
 -- Its entry is in page `at`, its chain begins with cluster `first`.
-pub record Site (v : View) (t : List ℕ) (root : Root) (path : List ℕ) (names : Path) (k first at : ℕ) (page : List ℕ) : Type 0 where
+pub record Site (v : View) (t : List ℕ) (root : Root) (names : Path) (first at : ℕ) (page : List ℕ) : Type 0 where
   pub chain : List ℕ
   pub rest : List ℕ
   pub slots : Tree
   pub below : ℕ
   pub open-way : way (lookUp root) names ≡ 0
   pub found-so : lookUp root (parent names) ≡ found (Slot.directory (entryOf page) chain) slots
-  pub number : pageAtPath root (parent names) ≡ at
-  pub shown : v .page at ≡ some page
+  pub page-so : pageAtPath root (parent names) ≡ at
+  pub read : v .page at ≡ some page
   pub two : 2 ≤ (entryOf page) .length
   pub long : length chain ≡ directoryClusters (entryOf page)
-  pub links : Chain v (Link.next first) chain
-  pub begins : chain ≡ first ∷ rest
+  pub linked : Chain v (Link.next first) chain
+  pub starts : chain ≡ first ∷ rest
   pub pages : entryPages (Slot.directory (entryOf page) chain) ≡ slotPages t (nextOf t first) 0 ((entryOf page) .length - 2)
-  pub held : HoldsSlots v below (slotPages t (nextOf t first) 0 ((entryOf page) .length - 2)) slots
-  pub last : lastName names ≡ nameAt path k
-  pub asked : lookUp root names ≡ lookIn slots (lastName names ∷ [])
+  pub held : HoldsSlots v below (entryPages (Slot.directory (entryOf page) chain)) slots
+  pub named : lookUp root names ≡ lookIn slots (lastName names ∷ [])
 
 chain-next : (v : View) (first : ℕ) (cs ds : List ℕ) → cs ≡ first ∷ ds → Chain v (firstLinkOf first) cs → Chain v (Link.next first) cs
 chain-next v first cs ds e x = let y : Chain v (firstLinkOf first) (first ∷ ds) = rw e at x in rw e (refl, y .1)
@@ -72,6 +71,9 @@ module _ (v : View) (t : List ℕ) (links : (c : ℕ) → v .link c ≡ tableLin
 
   before-last : namesFrom path 0 k ≡ parent names
   before-last = sym (parent-names path 0 k) ∙ ap parent own
+
+  pub site-last : lastName names ≡ nameAt path k
+  site-last = ap lastName (sym own) ∙ last-name path 0 k ∙ ap (nameAt path) (omega arith)
 
   led-to : a ≡ descended v t (parent names)
   led-to = led ∙ ap (descended v t) before-last
@@ -108,7 +110,7 @@ module _ (v : View) (t : List ℕ) (links : (c : ℕ) → v .link c ≡ tableLin
         go (fault n p) u = absurd u
         go (ok x) u = kind (x .0) (x .1) u
 
-    pub site-at : isDirectory (entryOf (a .page)) ≡ true → Site v t root path names k first (a .at) (a .page)
+    pub site-at : isDirectory (entryOf (a .page)) ≡ true → Site v t root names first (a .at) (a .page)
     site-at f = let y = stands in go (y .0) (y .1) (arrives-as v (y .0) a (arrival.At first) e (y .2)) (y .3)
       where
         number-so : pageAtPath root (parent names) ≡ a .at
@@ -122,10 +124,11 @@ module _ (v : View) (t : List ℕ) (links : (c : ℕ) → v .link c ≡ tableLin
             ap (lookUp root) (snoc-path names (omega arith)) ∙ (site v root card (parent names) (entryOf (a .page)) cs s g) .here (lastName names ∷ [])
 
         make : (d : Entry) (cs : List ℕ) (s : Tree) → arrive (rootSlot root) (root .slots) (parent names) ≡ ok (Slot.directory d cs, s) → (x : Stands v first (entryOf (a .page)) (Slot.directory d cs) s)
-            → way (lookUp root) names ≡ 0 → Site v t root path names k first (a .at) (a .page)
+            → way (lookUp root) names ≡ 0 → Site v t root names first (a .at) (a .page)
         make d cs s r x w =
             let pages-so = stands-chain v t links first (entryOf (a .page)) d cs s x in
             let here : lookUp root (parent names) ≡ found (Slot.directory (entryOf (a .page)) cs) s = arrive-found root (parent names) (Slot.directory d cs) s r ∙ rw (x .0) in
+            let pages-are = ap (λ (d : Entry). entryPages (Slot.directory d cs)) (sym (x .0)) ∙ pages-so .2 in
             record {
               chain = cs;
               rest = pages-so .0;
@@ -133,25 +136,24 @@ module _ (v : View) (t : List ℕ) (links : (c : ℕ) → v .link c ≡ tableLin
               below = x .5 .0;
               open-way = w;
               found-so = here;
-              number = number-so;
-              shown = shown-so;
+              page-so = number-so;
+              read = shown-so;
               two = x .2;
               long = x .3;
-              links = chain-next v first cs (pages-so .0) (pages-so .1) (x .4);
-              begins = pages-so .1;
-              pages = ap (λ (d : Entry). entryPages (Slot.directory d cs)) (sym (x .0)) ∙ pages-so .2;
-              held = stands-held v t links first (entryOf (a .page)) d cs s x;
-              last = ap lastName (sym own) ∙ last-name path 0 k ∙ ap (nameAt path) (omega arith);
-              asked = asked-so cs s here;
+              linked = chain-next v first cs (pages-so .0) (pages-so .1) (x .4);
+              starts = pages-so .1;
+              pages = pages-are;
+              held = rw pages-are (stands-held v t links first (entryOf (a .page)) d cs s x);
+              named = asked-so cs s here;
             }
 
         kind : (h : Slot) (s : Tree) → arrive (rootSlot root) (root .slots) (parent names) ≡ ok (h, s) → Stands v first (entryOf (a .page)) h s → way (lookUp root) names ≡ refusedAt (ok (h, s))
-            → Site v t root path names k first (a .at) (a .page)
+            → Site v t root names first (a .at) (a .page)
         kind Slot.dead s r x w = absurd x
         kind (Slot.file d cs ds) s r x w = tf f (x .1)
         kind (Slot.directory d cs) s r x w = make d cs s r x w
 
         go : (r : Result (Slot × Tree)) → arrive (rootSlot root) (root .slots) (parent names) ≡ r → Arrives v r (arrival.At first) (a .page) → way (lookUp root) names ≡ refusedAt r
-            → Site v t root path names k first (a .at) (a .page)
+            → Site v t root names first (a .at) (a .page)
         go (fault n p) q u w = absurd u
         go (ok x) q u w = kind (x .0) (x .1) q u w

@@ -1,15 +1,13 @@
 -- The listed clusters, the pages and the words are those that the change names; they land, so they are put down.
 use Prim.Native.Nat.{ℕ, _+_, _-_}
 use mathlib.Core.List.{List}
-use mathlib.Core.Path.{_∙_, ap₂, sym}
+use mathlib.Core.Path.{_∙_, ap₂}
 use native.Mathlib.Omega.{arith}
-use borrow.Author.Needs.{needs}
-use lib.ListN.{length-take}
-use lib.Seq.{length-take-le}
 use Rattle.model.specs.Writes.{PageWrite}
 use Rattle.change.specs.Deeds.{imageBy}
-use Rattle.change.proofs.AddSteps.{both-fit, last-by, lands-so, one-cluster, own-long, words-so, writes-so}
+use Rattle.change.proofs.AddSteps.{Counted, both-fit, growth-long, lands-so, last-by, one-cluster, own-long, room-so, words-so, writes-so}
 use Rattle.change.proofs.FreeLaws.{taken-low}
+use borrow.Author.Needs.{needs}
 use Rattle.change.proofs.adding.add_listed.Statement.{statement}
 use Rattle.change.proofs.adding.add_listed.Tie as tie
 
@@ -24,21 +22,30 @@ clusters-for-requires c κs = search needs
 
 add-end : tie.Need-add-end
 add-end c =
-    let start = c .before .before .before .before .before .before .before .before .before in
+    let own = c in
+    let start = own .before .before .before .before .before .before .before .before .before .before .before in
     let a = start .args in
-    omega (arith, both-fit (a .table .now) (a .page .now) (a .list .now) (a .bytes .now) (a .dead) (c .before .before .word-at .ensures) (c .before .growth-by .ensures) (c .clusters-for .ensures) (start .pre .3))
+    let k : Counted (a .table .now) (a .list .now) (a .bytes .now) (a .t5) (a .new .dead) (own .before .before .word-at .result) (own .before .growth-by .result) (own .clusters-for .result) =
+    record { entries-are = own .before .before .word-at .ensures; growing-is = own .before .growth-by .ensures; own-is = own .clusters-for .ensures; listed = start .pre .0; room = start .pre .1 } in
+    omega (arith, both-fit _ _ _ _ _ _ _ _ k)
 
 slice-aggregate-growth : tie.Need-slice-aggregate-growth
 slice-aggregate-growth c =
-    let start = c .before .before .before .before .before .before .before .before .before .before in
+    let own = c .before in
+    let start = own .before .before .before .before .before .before .before .before .before .before .before in
     let a = start .args in
-    sym (length-take-le (c .before .before .growth-by .result) (a .list .now) (omega (arith, both-fit (a .table .now) (a .page .now) (a .list .now) (a .bytes .now) (a .dead) (c .before .before .before .word-at .ensures) (c .before .before .growth-by .ensures) (c .before .clusters-for .ensures) (start .pre .3))))
+    let k : Counted (a .table .now) (a .list .now) (a .bytes .now) (a .t5) (a .new .dead) (own .before .before .word-at .result) (own .before .growth-by .result) (own .clusters-for .result) =
+    record { entries-are = own .before .before .word-at .ensures; growing-is = own .before .growth-by .ensures; own-is = own .clusters-for .ensures; listed = start .pre .0; room = start .pre .1 } in
+    growth-long _ _ _ _ _ _ _ _ k
 
 mul-taken : tie.Need-mul-taken
 mul-taken c =
-    let start = c .before .before .before .before .before .before .before .before .before .before in
+    let own = c .before in
+    let start = own .before .before .before .before .before .before .before .before .before .before .before in
     let a = start .args in
-    omega (arith, both-fit (a .table .now) (a .page .now) (a .list .now) (a .bytes .now) (a .dead) (c .before .before .before .word-at .ensures) (c .before .before .growth-by .ensures) (c .before .clusters-for .ensures) (start .pre .3))
+    let k : Counted (a .table .now) (a .list .now) (a .bytes .now) (a .t5) (a .new .dead) (own .before .before .word-at .result) (own .before .growth-by .result) (own .clusters-for .result) =
+    record { entries-are = own .before .before .word-at .ensures; growing-is = own .before .growth-by .ensures; own-is = own .clusters-for .ensures; listed = start .pre .0; room = start .pre .1 } in
+    omega (arith, both-fit _ _ _ _ _ _ _ _ k)
 
 sub-taken : tie.Need-sub-taken
 sub-taken c = search needs
@@ -48,9 +55,12 @@ part-taken-start c = search needs
 
 part-taken-end : tie.Need-part-taken-end
 part-taken-end c =
-    let start = c .before .before .before .before .before .before .before .before .before .before in
+    let own = c .before in
+    let start = own .before .before .before .before .before .before .before .before .before .before .before in
     let a = start .args in
-    both-fit (a .table .now) (a .page .now) (a .list .now) (a .bytes .now) (a .dead) (c .before .before .before .word-at .ensures) (c .before .before .growth-by .ensures) (c .before .clusters-for .ensures) (start .pre .3)
+    let k : Counted (a .table .now) (a .list .now) (a .bytes .now) (a .t5) (a .new .dead) (own .before .before .word-at .result) (own .before .growth-by .result) (own .clusters-for .result) =
+    record { entries-are = own .before .before .word-at .ensures; growing-is = own .before .growth-by .ensures; own-is = own .clusters-for .ensures; listed = start .pre .0; room = start .pre .1 } in
+    both-fit _ _ _ _ _ _ _ _ k
 
 sub-cluster-at : tie.Need-sub-cluster-at
 sub-cluster-at c = search needs
@@ -60,6 +70,15 @@ cluster-at-requires c κs = search needs
 
 page-by-requires : tie.Need-page-by-requires
 page-by-requires c κs = search needs
+
+cast-new-page : tie.Need-cast-new-page
+cast-new-page c =
+    let own = c .before .before .before .before .before .before in
+    let start = own .before .before .before .before .before .before .before .before .before .before .before in
+    let a = start .args in
+    let k : Counted (a .table .now) (a .list .now) (a .bytes .now) (a .t5) (a .new .dead) (own .before .before .word-at .result) (own .before .growth-by .result) (own .clusters-for .result) =
+    record { entries-are = own .before .before .word-at .ensures; growing-is = own .before .growth-by .ensures; own-is = own .clusters-for .ensures; listed = start .pre .0; room = start .pre .1 } in
+    omega (arith, start .pre .2 .small (room-so _ _ _ _ _ _ _ _ k))
 
 first-of-requires : tie.Need-first-of-requires
 first-of-requires c κs = search needs
@@ -75,21 +94,33 @@ with-length-requires c κs = search needs
 
 relink-requires : tie.Need-relink-requires
 relink-requires c κs =
-    let start = c .before .before .before .before .before .before .before .before .before .before .before .before .before .before .before .before .before .before .before in
+    let reached = c .before .before .before .before .before .before .before .before .before in
+    let own = reached .before .before .before .before in
+    let start = own .before .before .before .before .before .before .before .before .before .before .before in
     let a = start .args in
-    let low = taken-low (a .image .now) (a .table .now) (a .s) (start .pre .0) (start .pre .1) (c .before .before .before .before .before .before .before .before .before .before .before .growth-by .result) (c .before .before .before .before .before .before .before .before .before .before .before .growth-by .result + c .before .before .before .before .before .before .before .before .before .before .clusters-for .result - c .before .before .before .before .before .before .before .before .before .before .before .growth-by .result) (a .list .now) (start .pre .2) in
-    (omega (arith, last-by (a .table .now) (a .page .now) (a .list .now) (a .bytes .now) (a .dead) (c .before .before .before .before .before .before .before .before .before .before .before .before .word-at .ensures) (c .before .before .before .before .before .before .before .before .before .before .before .growth-by .ensures) (c .before .before .before .before .before .before .before .before .before .before .clusters-for .ensures) (start .pre .2) (a .first) (c .before .before .before .before .before .before .cluster-at .ensures), start .pre .4 .low-last), low)
+    let k : Counted (a .table .now) (a .list .now) (a .bytes .now) (a .t5) (a .new .dead) (own .before .before .word-at .result) (own .before .growth-by .result) (own .clusters-for .result) =
+    record { entries-are = own .before .before .word-at .ensures; growing-is = own .before .growth-by .ensures; own-is = own .clusters-for .ensures; listed = start .pre .0; room = start .pre .1 } in
+    let growing = own .before .growth-by .result in
+    (omega (arith, last-by _ _ _ _ _ _ _ _ k (reached .cluster-at .ensures), start .pre .2 .low-last), taken-low (a .image .now) (a .table .now) (a .s) (start .pre .2 .card .opened) (start .pre .2 .card .long) growing (growing + own .clusters-for .result - growing) (a .list .now) (start .pre .0))
 
 put-down-requires : tie.Need-put-down-requires
 put-down-requires c κs =
-    let start = c .before .before .before .before .before .before .before .before .before .before .before .before .before .before .before .before .before .before .before .before .before .before .before .before .before .before in
-    let a = start .args in (
-      start .pre .0,
-      omega (arith, c .before .before .before .before .before .before .relink .kept, start .pre .1),
-      omega (arith, length-take (c .before .before .before .before .before .before .before .before .before .before .before .before .before .before .before .before .before .before .growth-by .result) (a .list .now), one-cluster (a .table .now) (a .page .now) (a .list .now) (a .bytes .now) (a .dead) (c .before .before .before .before .before .before .before .before .before .before .before .before .before .before .before .before .before .before .before .word-at .ensures) (c .before .before .before .before .before .before .before .before .before .before .before .before .before .before .before .before .before .before .growth-by .ensures) (c .before .before .before .before .before .before .before .before .before .before .before .before .before .before .before .before .before .clusters-for .ensures)),
-      own-long (a .table .now) (a .page .now) (a .list .now) (a .bytes .now) (a .dead) (c .before .before .before .before .before .before .before .before .before .before .before .before .before .before .before .before .before .before .before .word-at .ensures) (c .before .before .before .before .before .before .before .before .before .before .before .before .before .before .before .before .before .before .growth-by .ensures) (c .before .before .before .before .before .before .before .before .before .before .before .before .before .before .before .before .before .clusters-for .ensures) (start .pre .3),
-      lands-so (a .table .now) (a .page .now) (a .list .now) (a .bytes .now) (a .dead) (c .before .before .before .before .before .before .before .before .before .before .before .before .before .before .before .before .before .before .before .word-at .ensures) (c .before .before .before .before .before .before .before .before .before .before .before .before .before .before .before .before .before .before .growth-by .ensures) (c .before .before .before .before .before .before .before .before .before .before .before .before .before .before .before .before .before .clusters-for .ensures) (start .pre .2) (a .first) (c .before .before .before .before .before .before .before .before .before .before .before .before .before .cluster-at .ensures) (a .at) (a .mode) (a .count) (a .time .now) (a .name .now) (c .before .before .before .before .before .before .before .before .before .before .before .before .page-by .ensures) (c .before .before .before .before .before .before .before .before .before .before .before .first-of .ensures) (c .before .before .before .before .before .before .before .before .before .before .new-page .ensures) (c .before .before .before .before .before .before .before .before .before .length-by .ensures) (c .before .before .before .before .before .before .before .before .with-length .ensures) (a .s) (a .image .now) (start .pre .4) (start .pre .3),
-    )
+    let paged = c .before .before .before .before .before .before in
+    let named = paged .before .before .before .before in
+    let reached = named .before .before .before .before in
+    let own = reached .before .before .before .before in
+    let start = own .before .before .before .before .before .before .before .before .before .before .before in
+    let a = start .args in
+    let k : Counted (a .table .now) (a .list .now) (a .bytes .now) (a .t5) (a .new .dead) (own .before .before .word-at .result) (own .before .growth-by .result) (own .clusters-for .result) =
+    record { entries-are = own .before .before .word-at .ensures; growing-is = own .before .growth-by .ensures; own-is = own .clusters-for .ensures; listed = start .pre .0; room = start .pre .1 } in
+    record {
+      card = record { opened = start .pre .2 .card .opened; long = omega (arith, c .before .before .before .before .relink .kept, start .pre .2 .card .long) };
+      one = one-cluster _ _ _ _ _ _ _ _ k;
+      filled = own-long _ _ _ _ _ _ _ _ k;
+      lands =
+          lands-so _ _ _ _ _ _ _ _ k (reached .cluster-at .ensures) (a .new .mode) (a .new .count) (a .time .now) (a .name .now) (named .before .before .before .page-by .ensures) (named .before .first-of .ensures)
+          (named .new-page .ensures) (paged .before .length-by .ensures) (paged .with-length .ensures) (a .s .end) (start .pre .2 .lands (room-so _ _ _ _ _ _ _ _ k));
+    }
 
 same-length : tie.Need-same-length
 same-length c = search needs
@@ -99,12 +130,19 @@ same-length-2 c = search needs
 
 returns : tie.Need-returns
 returns c =
-    let start = c .before .before .before .before .before .before .before .before .before .before .before .before .before .before .before .before .before .before .before .before .before .before .before .before .before .before .before .before .before in
+    let paged = c .before .before .before .before .before .before .before .before .before in
+    let named = paged .before .before .before .before in
+    let reached = named .before .before .before .before in
+    let own = reached .before .before .before .before in
+    let start = own .before .before .before .before .before .before .before .before .before .before .before in
     let a = start .args in
+    let k : Counted (a .table .now) (a .list .now) (a .bytes .now) (a .t5) (a .new .dead) (own .before .before .word-at .result) (own .before .growth-by .result) (own .clusters-for .result) =
+    record { entries-are = own .before .before .word-at .ensures; growing-is = own .before .growth-by .ensures; own-is = own .clusters-for .ensures; listed = start .pre .0; room = start .pre .1 } in
     c .before .before .put-down .ensures
     ∙ ap₂ (λ (w : List PageWrite) (t : List ℕ). imageBy (a .s) (a .image .now) w t)
-    (writes-so (a .table .now) (a .page .now) (a .list .now) (a .bytes .now) (a .dead) (c .before .before .before .before .before .before .before .before .before .before .before .before .before .before .before .before .before .before .before .before .before .before .word-at .ensures) (c .before .before .before .before .before .before .before .before .before .before .before .before .before .before .before .before .before .before .before .before .before .growth-by .ensures) (c .before .before .before .before .before .before .before .before .before .before .before .before .before .before .before .before .before .before .before .before .clusters-for .ensures) (start .pre .2) (a .first) (c .before .before .before .before .before .before .before .before .before .before .before .before .before .before .before .before .cluster-at .ensures) (a .at) (a .mode) (a .count) (a .time .now) (a .name .now) (c .before .before .before .before .before .before .before .before .before .before .before .before .before .before .before .page-by .ensures) (c .before .before .before .before .before .before .before .before .before .before .before .before .before .before .first-of .ensures) (c .before .before .before .before .before .before .before .before .before .before .before .before .before .new-page .ensures) (c .before .before .before .before .before .before .before .before .before .before .before .before .length-by .ensures) (c .before .before .before .before .before .before .before .before .before .before .before .with-length .ensures))
-    (words-so (a .table .now) (a .page .now) (a .list .now) (a .bytes .now) (a .dead) (c .before .before .before .before .before .before .before .before .before .before .before .before .before .before .before .before .before .before .before .before .before .before .word-at .ensures) (c .before .before .before .before .before .before .before .before .before .before .before .before .before .before .before .before .before .before .before .before .before .growth-by .ensures) (c .before .before .before .before .before .before .before .before .before .before .before .before .before .before .before .before .before .before .before .before .clusters-for .ensures) (start .pre .2) (a .first) (c .before .before .before .before .before .before .before .before .before .before .before .before .before .before .before .before .cluster-at .ensures) (c .before .before .before .before .before .before .before .before .before .relink .ensures))
+    (writes-so _ _ _ _ _ _ _ _ k (reached .cluster-at .ensures) (a .new .mode) (a .new .count) (a .time .now) (a .name .now) (named .before .before .before .page-by .ensures) (named .before .first-of .ensures)
+    (named .new-page .ensures) (paged .before .length-by .ensures) (paged .with-length .ensures))
+    (words-so _ _ _ _ _ _ _ _ k (reached .cluster-at .ensures) (c .before .before .before .before .before .before .before .relink .ensures))
 
 pub add-listed-spec : {M : Type 1} → statement M
 add-listed-spec =
@@ -122,6 +160,7 @@ add-listed-spec =
     sub-cluster-at
     cluster-at-requires
     page-by-requires
+    cast-new-page
     first-of-requires
     new-page-requires
     length-by-requires

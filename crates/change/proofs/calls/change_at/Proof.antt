@@ -1,8 +1,7 @@
--- `change::calls::change_at` meets its contract: where the names before the last lead, and what the directory's own business then gives.
-use mathlib.Core.Path.{refl}
+-- Where the names before the last lead, and what the directory's own business then gives.
+use Rattle.change.proofs.CallLaws.{leaves, leaves-as}
+use Rattle.change.proofs.CallSteps.{at-absent, at-can, at-in, at-kind}
 use borrow.Author.Needs.{needs}
-use Rattle.change.proofs.CallLaws.{says-as}
-use Rattle.change.proofs.CallSteps.{at-absent, at-can, at-in, at-kind, loaded-long, loaded-open}
 use Rattle.change.proofs.calls.change_at.Statement.{statement}
 use Rattle.change.proofs.calls.change_at.Tie as tie
 
@@ -29,8 +28,11 @@ name-at-requires c κs = search needs
 
 change-in-requires : tie.Need-change-in-requires
 change-in-requires c κs =
-    let r = c .before .before .before .before .before .before .before .before .before .before .before .before .before .before .before .before .pre in
-    (loaded-open _ _ _ (r .card), loaded-long _ _ _ (r .card), at-can (c .before .before .before .before .before .before .before .before .before .before .before .before .before .before .before .before .args .image .now) (c .before .before .before .before .before .before .before .before .before .before .before .before .before .before .before .before .args .s) (c .before .before .before .before .before .before .before .before .before .before .before .before .before .before .before .before .args .table .now) (c .before .before .before .before .before .before .before .before .before .before .before .before .before .before .before .before .args .kind) (c .before .before .before .before .before .before .before .before .before .before .before .before .before .before .before .before .args .path .now) (c .before .before .before .before .before .before .before .before .before .before .before .before .before .before .before .before .args .count) (c .before .before .before .before .before .before .before .before .before .before .before .before .before .before .before .before .args .time .now) (c .before .before .before .before .before .before .before .before .before .before .before .before .before .before .before .before .args .bytes .now) r _ (c .before .before .before .before .before .before .before .before .descend .ensures) _ (c .before .before .before .before .before .before .arrival .given .1) _ (c .name-at .ensures))
+    let there = c .before .before .before .before .before in
+    let led = there .before .before in
+    let start = led .before .before .before .before .before .before .before .before in
+    let a = start .args in
+    at-can (a .image .now) (a .s) (a .table .now) (a .kind) (a .path .now) (a .count) (a .time .now) (a .bytes .now) (start .pre) _ (led .descend .ensures) _ (there .arrival .given .1) _ (c .before .before .name-at .ensures)
 
 same-length : tie.Need-same-length
 same-length c = search needs
@@ -40,7 +42,10 @@ same-length-2 c = search needs
 
 returns : tie.Need-returns
 returns c =
-    says-as (at-absent (c .before .before .before .before .before .before .before .before .before .before .args .image .now) (c .before .before .before .before .before .before .before .before .before .before .args .s) (c .before .before .before .before .before .before .before .before .before .before .args .table .now) (c .before .before .before .before .before .before .before .before .before .before .args .kind) (c .before .before .before .before .before .before .before .before .before .before .args .path .now) (c .before .before .before .before .before .before .before .before .before .before .args .count) (c .before .before .before .before .before .before .before .before .before .before .args .time .now) (c .before .before .before .before .before .before .before .before .before .before .args .bytes .now) (c .before .before .before .before .before .before .before .before .before .before .pre) _ (c .before .before .descend .ensures) (c .enum-told .given .1)) (refl, refl)
+    let led = c .before .before in
+    let start = led .before .before .before .before .before .before .before .before in
+    let a = start .args in
+    leaves (at-absent (a .image .now) (a .s) (a .table .now) (a .kind) (a .path .now) (a .count) (a .time .now) (a .bytes .now) (start .pre) _ (led .descend .ensures) (c .enum-told .given .1))
 
 same-length-3 : tie.Need-same-length-3
 same-length-3 c = search needs
@@ -50,7 +55,10 @@ same-length-4 c = search needs
 
 returns-2 : tie.Need-returns-2
 returns-2 c =
-    says-as (at-kind (c .before .before .before .before .before .before .before .before .before .before .args .image .now) (c .before .before .before .before .before .before .before .before .before .before .args .s) (c .before .before .before .before .before .before .before .before .before .before .args .table .now) (c .before .before .before .before .before .before .before .before .before .before .args .kind) (c .before .before .before .before .before .before .before .before .before .before .args .path .now) (c .before .before .before .before .before .before .before .before .before .before .args .count) (c .before .before .before .before .before .before .before .before .before .before .args .time .now) (c .before .before .before .before .before .before .before .before .before .before .args .bytes .now) (c .before .before .before .before .before .before .before .before .before .before .pre) _ (c .before .before .descend .ensures) (c .enum-told2 .given .1)) (refl, refl)
+    let led = c .before .before in
+    let start = led .before .before .before .before .before .before .before .before in
+    let a = start .args in
+    leaves (at-kind (a .image .now) (a .s) (a .table .now) (a .kind) (a .path .now) (a .count) (a .time .now) (a .bytes .now) (start .pre) _ (led .descend .ensures) (c .enum-told2 .given .1))
 
 same-length-5 : tie.Need-same-length-5
 same-length-5 c = search needs
@@ -60,7 +68,11 @@ same-length-6 c = search needs
 
 returns-3 : tie.Need-returns-3
 returns-3 c =
-    says-as (at-in (c .before .before .before .before .before .before .before .before .before .before .before .before .before .before .before .before .before .before .before .before .before .args .image .now) (c .before .before .before .before .before .before .before .before .before .before .before .before .before .before .before .before .before .before .before .before .before .args .s) (c .before .before .before .before .before .before .before .before .before .before .before .before .before .before .before .before .before .before .before .before .before .args .table .now) (c .before .before .before .before .before .before .before .before .before .before .before .before .before .before .before .before .before .before .before .before .before .args .kind) (c .before .before .before .before .before .before .before .before .before .before .before .before .before .before .before .before .before .before .before .before .before .args .path .now) (c .before .before .before .before .before .before .before .before .before .before .before .before .before .before .before .before .before .before .before .before .before .args .count) (c .before .before .before .before .before .before .before .before .before .before .before .before .before .before .before .before .before .before .before .before .before .args .time .now) (c .before .before .before .before .before .before .before .before .before .before .before .before .before .before .before .before .before .before .before .before .before .args .bytes .now) (c .before .before .before .before .before .before .before .before .before .before .before .before .before .before .before .before .before .before .before .before .before .pre) _ (c .before .before .before .before .before .before .before .before .before .before .before .before .before .descend .ensures) _ (c .before .before .before .before .before .before .before .before .before .before .before .arrival .given .1) _ (c .before .before .before .before .before .name-at .ensures)) (c .before .before .before .before .change-in .ensures)
+    let there = c .before .before .before .before .before .before .before .before .before .before in
+    let led = there .before .before in
+    let start = led .before .before .before .before .before .before .before .before in
+    let a = start .args in
+    leaves-as (at-in (a .image .now) (a .s) (a .table .now) (a .kind) (a .path .now) (a .count) (a .time .now) (a .bytes .now) (start .pre) _ (led .descend .ensures) _ (there .arrival .given .1) _ (c .before .before .before .before .before .before .before .name-at .ensures)) (c .before .before .before .before .change-in .ensures)
 
 pub change-at-spec : {M : Type 1} → statement M
 change-at-spec =

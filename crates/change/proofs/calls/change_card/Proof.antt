@@ -1,14 +1,14 @@
--- `change::calls::change_card` meets its contract: 8 by the path, 14 by the time, then the rest.
+-- The path (8), the names that the call takes (8), the time (14), and then the change.
 use mathlib.Core.Bool.{true}
-use mathlib.Core.Path.{_∙_, _≡_, ap, refl, subst, sym}
-use borrow.Author.Needs.{needs}
+use mathlib.Core.Path.{_∙_, _≡_, ap, subst, sym}
 use borrow.Author.Tests.{not-false, not-true}
 use lib.ListN.{length}
 use Rattle.fields.proofs.PathLaws.{of-malformed, of-names}
 use Rattle.fields.specs.PathBytes.{pathOf}
 use Rattle.change.specs.Kinds.{Ready, takesNames}
-use Rattle.change.proofs.CallLaws.{says-as}
+use Rattle.change.proofs.CallLaws.{leaves}
 use Rattle.change.proofs.CallSteps.{bad-path, bad-time, malformed, ready, takes-some}
+use borrow.Author.Needs.{needs}
 use Rattle.change.proofs.calls.change_card.Statement.{statement}
 use Rattle.change.proofs.calls.change_card.Tie as tie
 
@@ -26,28 +26,45 @@ takes-names-requires c κs = search needs
 
 returns : tie.Need-returns
 returns c =
-    let n = of-names (pathOf (c .before .before .before .before .before .before .before .before .before .before .before .args .path .now)) _ (sym (c .before .before .before .before .before .parse-path .ensures) ∙ c .before .before .before .parsed .given .1) in
-    says-as (bad-path (c .before .before .before .before .before .before .before .before .before .before .before .args .image .now) (c .before .before .before .before .before .before .before .before .before .before .before .args .s) (c .before .before .before .before .before .before .before .before .before .before .before .args .table .now) (c .before .before .before .before .before .before .before .before .before .before .before .pre) (c .before .before .before .before .before .before .before .before .before .before .before .args .kind) (c .before .before .before .before .before .before .before .before .before .before .before .args .path .now) (c .before .before .before .before .before .before .before .before .before .before .before .args .time .now) (c .before .before .before .before .before .before .before .before .before .before .before .args .bytes .now) (n .0) (n .1) (ap (takesNames (c .before .before .before .before .before .before .before .before .before .before .before .args .kind)) (n .2) ∙ sym (c .before .takes-names .ensures) ∙ not-true _ (c .if1 .taken))) (refl, refl)
+    let named = c .before .before .before in
+    let split = named .before .before in
+    let start = split .before .before .before .before .before .before in
+    let a = start .args in
+    let n = of-names (pathOf (a .path .now)) _ (sym (split .parse-path .ensures) ∙ named .parsed .given .1) in
+    leaves (bad-path (a .image .now) (a .s) (a .table .now) (start .pre) (a .kind) (a .path .now) (a .time .now) (a .bytes .now) (n .0) (n .1) (ap (takesNames (a .kind)) (n .2) ∙ sym (c .before .takes-names .ensures) ∙ not-true _ (c .if1 .taken)))
 
 takes-time-requires : tie.Need-takes-time-requires
 takes-time-requires c κs = search needs
 
 returns-2 : tie.Need-returns-2
 returns-2 c =
-    let n = of-names (pathOf (c .before .before .before .before .before .before .before .before .before .before .before .before .before .args .path .now)) _ (sym (c .before .before .before .before .before .before .before .parse-path .ensures) ∙ c .before .before .before .before .before .parsed .given .1) in
-    let t : takesNames (c .before .before .before .before .before .before .before .before .before .before .before .before .before .args .kind) (length (n .0)) ≡ true = ap (takesNames (c .before .before .before .before .before .before .before .before .before .before .before .before .before .args .kind)) (n .2) ∙ sym (c .before .before .before .takes-names .ensures) ∙ not-false _ (c .before .before .if1 .left) in
-    says-as (bad-time (c .before .before .before .before .before .before .before .before .before .before .before .before .before .args .image .now) (c .before .before .before .before .before .before .before .before .before .before .before .before .before .args .s) (c .before .before .before .before .before .before .before .before .before .before .before .before .before .args .table .now) (c .before .before .before .before .before .before .before .before .before .before .before .before .before .pre) (c .before .before .before .before .before .before .before .before .before .before .before .before .before .args .kind) (c .before .before .before .before .before .before .before .before .before .before .before .before .before .args .path .now) (c .before .before .before .before .before .before .before .before .before .before .before .before .before .args .time .now) (c .before .before .before .before .before .before .before .before .before .before .before .before .before .args .bytes .now) (n .0) (n .1) (takes-some (c .before .before .before .before .before .before .before .before .before .before .before .before .before .args .kind) _ t) t (sym (c .before .takes-time .ensures) ∙ not-true _ (c .if2 .taken))) (refl, refl)
+    let judged = c .before .before .before in
+    let named = judged .before .before in
+    let split = named .before .before in
+    let start = split .before .before .before .before .before .before in
+    let a = start .args in
+    let n = of-names (pathOf (a .path .now)) _ (sym (split .parse-path .ensures) ∙ named .parsed .given .1) in
+    let t : takesNames (a .kind) (length (n .0)) ≡ true = ap (takesNames (a .kind)) (n .2) ∙ sym (judged .takes-names .ensures) ∙ not-false _ (c .before .before .if1 .left) in
+    leaves (bad-time (a .image .now) (a .s) (a .table .now) (start .pre) (a .kind) (a .path .now) (a .time .now) (a .bytes .now) (n .0) (n .1) (takes-some (a .kind) _ t) t (sym (c .before .takes-time .ensures) ∙ not-true _ (c .if2 .taken)))
 
 change-at-requires : tie.Need-change-at-requires
 change-at-requires c κs =
-    let n = of-names (pathOf (c .before .before .before .before .before .before .before .before .before .before .before .before .before .before .before .args .path .now)) _ (sym (c .before .before .before .before .before .before .before .before .before .parse-path .ensures) ∙ c .before .before .before .before .before .before .before .parsed .given .1) in
-    let t : takesNames (c .before .before .before .before .before .before .before .before .before .before .before .before .before .before .before .args .kind) (length (n .0)) ≡ true = ap (takesNames (c .before .before .before .before .before .before .before .before .before .before .before .before .before .before .before .args .kind)) (n .2) ∙ sym (c .before .before .before .before .before .takes-names .ensures) ∙ not-false _ (c .before .before .before .before .if1 .left) in
-    subst (λ i. Ready (c .before .before .before .before .before .before .before .before .before .before .before .before .before .before .before .args .image .now) (c .before .before .before .before .before .before .before .before .before .before .before .before .before .before .before .args .s) (c .before .before .before .before .before .before .before .before .before .before .before .before .before .before .before .args .table .now) (c .before .before .before .before .before .before .before .before .before .before .before .before .before .before .before .args .kind) (c .before .before .before .before .before .before .before .before .before .before .before .before .before .before .before .args .path .now) i (c .before .before .before .before .before .before .before .before .before .before .before .before .before .before .before .args .time .now) (c .before .before .before .before .before .before .before .before .before .before .before .before .before .before .before .args .bytes .now)) (n .2)
-    (ready (c .before .before .before .before .before .before .before .before .before .before .before .before .before .before .before .args .image .now) (c .before .before .before .before .before .before .before .before .before .before .before .before .before .before .before .args .s) (c .before .before .before .before .before .before .before .before .before .before .before .before .before .before .before .args .table .now) (c .before .before .before .before .before .before .before .before .before .before .before .before .before .before .before .pre) (c .before .before .before .before .before .before .before .before .before .before .before .before .before .before .before .args .kind) (c .before .before .before .before .before .before .before .before .before .before .before .before .before .before .before .args .path .now) (c .before .before .before .before .before .before .before .before .before .before .before .before .before .before .before .args .time .now) (c .before .before .before .before .before .before .before .before .before .before .before .before .before .before .before .args .bytes .now) (n .0) (n .1) (takes-some (c .before .before .before .before .before .before .before .before .before .before .before .before .before .before .before .args .kind) _ t) t (sym (c .before .before .before .takes-time .ensures) ∙ not-false _ (c .before .before .if2 .left)))
+    let judged = c .before .before .before .before .before in
+    let named = judged .before .before in
+    let split = named .before .before in
+    let start = split .before .before .before .before .before .before in
+    let a = start .args in
+    let n = of-names (pathOf (a .path .now)) _ (sym (split .parse-path .ensures) ∙ named .parsed .given .1) in
+    let t : takesNames (a .kind) (length (n .0)) ≡ true = ap (takesNames (a .kind)) (n .2) ∙ sym (judged .takes-names .ensures) ∙ not-false _ (c .before .before .before .before .if1 .left) in
+    subst (λ i. Ready (a .image .now) (a .s) (a .table .now) (a .kind) (a .path .now) i (a .time .now) (a .bytes .now)) (n .2)
+    (ready (a .image .now) (a .s) (a .table .now) (start .pre) (a .kind) (a .path .now) (a .time .now) (a .bytes .now) (n .0) (n .1) (takes-some (a .kind) _ t) t (sym (c .before .before .before .takes-time .ensures) ∙ not-false _ (c .before .before .if2 .left)))
 
 returns-3 : tie.Need-returns-3
 returns-3 c =
-    says-as (malformed (c .before .before .before .before .before .before .before .before .args .image .now) (c .before .before .before .before .before .before .before .before .args .s) (c .before .before .before .before .before .before .before .before .args .table .now) (c .before .before .before .before .before .before .before .before .pre) (c .before .before .before .before .before .before .before .before .args .kind) (c .before .before .before .before .before .before .before .before .args .path .now) (c .before .before .before .before .before .before .before .before .args .time .now) (c .before .before .before .before .before .before .before .before .args .bytes .now) (of-malformed (pathOf (c .before .before .before .before .before .before .before .before .args .path .now)) (sym (c .before .before .parse-path .ensures) ∙ c .enum-told .given .1))) (refl, refl)
+    let split = c .before .before in
+    let start = split .before .before .before .before .before .before in
+    let a = start .args in
+    leaves (malformed (a .image .now) (a .s) (a .table .now) (start .pre) (a .kind) (a .path .now) (a .time .now) (a .bytes .now) (of-malformed (pathOf (a .path .now)) (sym (split .parse-path .ensures) ∙ c .enum-told .given .1)))
 
 same-length : tie.Need-same-length
 same-length c = search needs

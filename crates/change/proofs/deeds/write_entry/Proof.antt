@@ -1,7 +1,7 @@
 -- The flag decides which of the two writes is done.
-use Rattle.layout.specs.See.{imagePage}
 use mathlib.Core.Path.{_∙_, _≡_, ap₂, sym}
 use native.Mathlib.Omega.{arith}
+use Rattle.layout.specs.See.{imagePage}
 use Rattle.page.specs.Page.{put}
 use borrow.Author.Needs.{needs}
 use Rattle.change.proofs.deeds.write_entry.Statement.{statement}
@@ -21,20 +21,22 @@ same-length c = search needs
 
 returns : tie.Need-returns
 returns c =
-    let place = c .before .before .before .before .before in
-    let a = place .before .before .args in
-    let there : place .image-page .result ≡ imagePage (a .geometry) (a .slot) = omega (arith, place .image-page .ensures, place .before .before .pre) in
-    c .before .before .write-page .ensures ∙ ap₂ (λ b p. put b p (a .entry .now) (a .image .now)) (sym (c .before .before .before .before .if1 .taken)) there
+    let place = c .before .before .before .before .before .before .before in
+    let start = place .before .before in
+    let a = start .args in
+    let there : place .image-page .result ≡ imagePage (a .geometry) (a .t3 .at) = omega (arith, place .image-page .ensures, start .pre) in
+    c .before .before .write-page .ensures ∙ ap₂ (λ b p. put b p (a .t3 .page) (a .image .now)) (sym (c .before .before .before .before .before .before .if1 .taken)) there
 
 same-length-2 : tie.Need-same-length-2
 same-length-2 c = search needs
 
 returns-2 : tie.Need-returns-2
 returns-2 c =
-    let place = c .before .before .before .before .before in
-    let a = place .before .before .args in
-    let there : place .image-page .result ≡ imagePage (a .geometry) (a .slot) = omega (arith, place .image-page .ensures, place .before .before .pre) in
-    c .before .before .rewrite-page .ensures ∙ ap₂ (λ b p. put b p (a .entry .now) (a .image .now)) (sym (c .before .before .before .before .if1 .left)) there
+    let place = c .before .before .before .before .before .before .before in
+    let start = place .before .before in
+    let a = start .args in
+    let there : place .image-page .result ≡ imagePage (a .geometry) (a .t3 .at) = omega (arith, place .image-page .ensures, start .pre) in
+    c .before .before .rewrite-page .ensures ∙ ap₂ (λ b p. put b p (a .t3 .page) (a .image .now)) (sym (c .before .before .before .before .before .before .if1 .left)) there
 
 pub write-entry-spec : {M : Type 1} → statement M
 write-entry-spec =

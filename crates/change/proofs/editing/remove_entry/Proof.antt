@@ -1,55 +1,53 @@
--- Only the entry's own page changes; the chain's words are freed, and no cluster is taken.
-use Prim.Native.Nat.{ℕ}
-use mathlib.Core.List.{List}
-use mathlib.Core.Path.{_∙_, ap₂, refl}
-use native.Mathlib.Omega.{arith}
+-- Refused on a file and where a live entry is in the directory; otherwise it is taken away with its whole chain.
+use mathlib.Core.Path.{_∙_, sym}
+use borrow.Author.Tests.{not-false, not-true}
+use Rattle.layout.specs.See.{viewBy}
+use Rattle.lookup.specs.Descend.{livingFrom}
+use Rattle.change.proofs.CallLaws.{leaves, scan-so}
+use Rattle.change.proofs.EditAnswers.{removed-done, removed-kind, removed-live}
 use borrow.Author.Needs.{needs}
-use Rattle.model.specs.Writes.{PageWrite}
-use Rattle.change.specs.Deeds.{imageBy}
-use Rattle.change.proofs.EditSteps.{removed-lands, removed-words, removed-writes}
 use Rattle.change.proofs.editing.remove_entry.Statement.{statement}
 use Rattle.change.proofs.editing.remove_entry.Tie as tie
 
-killed-page-requires : tie.Need-killed-page-requires
-killed-page-requires c κs = search needs
+is-directory-requires : tie.Need-is-directory-requires
+is-directory-requires c κs = search needs
+
+returns : tie.Need-returns
+returns c =
+    let start = c .before .before .before .before .before .before in
+    let a = start .args in
+    leaves (removed-kind (a .s) (a .image .now) (a .table .now) (a .directory) (a .t5) (sym (c .before .is-directory .ensures) ∙ not-true _ (c .if1 .taken)))
 
 word-at-requires : tie.Need-word-at-requires
 word-at-requires c κs = search needs
 
-with-length-requires : tie.Need-with-length-requires
-with-length-requires c κs = search needs
+next-of-requires : tie.Need-next-of-requires
+next-of-requires c κs = search needs
 
-word-at-requires-2 : tie.Need-word-at-requires-2
-word-at-requires-2 c κs = search needs
+slots-of-requires : tie.Need-slots-of-requires
+slots-of-requires c κs = search needs
 
-slice-aggregate-relink : tie.Need-slice-aggregate-relink
-slice-aggregate-relink c = search needs
+first-live-requires : tie.Need-first-live-requires
+first-live-requires c κs = search needs
 
-slice-aggregate-relink-2 : tie.Need-slice-aggregate-relink-2
-slice-aggregate-relink-2 c = search needs
+enum-told : tie.Need-enum-told
+enum-told c = search needs
 
-relink-requires : tie.Need-relink-requires
-relink-requires c κs = search needs
+enum-told-2 : tie.Need-enum-told-2
+enum-told-2 c = search needs
 
-slice-aggregate-put-down : tie.Need-slice-aggregate-put-down
-slice-aggregate-put-down c = search needs
+directory-clusters-requires : tie.Need-directory-clusters-requires
+directory-clusters-requires c κs = search needs
 
-slice-aggregate-put-down-2 : tie.Need-slice-aggregate-put-down-2
-slice-aggregate-put-down-2 c = search needs
-
-slice-aggregate-put-down-3 : tie.Need-slice-aggregate-put-down-3
-slice-aggregate-put-down-3 c = search needs
-
-put-down-requires : tie.Need-put-down-requires
-put-down-requires c κs =
-    let start = c .before .before .before .before .before .before .before .before .before .before .before .before .before .before .before .before .before .before .before in
-    let a = start .args in (
-      start .pre .0,
-      omega (arith, c .before .before .before .before .before .before .before .before .before .relink .kept, start .pre .1),
-      omega arith,
-      refl,
-      removed-lands (a .page .now) (a .at) (a .slot) (a .entry .now) (c .before .before .before .before .before .before .before .before .before .before .before .before .before .before .before .word-at .ensures) (c .before .before .before .before .before .before .before .before .before .before .before .before .before .before .with-length .ensures) (c .before .before .before .before .before .before .before .before .before .before .before .before .before .before .before .before .killed-page .ensures) (a .s .end) (start .pre .2),
-    )
+take-away-requires : tie.Need-take-away-requires
+take-away-requires c κs =
+    let scanned = c .before .before .before .before .before in
+    let kind = scanned .before .before .before .before .before .before .before .before .before .before in
+    let start = kind .before .before .before .before .before in
+    let a = start .args in
+    let v = viewBy (a .s .geometry) (a .table .now) (a .image .now) in
+    let live = scan-so (a .table .now) (a .t5) (scanned .before .before .before .before .next-of .ensures) (scanned .before .slots-of .ensures) (scanned .before .before .before .before .before .before .word-at .ensures) (livingFrom v 0) (scanned .first-live .ensures .0) in
+    (start .pre .card, start .pre .lands (sym (kind .is-directory .ensures) ∙ not-false _ (scanned .before .before .before .before .before .before .before .before .before .if1 .left)) (live ∙ c .before .before .before .enum-told2 .given .1))
 
 same-length : tie.Need-same-length
 same-length c = search needs
@@ -57,30 +55,50 @@ same-length c = search needs
 same-length-2 : tie.Need-same-length-2
 same-length-2 c = search needs
 
-returns : tie.Need-returns
-returns c =
-    let start = c .before .before .before .before .before .before .before .before .before .before .before .before .before .before .before .before .before .before .before .before .before .before in
+returns-2 : tie.Need-returns-2
+returns-2 c =
+    let scanned = c .before .before in
+    let kind = scanned .before .before .before .before .before .before .before .before .before .before in
+    let start = kind .before .before .before .before .before in
     let a = start .args in
-    c .before .before .put-down .ensures
-    ∙ ap₂ (λ (w : List PageWrite) (t : List ℕ). imageBy (a .s) (a .image .now) w t)
-    (removed-writes (a .page .now) (a .at) (a .slot) (a .entry .now) (c .before .before .before .before .before .before .before .before .before .before .before .before .before .before .before .before .before .before .word-at .ensures) (c .before .before .before .before .before .before .before .before .before .before .before .before .before .before .before .before .before .with-length .ensures) (c .before .before .before .before .before .before .before .before .before .before .before .before .before .before .before .before .before .before .before .killed-page .ensures))
-    (removed-words (a .table .now) (a .entry .now) (a .count) (c .before .before .before .before .before .before .before .before .before .before .before .before .before .before .before .word-at2 .ensures) (c .before .before .before .before .before .before .before .before .before .before .before .before .relink .ensures))
+    let v = viewBy (a .s .geometry) (a .table .now) (a .image .now) in
+    let live = scan-so (a .table .now) (a .t5) (scanned .before .before .before .before .next-of .ensures) (scanned .before .slots-of .ensures) (scanned .before .before .before .before .before .before .word-at .ensures) (livingFrom v 0) (scanned .first-live .ensures .0) in
+    leaves (removed-live (a .s) (a .image .now) (a .table .now) (a .directory) (a .t5) (scanned .before .before .before .before .before .before .word-at .ensures) (sym (kind .is-directory .ensures) ∙ not-false _ (scanned .before .before .before .before .before .before .before .before .before .if1 .left)) _ _ (live ∙ c .enum-told .given .1))
+
+same-length-3 : tie.Need-same-length-3
+same-length-3 c = search needs
+
+same-length-4 : tie.Need-same-length-4
+same-length-4 c = search needs
+
+returns-3 : tie.Need-returns-3
+returns-3 c =
+    let counted = c .before .before .before .before .before in
+    let scanned = counted .before .before .before .before .before in
+    let kind = scanned .before .before .before .before .before .before .before .before .before .before in
+    let start = kind .before .before .before .before .before in
+    let a = start .args in
+    let v = viewBy (a .s .geometry) (a .table .now) (a .image .now) in
+    let live = scan-so (a .table .now) (a .t5) (scanned .before .before .before .before .next-of .ensures) (scanned .before .slots-of .ensures) (scanned .before .before .before .before .before .before .word-at .ensures) (livingFrom v 0) (scanned .first-live .ensures .0) in
+    leaves (removed-done (a .s) (a .image .now) (a .table .now) (a .directory) (a .t5) (scanned .before .before .before .before .before .before .word-at .ensures) (sym (kind .is-directory .ensures) ∙ not-false _ (scanned .before .before .before .before .before .before .before .before .before .if1 .left)) (live ∙ c .before .before .before .before .before .before .before .before .enum-told2 .given .1) (counted .directory-clusters .ensures) (c .before .before .before .before .take-away .ensures))
 
 pub remove-entry-spec : {M : Type 1} → statement M
 remove-entry-spec =
     tie.close
     (tie.spec
-    killed-page-requires
+    is-directory-requires
+    returns
     word-at-requires
-    with-length-requires
-    word-at-requires-2
-    slice-aggregate-relink
-    slice-aggregate-relink-2
-    relink-requires
-    slice-aggregate-put-down
-    slice-aggregate-put-down-2
-    slice-aggregate-put-down-3
-    put-down-requires
+    next-of-requires
+    slots-of-requires
+    first-live-requires
+    enum-told
+    enum-told-2
+    directory-clusters-requires
+    take-away-requires
     same-length
     same-length-2
-    returns)
+    returns-2
+    same-length-3
+    same-length-4
+    returns-3)

@@ -7,8 +7,8 @@ use borrow.Author.Needs.{needs}
 use lib.ListN.{length, length-set, take}
 use lib.Seq.{length-take-le}
 use Rattle.change.proofs.WordSteps.{freeUpTo, none-yet, not-one, one-more}
-use Rattle.change.proofs.words.collect_free_in.Statement.{statement}
-use Rattle.change.proofs.words.collect_free_in.Tie as tie
+use Rattle.change.proofs.words.collect_free.Statement.{statement}
+use Rattle.change.proofs.words.collect_free.Tie as tie
 
 abbrev Inv-loop : tie.InvT-loop
 Inv-loop table list₀ count₀ c₀ list count c =
@@ -63,8 +63,8 @@ returns c =
     let found : take (l .count) (l .list) ≡ freeUpTo (c .before .before .args .table .now) (length (c .before .before .args .table .now)) = rw e at (l .inv .3) in
     (sym (length-take-le (l .count) (l .list) (omega arith)) ∙ ap length found, found)
 
-pub collect-free-in-spec : {M : Type 1} → statement M
-collect-free-in-spec =
+pub collect-free-spec : {M : Type 1} → statement M
+collect-free-spec =
     tie.close
     (tie.spec
     Inv-loop
