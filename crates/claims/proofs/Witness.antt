@@ -24,8 +24,9 @@ use Rattle.layout.specs.See.{pageIn, see, viewBy}
 use Rattle.tree.specs.Counted.{countsIn}
 use Rattle.model.specs.Names.{dotDotName, dotName}
 use Rattle.model.specs.Pages.{decoded, newPage, zeroPage}
-use Rattle.page.proofs.Laws.{length-put, page-put}
-use Rattle.page.specs.Page.{pageAt, written}
+use Rattle.page.proofs.Laws.{cluster-pages, length-put, page-put}
+use Rattle.page.specs.Page.{clusterBytes, pageAt, written}
+use Rattle.page.specs.PageLaws.{Inside}
 use Rattle.claims.proofs.ImageClaims.{counted}
 use Rattle.claims.specs.Witness.{BenchAccepted, benchDot, benchImage, benchNames, benchPages, benchSuperblock, benchTable, erased, onesPage, writeAll}
 
@@ -33,7 +34,7 @@ use Rattle.claims.specs.Witness.{BenchAccepted, benchDot, benchImage, be
 
 -- an image of the bench card's length, and pages that it has room for
 abbrev Sized : List ℕ → Type 0
-Sized image = length image ≡ 59136
+Sized image = length image ≡ clusterBytes * 56
 
 abbrev Fit : List (ℕ × List ℕ) → Type 0
 Fit [] = Unit {0}
@@ -51,7 +52,7 @@ written-sized (w ∷ ws) image f s = written-sized ws (written image (w .0) (w .
 written-read : (ws : List (ℕ × List ℕ)) (image : List ℕ) → Fit ws → Sized image → (q : ℕ) → pageAt (writeAll ws image) q ≡ read ws q (pageAt image q)
 written-read [] image f s q = refl
 written-read (w ∷ ws) image f s q =
-    let fits : 528 * w .0 + 528 ≤ length image = omega (arith, f .0) in
+    let fits : Inside image (w .0) = rw (s, cluster-pages (clusterBytes * 56) refl) (f .0) in
     written-read ws (written image (w .0) (w .1)) (f .2) (length-put true (w .0) (w .1) image (f .1) ∙ s) q
     ∙ ap (read ws q) (page-put true (w .0) (w .1) image (f .1) fits q)
 
@@ -62,7 +63,7 @@ bench-fit = (lit≤ tt, refl, (lit≤ tt, refl, (lit≤ tt, refl, (lit≤ tt, re
 
 erased-sized : Sized (erased 56)
 unfolding erased
-erased-sized = length-replicate {A = ℕ} 59136 0xFF
+erased-sized = length-replicate {A = ℕ} (clusterBytes * 56) 0xFF
 
 bench-sized : Sized benchImage
 unfolding benchImage

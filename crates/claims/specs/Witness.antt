@@ -13,7 +13,7 @@ use Rattle.model.specs.Entry.{Entry}
 use Rattle.model.specs.Names.{Name, dotDotName, dotName}
 use Rattle.model.specs.Pages.{Field, fill, newPage, zeroPage}
 use Rattle.model.specs.Plan.{newEntry}
-use Rattle.page.specs.Page.{written}
+use Rattle.page.specs.Page.{clusterBytes, written}
 use Rattle.tree.specs.Counted.{checkOf}
 
 -- ---- its pages
@@ -65,7 +65,7 @@ benchDot length n = newEntry directoryMode length 0 0 benchTime n
 
 -- A card as it is erased: every byte is ones, which are also the code of a chunk of ones.
 unfoldable pub erased : ℕ → List ℕ
-erased clusters = replicate (1056 * clusters) 0xFF
+erased clusters = replicate (clusterBytes * clusters) 0xFF
 
 -- pages with their data, written in turn
 abbrev pub writeAll : List (ℕ × List ℕ) → List ℕ → List ℕ
