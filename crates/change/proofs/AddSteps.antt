@@ -16,7 +16,7 @@ use Rattle.tree.specs.Slots.{clusterAt}
 use Rattle.change.specs.declared.entries.EntryAt.{EntryAt}
 use Rattle.change.specs.declared.entries.NewEntry.{NewEntry}
 use Rattle.change.specs.Calls.{CanAdd, added, addedImage, doneWith, enough, needOf, refusedBy}
-use Rattle.change.specs.Deeds.{addedTable, addedWrites, entriesOf, growthBy, growthOf, lastOf, lengthBy, pageBy, relinked, takenOf, writesOf}
+use Rattle.change.specs.Deeds.{Listed, addedTable, addedWrites, entriesOf, growthBy, growthOf, lastOf, lengthBy, pageBy, relinked, takenOf, writesOf}
 use Rattle.change.specs.Image.{Lands}
 use Rattle.change.specs.Words.{freeList}
 use Rattle.change.proofs.FreeLaws.{growth-small}
@@ -26,8 +26,7 @@ pub record Counted (table list bytes : List ℕ) (directory : EntryAt) (dead : P
   pub entries-are : entries ≡ entriesOf directory
   pub growing-is : growing ≡ growthBy dead entries
   pub own-is : own ≡ clustersFor (length bytes)
-  pub listed : list ≡ freeList table
-  pub room : needOf directory dead bytes ≤ length list
+  pub free : Listed table list (needOf directory dead bytes)
 
 module _ (table list bytes : List ℕ) (directory : EntryAt) (dead : Place) (entries growing own : ℕ) (counted : Counted table list bytes directory dead entries growing own) where
   -- ---- the clusters: a directory's growth first, then the entry's own
@@ -35,7 +34,7 @@ module _ (table list bytes : List ℕ) (directory : EntryAt) (dead : Place) (ent
   growing-by = counted .growing-is ∙ ap (growthBy dead) (counted .entries-are)
 
   pub both-fit : growing + own ≤ length list
-  both-fit = omega (arith, growing-by, counted .own-is, counted .room)
+  both-fit = omega (arith, growing-by, counted .own-is, counted .free .room)
 
   pub growth-long : growing ≡ length (take growing list)
   growth-long = sym (length-take-le growing list (omega (arith, both-fit)))
@@ -52,13 +51,13 @@ module _ (table list bytes : List ℕ) (directory : EntryAt) (dead : Place) (ent
       ap (λ n. length (take n (drop growing list))) own-alone ∙ length-take-le own (drop growing list) (omega (arith, both-fit)) ∙ counted .own-is
 
   growth-so : take growing list ≡ growthOf table directory dead
-  growth-so = ap₂ take growing-by (counted .listed)
+  growth-so = ap₂ take growing-by (counted .free .listed)
 
   taken-so : take (growing + own - growing) (drop growing list) ≡ takenOf table directory dead bytes
-  taken-so = ap₂ take (own-alone ∙ counted .own-is) (ap₂ drop growing-by (counted .listed))
+  taken-so = ap₂ take (own-alone ∙ counted .own-is) (ap₂ drop growing-by (counted .free .listed))
 
   pub room-so : enough table (needOf directory dead bytes) ≡ true
-  room-so = le-leb _ _ (rw (counted .listed) at (counted .room))
+  room-so = le-leb _ _ (rw (counted .free .listed) at (counted .free .room))
 
   -- ---- the words
   module _ {last : ℕ} (last-is : last ≡ clusterAt table (directory .first) (entries - 1)) where

@@ -115,3 +115,8 @@ module _ (image : List ℕ) (s : Superblock) (opened : openCard image ≡ ok s) 
     stored table e =
         e ∙ ap₂ (λ (names i : List ℕ). storeTable names (s .end) (λ c. getD table c 0) (2 * tableClusters (s .end)) i)
         (names-kept image after s first-kept second-kept) pages
+
+-- ---- what was put down, by other names for its pages and words
+pub image-as : (s : Superblock) (image : List ℕ) {writes others : List PageWrite} {table words whole : List ℕ} → whole ≡ imageBy s image writes table → writes ≡ others → table ≡ words
+    → whole ≡ imageBy s image others words
+image-as s image e w t = e ∙ ap₂ (imageBy s image) w t

@@ -101,6 +101,7 @@ module _ (s : Superblock) (image table : List ℕ) where
   unlessThere place.Nowhere rest = rest
   unlessThere (place.At k p) rest = refusedBy 11 image
 
+  -- with the flag a directory is made, without it a file created
   unfoldable pub addedIn : EntryAt → Bool → Name → List ℕ → List ℕ → Outcome
   addedIn directory making name time bytes =
       let v = viewBy (s .geometry) table image in
@@ -150,7 +151,7 @@ module _ (s : Superblock) (image table : List ℕ) where
   edited action.Delete directory time bytes entry = deletedEntry directory entry
   edited action.Remove directory time bytes entry = removedEntry directory entry
 
-  -- what the code knows of the entry: its pages land
+  -- what the code knows of the entry: where none of these is met, its pages land
   abbrev pub EditLands : Action → EntryAt → List ℕ → List ℕ → EntryAt → Type 0
   EditLands action.Replace directory time bytes entry =
       isDirectory (entryOf (entry .page)) ≡ false → enough table (clustersFor (length bytes)) ≡ true → Lands (s .end) (replacedWrites table directory entry time bytes)

@@ -56,8 +56,13 @@ pub record Open (s : Superblock) (image table : List ℕ) : Type 0 where
   pub opened : openCard image ≡ ok s
   pub long : length table ≡ s .end
 
+-- all free clusters in a list, and as many as are needed
+pub record Listed (table list : List ℕ) (need : ℕ) : Type 0 where
+  pub listed : list ≡ freeList table
+  pub room : need ≤ length list
+
 -- as many clusters as the data needs, and pages that land
-pub record Fits (s : Superblock) (image table growth taken bytes : List ℕ) (directory own : PageWrite) : Type 0 where
+pub record CanPut (s : Superblock) (image table growth taken bytes : List ℕ) (directory own : PageWrite) : Type 0 where
   pub card : Open s image table
   pub one : length growth ≤ 1
   pub filled : length taken ≡ clustersFor (length bytes)

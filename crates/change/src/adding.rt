@@ -27,11 +27,9 @@ use model::MOST_CLUSTERS;
 use tree::slots::next_of;
 use tree::slots::slots_of;
 ghost use mathlib.Core.Path.{_≡_};
-ghost use Prim.Native.Nat.{_≤_, _<_};
-ghost use lib.ListN.{length};
 ghost use Rattle.change.specs.Answers.{Leaves};
 ghost use Rattle.change.specs.Calls.{CanAdd, CanAddIn, added, addedImage, addedIn, dotsOf, needOf};
-ghost use Rattle.change.specs.Words.{freeList};
+ghost use Rattle.change.specs.Deeds.{Listed};
 
 // Puts a new entry down; the free clusters are listed, and enough.
 fn add_listed(
@@ -45,7 +43,7 @@ fn add_listed(
     name: &[u8],
     bytes: &[u8],
 )
-    requires { ⌜ (now list ≡ freeList (now table)) × (needOf directory (new .dead) (now bytes) ≤ length (now list)) × CanAdd s (now image) (now table) directory new (now time) (now name) (now bytes) ⌝ }
+    requires { ⌜ Listed (now table) (now list) (needOf directory (new .dead) (now bytes)) × CanAdd s (now image) (now table) directory new (now time) (now name) (now bytes) ⌝ }
     ensures { λ _. ⌜ now (image .exit) ≡ addedImage s (now (image .entry)) (now (table .entry)) directory new (now (time .entry)) (now (name .entry)) (now (bytes .entry)) ⌝ }
 {
     let entries = word_at(&directory.page, 0x04);
@@ -122,7 +120,7 @@ fn first_entries(first: u32, number: u32, time: &[u8]) -> [u8; 1024]
     two_pages(&dot, &up)
 }
 
-// Creates a file in a directory, or makes a directory there: of length 2, with its first two entries.
+// Creates a file in a directory or, with the flag, makes a directory there: of length 2, with its first two entries.
 pub(crate) fn add_in(
     image: &mut [u8],
     table: &mut [u32],

@@ -21,7 +21,7 @@ ghost use Rattle.model.specs.Pages.{zeroPage};
 ghost use Rattle.model.specs.Tree.{times};
 ghost use Rattle.model.specs.View.{pagesOf, topBit};
 ghost use Rattle.model.specs.Writes.{clusterWrites};
-ghost use Rattle.change.specs.Deeds.{Fits, imageBy, relinked, writeOf, writesOf};
+ghost use Rattle.change.specs.Deeds.{CanPut, imageBy, relinked, writeOf, writesOf};
 ghost use Rattle.change.specs.Image.{writePages};
 
 // Frees the clusters given back, links those taken, and leads the directory's chain on from its last cluster to its growth.
@@ -101,7 +101,7 @@ pub(crate) fn put_down(
     directory: EntryWrite,
     own: EntryWrite,
 )
-    requires { ⌜ Fits s (now image) (now table) (now growth) (now taken) (now bytes) (writeOf directory) (writeOf own) ⌝ }
+    requires { ⌜ CanPut s (now image) (now table) (now growth) (now taken) (now bytes) (writeOf directory) (writeOf own) ⌝ }
     ensures { λ _. ⌜ now (image .exit) ≡ imageBy s (now (image .entry)) (writesOf (now (growth .entry)) (now (taken .entry)) (now (bytes .entry)) (writeOf directory) (writeOf own)) (now (table .entry)) ⌝ }
 {
     write_pages(image, s.geometry, growth, taken, bytes, directory, own);

@@ -25,15 +25,13 @@ use tree::slots::next_of;
 use tree::slots::slots_of;
 ghost use mathlib.Core.List.{[]};
 ghost use mathlib.Core.Path.{_≡_};
-ghost use Prim.Native.Nat.{_≤_};
 ghost use lib.ListN.{length};
 ghost use Rattle.change.specs.declared.editing.Action.the-variants as action;
 ghost use Rattle.model.specs.Entry.{clustersFor};
 ghost use Rattle.change.specs.Answers.{Leaves};
 ghost use Rattle.change.specs.Calls.{CanEdit, CanEditIn, deletedEntry, editedIn, removedEntry, removedImage, replacedEntry, replacedImage};
-ghost use Rattle.change.specs.Deeds.{Open, removedWrites, replacedWrites};
+ghost use Rattle.change.specs.Deeds.{Listed, Open, removedWrites, replacedWrites};
 ghost use Rattle.change.specs.Image.{Lands};
-ghost use Rattle.change.specs.Words.{freeList};
 
 // What is done with an entry that stands.
 pub(crate) enum Action {
@@ -53,7 +51,7 @@ fn replace_listed(
     time: &[u8],
     bytes: &[u8],
 )
-    requires { ⌜ Open s (now image) (now table) × (now list ≡ freeList (now table)) × (clustersFor (length (now bytes)) ≤ length (now list)) × Lands (s .end) (replacedWrites (now table) directory entry (now time) (now bytes)) ⌝ }
+    requires { ⌜ Open s (now image) (now table) × Listed (now table) (now list) (clustersFor (length (now bytes))) × Lands (s .end) (replacedWrites (now table) directory entry (now time) (now bytes)) ⌝ }
     ensures { λ _. ⌜ now (image .exit) ≡ replacedImage s (now (image .entry)) (now (table .entry)) directory entry (now (time .entry)) (now (bytes .entry)) ⌝ }
 {
     let own = clusters_for(bytes.len());

@@ -99,7 +99,7 @@ pub(crate) fn altered_page(
     altered
 }
 
-// The bytes of an entry's time of change.
+// The bytes of an entry's time of change: a part is lent of a slice, so the page comes as one.
 fn modified_of(page: &[u8]) -> &[u8]
     requires { ⌜ length (now page) ≡ 512 ⌝ }
     ensures { λ r. ⌜ now r ≡ slice (now (page .entry)) 0x18 8 ⌝ }
@@ -149,6 +149,7 @@ fn without_bit(mode: u32) -> u32
     mode - 0x8000
 }
 
+// Both one after the other, into the parts of a slice.
 fn put_two(a: &[u8], b: &[u8], both: &mut [u8])
     requires { ⌜ length (now both) ≡ length (now a) + length (now b) ⌝ }
     ensures { λ _. ⌜ now (both .exit) ≡ now (a .entry) ++ now (b .entry) ⌝ }

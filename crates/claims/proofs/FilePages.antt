@@ -19,7 +19,7 @@ use Rattle.model.specs.Check.{Result, andThen, fault, ok}
 use Rattle.model.specs.Standing.{filePages, pageFront}
 use Rattle.model.specs.Tree.{hit, times}
 use Rattle.model.specs.View.{pagesOf}
-use Rattle.claims.specs.ReadsTree.{firstUnreadable, followedBy, pageBy, pagesBy, wholeOf}
+use Rattle.claims.specs.ReadsTree.{firstUnreadable, followedBy, pageTold, pagesTold, wholeOf}
 
 append-none : (l : List ℕ) → l ++ [] ≡ l
 append-none [] = refl
@@ -145,12 +145,12 @@ module _ (f : ℕ → Option (List ℕ)) (sized : (p : ℕ) (d : List ℕ) → f
       rw (with-one k _ (pagesOf cs) (b .0) (b .1), with-one k _ (map f (pagesOf cs)) (b .0) (b .1), o .0, o .1, z)
 
   pub read-page : (n k : ℕ) (geometry : Geometry) (cs : List ℕ) → n ≤ 512 * length (pagesOf cs) → 512 * k < n
-      → pageBy (onImage geometry (pageBytes n k cs)) ≡ pageFront (n - 512 * k) (f (getD (pagesOf cs) k 0))
+      → pageTold (onImage geometry (pageBytes n k cs)) ≡ pageFront (n - 512 * k) (f (getD (pagesOf cs) k 0))
   unfolding dataOfPages andThen
   read-page n k geometry cs h l = rw (one-read n k cs h l) (go (f (getD (pagesOf cs) k 0)) refl)
     where
       go : (o : Option (List ℕ)) → f (getD (pagesOf cs) k 0) ≡ o
-          → pageBy (onImage geometry (andThen (dataOfPages (getD (pagesOf cs) k 0 ∷ []) (o ∷ [])) (λ bytes. ok (take (bytesToCopy n (512 * k) 512) bytes))))
+          → pageTold (onImage geometry (andThen (dataOfPages (getD (pagesOf cs) k 0 ∷ []) (o ∷ [])) (λ bytes. ok (take (bytesToCopy n (512 * k) 512) bytes))))
           ≡ pageFront (n - 512 * k) o
       go none e = refl
       go (some d) e =
@@ -163,15 +163,15 @@ module _ (f : ℕ → Option (List ℕ)) (sized : (p : ℕ) (d : List ℕ) → f
 
   -- pages that are read as the tree has them make the tree's
   pub gather : (page : ℕ → Result (List ℕ)) (ps : List ℕ) (n k : ℕ) → n ≤ 512 * length ps
-      → ((j : ℕ) → 512 * j < n → pageBy (page (k + j)) ≡ pageFront (n - 512 * j) (f (getD ps j 0)))
-      → pagesBy page k ((n + 511) / 512) ≡ filePages n (map f ps)
+      → ((j : ℕ) → 512 * j < n → pageTold (page (k + j)) ≡ pageFront (n - 512 * j) (f (getD ps j 0)))
+      → pagesTold page k ((n + 511) / 512) ≡ filePages n (map f ps)
   unfolding filePages
   gather page [] n k h e = let z : n ≡ 0 = omega arith in rw z refl
   gather page (p ∷ ps) n k h e =
       ⊎-elim (λ z. rw z refl)
       (λ l.
       let c : (n + 511) / 512 ≡ suc ((n - 512 + 511) / 512) = omega arith in
-      let head : pageBy (page k) ≡ pageFront n (f p) = (let a : k + 0 ≡ k = omega arith in let b : n - 512 * 0 ≡ n = omega arith in rw (a, b) at (e 0 (omega arith))) in
+      let head : pageTold (page k) ≡ pageFront n (f p) = (let a : k + 0 ≡ k = omega arith in let b : n - 512 * 0 ≡ n = omega arith in rw (a, b) at (e 0 (omega arith))) in
       let rest = gather page ps (n - 512) (suc k) (omega arith) (λ j m.
       let a : k + suc j ≡ suc k + j = omega arith in
       let b : n - 512 * suc j ≡ n - 512 - 512 * j = omega arith in

@@ -7,33 +7,39 @@ use mathlib.Core.Path.{_∙_, _≡_, ap, ap₂, refl, sym}
 use native.Mathlib.Omega.{arith}
 use lib.Dec.{eqb, lit≤}
 use lib.ListN.{length, length-replicate, replicate}
-use Rattle.change.proofs.ChangedLaws.{checked-whole}
+use Rattle.change.proofs.ChangedLaws.{accepts, checked-whole, refuses}
+use Rattle.change.specs.Changed.{Outcome, rulesOf}
 use Rattle.layout.specs.declared.Superblock.{Superblock}
 use Rattle.layout.proofs.OpenFacts.{good-card}
 use Rattle.layout.proofs.Stages.{Readable}
 use Rattle.layout.specs.Superblock.{clustersIn, goodLength, goodSuperblock, goodText, superblockOf}
 use Rattle.layout.specs.Table.{dataOf, goodTableNames, namesOf, openCard, tableNames, tableOf, tablePage, tableWord, upTo}
 use Rattle.model.proofs.CheckHolds.{holds-check}
+use Rattle.model.specs.Bench.{benchTime, bytes, pathA}
 use Rattle.model.specs.Bytes.{word}
+use Rattle.model.specs.Change.{Change, create}
 use Rattle.model.specs.Check.{checkTree, ok}
 use Rattle.model.specs.Entry.{Entry}
 use Rattle.model.specs.Holds.{HoldsCard}
+use Rattle.model.specs.Refusal.{refusal}
+use Rattle.model.specs.Time.{validTime}
 use Rattle.model.specs.Tree.{Root, end, reached}
 use Rattle.model.specs.View.{View}
-use Rattle.layout.specs.See.{pageIn, see, viewBy}
+use Rattle.layout.specs.See.{checkImage, pageIn, see, viewBy}
 use Rattle.tree.specs.Counted.{countsIn}
 use Rattle.model.specs.Names.{dotDotName, dotName}
 use Rattle.model.specs.Pages.{decoded, newPage, zeroPage}
-use Rattle.page.proofs.Laws.{length-put, page-put}
-use Rattle.page.specs.Page.{pageAt, written}
-use Rattle.claims.proofs.ImageClaims.{counted}
+use Rattle.page.proofs.Laws.{cluster-pages, length-put, page-put}
+use Rattle.page.specs.Page.{clusterBytes, pageAt, written}
+use Rattle.page.specs.PageLaws.{Inside}
+use Rattle.claims.proofs.ImageClaims.{counted, told}
 use Rattle.claims.specs.Witness.{BenchAccepted, benchDot, benchImage, benchNames, benchPages, benchSuperblock, benchTable, erased, onesPage, writeAll}
 
 -- ---- pages written in turn
 
 -- an image of the bench card's length, and pages that it has room for
 abbrev Sized : List ℕ → Type 0
-Sized image = length image ≡ 59136
+Sized image = length image ≡ clusterBytes * 56
 
 abbrev Fit : List (ℕ × List ℕ) → Type 0
 Fit [] = Unit {0}
@@ -51,7 +57,7 @@ written-sized (w ∷ ws) image f s = written-sized ws (written image (w .0) (w .
 written-read : (ws : List (ℕ × List ℕ)) (image : List ℕ) → Fit ws → Sized image → (q : ℕ) → pageAt (writeAll ws image) q ≡ read ws q (pageAt image q)
 written-read [] image f s q = refl
 written-read (w ∷ ws) image f s q =
-    let fits : 528 * w .0 + 528 ≤ length image = omega (arith, f .0) in
+    let fits : Inside image (w .0) = rw (s, cluster-pages (clusterBytes * 56) refl) (f .0) in
     written-read ws (written image (w .0) (w .1)) (f .2) (length-put true (w .0) (w .1) image (f .1) ∙ s) q
     ∙ ap (read ws q) (page-put true (w .0) (w .1) image (f .1) fits q)
 
@@ -62,7 +68,7 @@ bench-fit = (lit≤ tt, refl, (lit≤ tt, refl, (lit≤ tt, refl, (lit≤ tt, re
 
 erased-sized : Sized (erased 56)
 unfolding erased
-erased-sized = length-replicate {A = ℕ} 59136 0xFF
+erased-sized = length-replicate {A = ℕ} (clusterBytes * 56) 0xFF
 
 bench-sized : Sized benchImage
 unfolding benchImage
@@ -164,8 +170,30 @@ holds =
       once = λ c. once (eqb 0 c);
     }
 
+checked : checkImage benchImage ≡ ok (card, root, reached root)
+checked =
+    let walked : checkTree (see card benchImage) ≡ ok (root, reached root) = ap (λ (v : View). checkTree v) view-is ∙ holds-check view root holds in
+    checked-whole benchImage card root (reached root) opened walked
+
+-- ---- a file on it
+abbrev file : ℕ → Change
+file size = create pathA benchTime (bytes size)
+
+refused-by : (c : Change) → refusal (rulesOf card) c (see card benchImage) root ≡ refusal (rulesOf card) c view root
+refused-by c = ap (λ (v : View). refusal (rulesOf card) c v root) view-is
+
+full : refusal (rulesOf card) (file 28672) view root ≡ 0
+unfolding refusal validTime
+full = refl
+
+too-much : refusal (rulesOf card) (file 28673) view root ≡ 12
+unfolding refusal validTime
+too-much = refl
+
 pub bench-accepted : BenchAccepted
 bench-accepted =
-    let walked : checkTree (see card benchImage) ≡ ok (root, reached root) = ap (λ (v : View). checkTree v) view-is ∙ holds-check view root holds in
-    counted benchImage card root (reached root) (checked-whole benchImage card root (reached root) opened walked)
-    ∙ ap (λ (v : View). ok (countsIn 56 30 v root)) view-is
+    record {
+      counts = counted benchImage card root (reached root) checked ∙ ap (λ (v : View). ok (countsIn 56 30 v root)) view-is;
+      full = told benchImage card root (reached root) checked (file 28672) (accepts benchImage card root (reached root) checked (file 28672) (refused-by (file 28672) ∙ full));
+      tooMuch = ap (λ (o : Outcome). o .answer) ((refuses benchImage card root (reached root) checked (file 28673) 11 (refused-by (file 28673) ∙ too-much)) .0);
+    }

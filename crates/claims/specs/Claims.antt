@@ -44,7 +44,7 @@ unfoldable pub givenBackBy : Change → List ℕ → ℕ
 givenBackBy c image = byTree (λ root. cond (creates c) 0 (tell clustersOf 0 (lookUp root (path c)))) (checkImage image)
 
 -- The image is accepted again and has its length; the change's own path is what the rules say, and every other path stays;
--- there were enough free clusters, and of these what was taken is gone and what came back is there again.
+-- as many clusters were free as it takes, and the free count is then the old one less those, plus what came back.
 pub record Kept (image : List ℕ) (c : Change) : Type 0 where
   pub counts : Counts
   pub again : checkOf (imageLeft c image) ≡ ok counts

@@ -62,13 +62,13 @@ ReadTells image page room (some (Standing.directory f)) answer = answer ≡ faul
 -- ---- the tree from the answers
 
 -- a page of a file as a read of it answers
-abbrev pub pageBy : Result (List ℕ) → Option (List ℕ)
-pageBy (fault n p) = none
-pageBy (ok bytes) = some bytes
+abbrev pub pageTold : Result (List ℕ) → Option (List ℕ)
+pageTold (fault n p) = none
+pageTold (ok bytes) = some bytes
 
-abbrev pub pagesBy : (ℕ → Result (List ℕ)) → ℕ → ℕ → List (Option (List ℕ))
-pagesBy page k zero = []
-pagesBy page k (suc count) = pageBy (page k) ∷ pagesBy page (suc k) count
+abbrev pub pagesTold : (ℕ → Result (List ℕ)) → ℕ → ℕ → List (Option (List ℕ))
+pagesTold page k zero = []
+pagesTold page k (suc count) = pageTold (page k) ∷ pagesTold page (suc k) count
 
 -- by find's answer and those of the reads of each page
 abbrev pub standingBy : Result Entry → (ℕ → Result (List ℕ)) → Option Standing
@@ -76,7 +76,7 @@ standingBy (fault n p) page = none
 standingBy (ok e) page =
     some
     (cond (isDirectory e) (Standing.directory (fieldsOf e))
-    (Standing.file (fieldsOf e) (record { size = e .length; pages = pagesBy page 0 ((e .length + 511) / 512) })))
+    (Standing.file (fieldsOf e) (record { size = e .length; pages = pagesTold page 0 ((e .length + 511) / 512) })))
 
 -- ---- the claim
 

@@ -4,16 +4,17 @@ use Prim.Native.Nat.{ℕ, _*_}
 use mathlib.Core.List.{List, [], _∷_, _++_}
 use mathlib.Core.Path.{_≡_}
 use lib.ListN.{length, replicate}
+use Rattle.change.specs.Changed.{changed}
 use Rattle.layout.specs.Superblock.{formatText, versionText}
-use Rattle.model.specs.Bench.{benchTime}
+use Rattle.model.specs.Bench.{benchTime, bytes, pathA}
 use Rattle.model.specs.Bytes.{littleBytes}
-use Rattle.model.specs.Change.{directoryMode}
-use Rattle.model.specs.Check.{ok}
+use Rattle.model.specs.Change.{create, directoryMode}
+use Rattle.model.specs.Check.{fault, ok}
 use Rattle.model.specs.Entry.{Entry}
 use Rattle.model.specs.Names.{Name, dotDotName, dotName}
 use Rattle.model.specs.Pages.{Field, fill, newPage, zeroPage}
 use Rattle.model.specs.Plan.{newEntry}
-use Rattle.page.specs.Page.{written}
+use Rattle.page.specs.Page.{clusterBytes, written}
 use Rattle.tree.specs.Counted.{checkOf}
 
 -- ---- its pages
@@ -65,7 +66,7 @@ benchDot length n = newEntry directoryMode length 0 0 benchTime n
 
 -- A card as it is erased: every byte is ones, which are also the code of a chunk of ones.
 unfoldable pub erased : ℕ → List ℕ
-erased clusters = replicate (1056 * clusters) 0xFF
+erased clusters = replicate (clusterBytes * clusters) 0xFF
 
 -- pages with their data, written in turn
 abbrev pub writeAll : List (ℕ × List ℕ) → List ℕ → List ℕ
@@ -86,6 +87,8 @@ benchPages =
 unfoldable pub benchImage : List ℕ
 benchImage = writeAll benchPages (erased 56)
 
--- The check accepts it, with the counts to meet.
-abbrev pub BenchAccepted : Type 0
-BenchAccepted = checkOf benchImage ≡ ok (record { clusters = 56; free = 29; reached = 1; orphaned = 0 })
+-- The check accepts it, with the counts to meet; a file that fills the card is accepted, and one byte more is 12.
+pub record BenchAccepted : Type 0 where
+  pub counts : checkOf benchImage ≡ ok (record { clusters = 56; free = 29; reached = 1; orphaned = 0 })
+  pub full : (changed (create pathA benchTime (bytes 28672)) benchImage) .answer ≡ ok tt
+  pub tooMuch : (changed (create pathA benchTime (bytes 28673)) benchImage) .answer ≡ fault 12 0

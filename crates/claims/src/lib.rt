@@ -36,7 +36,7 @@ pub fn demand_3()
     ensures { λ _. ⌜ Demand3 ⌝ }
 {}
 
-// The claims are of something: the check accepts the bench card, with the counts to meet.
+// The claims are of something: the check accepts the bench card, with the counts to meet, and a file that fills it is accepted.
 pub fn bench_accepted()
     ensures { λ _. ⌜ BenchAccepted ⌝ }
 {}

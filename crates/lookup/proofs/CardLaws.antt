@@ -70,16 +70,6 @@ module _ (image : List ℕ) where
         let e = table-loaded image s ((accepted s h) .opened) before after l in
         rw e ((accepted s h) .holds)
 
-  -- a read's page is the image's, whatever the path
-  page-after : (geometry : Geometry) (o : Option Path) (f : Path → Result (List ℕ)) → withPath o (λ q. onImage geometry (f q)) ≡ onImage geometry (withPath o f)
-  page-after geometry none f = refl
-  page-after geometry (some q) f = refl
-
-  pub read-accepted : (bytes : List ℕ) (from room : ℕ) (s : Superblock) (root : Root) (m : Marks) → checkImage image ≡ ok (s, root, m)
-      → readOf image bytes from room ≡ onImage (s .geometry) (withPath (pathOf bytes) (λ q. readIn root q from room))
-  read-accepted bytes from room s root m e =
-      call-accepted bytes (λ t r q. onImage (t .geometry) (readIn r q from room)) s root m e ∙ page-after (s .geometry) (pathOf bytes) (λ q. readIn root q from room)
-
 pub read-unopened : (x : Result (List ℕ)) (f : Refusal) (before : List ℕ) → x ≡ fault (numberOf f) (pageOf f) → TellsRead x (reading.Refused f) before before
 unfolding andThen
 read-unopened x f before e = rw e (record { count = refl; buffer = refl })

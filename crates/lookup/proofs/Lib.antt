@@ -19,3 +19,4 @@ pub mod PagesLaws
 pub mod ReadLaws
 pub mod ReadSteps
 pub mod CardLaws
+pub mod AskLaws

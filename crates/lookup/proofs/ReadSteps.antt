@@ -78,7 +78,5 @@ module _ (v : View) (t : List ℕ) (links : (c : ℕ) → v .link c ≡ tableLin
           (omega (arith, (least-within n room (size - from) isLeast) .0)) c
 
 -- the read at a path is the one from the slot there
-pub read-at : (geometry : Geometry) (from room : ℕ) (x : Result (List ℕ)) (v : View) (first : ℕ) (e : Entry) (r : ReadOutcome) (before after : List ℕ)
-    → ((h : Slot) × (s : Tree) × Stands v first e h s × (x ≡ readFrom from room h s))
-    → ((h : Slot) (s : Tree) → Stands v first e h s → TellsRead (onImage geometry (readFrom from room h s)) r before after) → TellsRead (onImage geometry x) r before after
-read-at geometry from room x v first e r before after y f = rw (y .3) (f (y .0) (y .1) (y .2))
+pub read-at : (x y : Result (List ℕ)) (r : ReadOutcome) (before after : List ℕ) → x ≡ y → TellsRead y r before after → TellsRead x r before after
+read-at x y r before after e told = rw e told

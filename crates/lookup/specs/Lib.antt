@@ -5,3 +5,4 @@ pub mod Step
 pub mod Read
 pub mod Answers
 pub mod Descend
+pub mod Called

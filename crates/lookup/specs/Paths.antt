@@ -5,7 +5,7 @@ use mathlib.Core.Option.{Option, none, some}
 use Rattle.fields.specs.PathBytes.{pathOf}
 use Rattle.layout.specs.See.{checkImage}
 use Rattle.layout.specs.declared.Superblock.{Superblock}
-use Rattle.model.specs.Check.{Result, andThen, fault}
+use Rattle.model.specs.Check.{Result, andThen, fault, ok}
 use Rattle.model.specs.Lookup.{lookUp, tell}
 use Rattle.model.specs.Names.{Path}
 use Rattle.model.specs.Refusal.{way}
@@ -29,3 +29,13 @@ module _ {A : Type 0} where
   -- a whole call: the check (1 to 7), the path (8), then what is asked of the tree
   unfoldable pub onCard : List ℕ → List ℕ → (Superblock → Root → Path → Result A) → Result A
   onCard image bytes ask = andThen (checkImage image) (λ x. withPath (pathOf bytes) (ask (x .0) (x .1)))
+
+-- what a call finds: the card's superblock, and what stands at the path
+abbrev pub standsThere : Superblock → Slot → Tree → Result (Superblock × Slot × Tree)
+standsThere s h inside = ok (s, h, inside)
+
+abbrev pub standing : Superblock → Root → Path → Result (Superblock × Slot × Tree)
+standing s root path = atPath root path (standsThere s)
+
+abbrev pub standingOf : List ℕ → List ℕ → Result (Superblock × Slot × Tree)
+standingOf image bytes = onCard image bytes standing

@@ -2,18 +2,14 @@
 use crate::along::Place;
 use crate::along::cluster_at;
 use crate::along::first_unreadable;
-use crate::way::Arrival;
-use crate::way::descend;
+use crate::call::Standing;
+use crate::call::stand;
 use fields::kinds::is_directory;
 use fields::numbers::word_at;
-use fields::paths::Parsed;
-use fields::paths::parse_path;
 use layout::Geometry;
-use layout::Opened;
 use layout::Refusal;
 use layout::image_page;
 use model::MOST_CLUSTERS;
-use tree::open_checked;
 use tree::slots::next_of;
 use tree::slots::read_slot;
 use tree::slots::slot_page;
@@ -23,16 +19,13 @@ ghost use lib.ListN.{length, take};
 ghost use lib.Seq.{sets};
 ghost use Rattle.model.specs.Bytes.{slice, wordLimit};
 ghost use Rattle.lookup.specs.declared.along.Place.the-variants.{Nowhere};
-ghost use Rattle.fields.specs.PathBytes.{pathOf};
 ghost use Rattle.layout.specs.See.{onImage, viewBy};
 ghost use mathlib.Core.Bool.{cond};
 ghost use lib.Dec.{leb};
 ghost use Rattle.model.specs.Entry.{entryOf};
-ghost use Rattle.model.specs.Holds.{HoldsCard};
-ghost use Rattle.model.specs.Tree.{Root, Slot, Tree};
+ghost use Rattle.model.specs.Tree.{Slot, Tree};
 ghost use Rattle.lookup.specs.Answers.{TellsRead};
-ghost use Rattle.lookup.specs.Paths.{withPath};
-ghost use Rattle.lookup.specs.Read.{readFrom, readIn, readOf};
+ghost use Rattle.lookup.specs.Read.{readFrom, readOf};
 ghost use Rattle.tree.specs.Slots.{slotPages};
 ghost use Rattle.lookup.specs.Descend.{Piece, Stands, dataAlong, pagesFor, scan, unread};
 
@@ -153,72 +146,44 @@ fn read_in(
     }
 }
 
-// A read of the file at a path of a card that the check accepts.
-fn read_card(
-    image: &[u8],
-    table: &[u32],
-    geometry: Geometry,
-    path: &[u8],
-    from: usize,
-    out: &mut [u8],
-) -> ReadOutcome
-    ensures { λ r. ⌜ ((root : Root) → HoldsCard (viewBy geometry (now (table .entry)) (now (image .entry))) root → TellsRead (onImage geometry (withPath (pathOf (now (path .entry))) (λ q. readIn root q from (length (now (out .entry)))))) r (now (out .entry)) (now (out .exit))) ⌝ }
-{
-    let parsed = parse_path(path);
-    match parsed {
-        Parsed::Malformed => ReadOutcome::Refused(Refusal::BadPath),
-        Parsed::Names(count) => {
-            let a = descend(image, table, geometry, path, count);
-            let arrival = a.arrival;
-            match arrival {
-                Arrival::Absent => ReadOutcome::Refused(Refusal::Absent),
-                Arrival::WrongKind => ReadOutcome::Refused(Refusal::WrongKind),
-                Arrival::At(first) => {
-                    let page = a.page;
-                    read_in(image, table, geometry, first, &page, from, out)
-                }
-            }
-        }
-    }
-}
-
 // The same by the first `end` words of a table.
 fn read_words(
     image: &[u8],
     table: &[u32],
     end: usize,
     geometry: Geometry,
-    path: &[u8],
+    first: u32,
+    page: &[u8; 512],
     from: usize,
     out: &mut [u8],
 ) -> ReadOutcome
     requires { ⌜ end ≤ length (now table) ⌝ }
-    ensures { λ r. ⌜ ((root : Root) → HoldsCard (viewBy geometry (take end (now (table .entry))) (now (image .entry))) root → TellsRead (onImage geometry (withPath (pathOf (now (path .entry))) (λ q. readIn root q from (length (now (out .entry)))))) r (now (out .entry)) (now (out .exit))) ⌝ }
+    ensures { λ r. ⌜ ((h : Slot) (s : Tree) → Stands (viewBy geometry (take end (now (table .entry))) (now (image .entry))) first (entryOf (now (page .entry))) h s → TellsRead (onImage geometry (readFrom from (length (now (out .entry))) h s)) r (now (out .entry)) (now (out .exit))) ⌝ }
 {
-    read_card(image, &table[..end], geometry, path, from, out)
-}
-
-// The same of any image, with room for its table.
-fn read_with(
-    image: &[u8],
-    table: &mut [u32; MOST_CLUSTERS],
-    path: &[u8],
-    from: usize,
-    out: &mut [u8],
-) -> ReadOutcome
-    ensures { λ r. ⌜ TellsRead (readOf (now (image .entry)) (now (path .entry)) from (length (now (out .entry)))) r (now (out .entry)) (now (out .exit)) ⌝ }
-{
-    let opened = open_checked(image, table);
-    match opened {
-        Opened::Refused(refusal) => ReadOutcome::Refused(refusal),
-        Opened::Card(s) => read_words(image, table, s.end as usize, s.geometry, path, from, out),
-    }
+    read_in(image, &table[..end], geometry, first, page, from, out)
 }
 
 // Copies bytes of the file at a path, from the offset `from` until the file or the buffer ends, and tells how many.
 pub fn read(image: &[u8], path: &[u8], from: usize, out: &mut [u8]) -> ReadOutcome
     ensures { λ r. ⌜ TellsRead (readOf (now (image .entry)) (now (path .entry)) from (length (now (out .entry)))) r (now (out .entry)) (now (out .exit)) ⌝ }
 {
-    let mut table = [0u32; MOST_CLUSTERS];
-    read_with(image, &mut table, path, from, out)
+    let mut room = [0u32; MOST_CLUSTERS];
+    let stood = stand(image, path, &mut room);
+    let standing = stood.standing;
+    match standing {
+        Standing::Refused(refusal) => ReadOutcome::Refused(refusal),
+        Standing::At { card, first } => {
+            let page = stood.page;
+            read_words(
+                image,
+                &room,
+                card.end as usize,
+                card.geometry,
+                first,
+                &page,
+                from,
+                out,
+            )
+        }
+    }
 }

@@ -59,7 +59,7 @@ add-listed-requires c κs =
     let listed = judged .before .before .before .before .before .before in
     let start = listed .before .before .before .before .before .before .before .before in
     let a = start .args in
-    (listed .collect-free .ensures .1, omega (arith, listed .collect-free .ensures .0, ap length (listed .collect-free .ensures .1), need-so (a .t4) (a .new .dead) (a .bytes .now) (judged .before .before .before .before .clusters-for .ensures) (judged .before .word-at .ensures) (judged .growth-by .ensures), c .before .before .before .if1 .left), start .pre)
+    (record { listed = listed .collect-free .ensures .1; room = omega (arith, listed .collect-free .ensures .0, ap length (listed .collect-free .ensures .1), need-so (a .t4) (a .new .dead) (a .bytes .now) (judged .before .before .before .before .clusters-for .ensures) (judged .before .word-at .ensures) (judged .growth-by .ensures), c .before .before .before .if1 .left) }, start .pre)
 
 same-length-2 : tie.Need-same-length-2
 same-length-2 c = search needs

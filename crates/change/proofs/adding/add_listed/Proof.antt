@@ -1,10 +1,7 @@
 -- The listed clusters, the pages and the words are those that the change names; they land, so they are put down.
-use Prim.Native.Nat.{ℕ, _+_, _-_}
-use mathlib.Core.List.{List}
-use mathlib.Core.Path.{_∙_, ap₂}
+use Prim.Native.Nat.{_+_, _-_}
 use native.Mathlib.Omega.{arith}
-use Rattle.model.specs.Writes.{PageWrite}
-use Rattle.change.specs.Deeds.{imageBy}
+use Rattle.change.proofs.DeedSteps.{image-as}
 use Rattle.change.proofs.AddSteps.{Counted, both-fit, growth-long, lands-so, last-by, one-cluster, own-long, room-so, words-so, writes-so}
 use Rattle.change.proofs.FreeLaws.{taken-low}
 use borrow.Author.Needs.{needs}
@@ -26,7 +23,7 @@ add-end c =
     let start = own .before .before .before .before .before .before .before .before .before .before .before in
     let a = start .args in
     let k : Counted (a .table .now) (a .list .now) (a .bytes .now) (a .t5) (a .new .dead) (own .before .before .word-at .result) (own .before .growth-by .result) (own .clusters-for .result) =
-    record { entries-are = own .before .before .word-at .ensures; growing-is = own .before .growth-by .ensures; own-is = own .clusters-for .ensures; listed = start .pre .0; room = start .pre .1 } in
+    record { entries-are = own .before .before .word-at .ensures; growing-is = own .before .growth-by .ensures; own-is = own .clusters-for .ensures; free = start .pre .0 } in
     omega (arith, both-fit _ _ _ _ _ _ _ _ k)
 
 slice-aggregate-growth : tie.Need-slice-aggregate-growth
@@ -35,7 +32,7 @@ slice-aggregate-growth c =
     let start = own .before .before .before .before .before .before .before .before .before .before .before in
     let a = start .args in
     let k : Counted (a .table .now) (a .list .now) (a .bytes .now) (a .t5) (a .new .dead) (own .before .before .word-at .result) (own .before .growth-by .result) (own .clusters-for .result) =
-    record { entries-are = own .before .before .word-at .ensures; growing-is = own .before .growth-by .ensures; own-is = own .clusters-for .ensures; listed = start .pre .0; room = start .pre .1 } in
+    record { entries-are = own .before .before .word-at .ensures; growing-is = own .before .growth-by .ensures; own-is = own .clusters-for .ensures; free = start .pre .0 } in
     growth-long _ _ _ _ _ _ _ _ k
 
 mul-taken : tie.Need-mul-taken
@@ -44,7 +41,7 @@ mul-taken c =
     let start = own .before .before .before .before .before .before .before .before .before .before .before in
     let a = start .args in
     let k : Counted (a .table .now) (a .list .now) (a .bytes .now) (a .t5) (a .new .dead) (own .before .before .word-at .result) (own .before .growth-by .result) (own .clusters-for .result) =
-    record { entries-are = own .before .before .word-at .ensures; growing-is = own .before .growth-by .ensures; own-is = own .clusters-for .ensures; listed = start .pre .0; room = start .pre .1 } in
+    record { entries-are = own .before .before .word-at .ensures; growing-is = own .before .growth-by .ensures; own-is = own .clusters-for .ensures; free = start .pre .0 } in
     omega (arith, both-fit _ _ _ _ _ _ _ _ k)
 
 sub-taken : tie.Need-sub-taken
@@ -59,7 +56,7 @@ part-taken-end c =
     let start = own .before .before .before .before .before .before .before .before .before .before .before in
     let a = start .args in
     let k : Counted (a .table .now) (a .list .now) (a .bytes .now) (a .t5) (a .new .dead) (own .before .before .word-at .result) (own .before .growth-by .result) (own .clusters-for .result) =
-    record { entries-are = own .before .before .word-at .ensures; growing-is = own .before .growth-by .ensures; own-is = own .clusters-for .ensures; listed = start .pre .0; room = start .pre .1 } in
+    record { entries-are = own .before .before .word-at .ensures; growing-is = own .before .growth-by .ensures; own-is = own .clusters-for .ensures; free = start .pre .0 } in
     both-fit _ _ _ _ _ _ _ _ k
 
 sub-cluster-at : tie.Need-sub-cluster-at
@@ -77,8 +74,8 @@ cast-new-page c =
     let start = own .before .before .before .before .before .before .before .before .before .before .before in
     let a = start .args in
     let k : Counted (a .table .now) (a .list .now) (a .bytes .now) (a .t5) (a .new .dead) (own .before .before .word-at .result) (own .before .growth-by .result) (own .clusters-for .result) =
-    record { entries-are = own .before .before .word-at .ensures; growing-is = own .before .growth-by .ensures; own-is = own .clusters-for .ensures; listed = start .pre .0; room = start .pre .1 } in
-    omega (arith, start .pre .2 .small (room-so _ _ _ _ _ _ _ _ k))
+    record { entries-are = own .before .before .word-at .ensures; growing-is = own .before .growth-by .ensures; own-is = own .clusters-for .ensures; free = start .pre .0 } in
+    omega (arith, start .pre .1 .small (room-so _ _ _ _ _ _ _ _ k))
 
 first-of-requires : tie.Need-first-of-requires
 first-of-requires c κs = search needs
@@ -99,9 +96,9 @@ relink-requires c κs =
     let start = own .before .before .before .before .before .before .before .before .before .before .before in
     let a = start .args in
     let k : Counted (a .table .now) (a .list .now) (a .bytes .now) (a .t5) (a .new .dead) (own .before .before .word-at .result) (own .before .growth-by .result) (own .clusters-for .result) =
-    record { entries-are = own .before .before .word-at .ensures; growing-is = own .before .growth-by .ensures; own-is = own .clusters-for .ensures; listed = start .pre .0; room = start .pre .1 } in
+    record { entries-are = own .before .before .word-at .ensures; growing-is = own .before .growth-by .ensures; own-is = own .clusters-for .ensures; free = start .pre .0 } in
     let growing = own .before .growth-by .result in
-    (omega (arith, last-by _ _ _ _ _ _ _ _ k (reached .cluster-at .ensures), start .pre .2 .low-last), taken-low (a .image .now) (a .table .now) (a .s) (start .pre .2 .card .opened) (start .pre .2 .card .long) growing (growing + own .clusters-for .result - growing) (a .list .now) (start .pre .0))
+    (omega (arith, last-by _ _ _ _ _ _ _ _ k (reached .cluster-at .ensures), start .pre .1 .low-last), taken-low (a .image .now) (a .table .now) (a .s) (start .pre .1 .card .opened) (start .pre .1 .card .long) growing (growing + own .clusters-for .result - growing) (a .list .now) (start .pre .0 .listed))
 
 put-down-requires : tie.Need-put-down-requires
 put-down-requires c κs =
@@ -112,14 +109,14 @@ put-down-requires c κs =
     let start = own .before .before .before .before .before .before .before .before .before .before .before in
     let a = start .args in
     let k : Counted (a .table .now) (a .list .now) (a .bytes .now) (a .t5) (a .new .dead) (own .before .before .word-at .result) (own .before .growth-by .result) (own .clusters-for .result) =
-    record { entries-are = own .before .before .word-at .ensures; growing-is = own .before .growth-by .ensures; own-is = own .clusters-for .ensures; listed = start .pre .0; room = start .pre .1 } in
+    record { entries-are = own .before .before .word-at .ensures; growing-is = own .before .growth-by .ensures; own-is = own .clusters-for .ensures; free = start .pre .0 } in
     record {
-      card = record { opened = start .pre .2 .card .opened; long = omega (arith, c .before .before .before .before .relink .kept, start .pre .2 .card .long) };
+      card = record { opened = start .pre .1 .card .opened; long = omega (arith, c .before .before .before .before .relink .kept, start .pre .1 .card .long) };
       one = one-cluster _ _ _ _ _ _ _ _ k;
       filled = own-long _ _ _ _ _ _ _ _ k;
       lands =
           lands-so _ _ _ _ _ _ _ _ k (reached .cluster-at .ensures) (a .new .mode) (a .new .count) (a .time .now) (a .name .now) (named .before .before .before .page-by .ensures) (named .before .first-of .ensures)
-          (named .new-page .ensures) (paged .before .length-by .ensures) (paged .with-length .ensures) (a .s .end) (start .pre .2 .lands (room-so _ _ _ _ _ _ _ _ k));
+          (named .new-page .ensures) (paged .before .length-by .ensures) (paged .with-length .ensures) (a .s .end) (start .pre .1 .lands (room-so _ _ _ _ _ _ _ _ k));
     }
 
 same-length : tie.Need-same-length
@@ -137,9 +134,8 @@ returns c =
     let start = own .before .before .before .before .before .before .before .before .before .before .before in
     let a = start .args in
     let k : Counted (a .table .now) (a .list .now) (a .bytes .now) (a .t5) (a .new .dead) (own .before .before .word-at .result) (own .before .growth-by .result) (own .clusters-for .result) =
-    record { entries-are = own .before .before .word-at .ensures; growing-is = own .before .growth-by .ensures; own-is = own .clusters-for .ensures; listed = start .pre .0; room = start .pre .1 } in
-    c .before .before .put-down .ensures
-    ∙ ap₂ (λ (w : List PageWrite) (t : List ℕ). imageBy (a .s) (a .image .now) w t)
+    record { entries-are = own .before .before .word-at .ensures; growing-is = own .before .growth-by .ensures; own-is = own .clusters-for .ensures; free = start .pre .0 } in
+    image-as (a .s) (a .image .now) (c .before .before .put-down .ensures)
     (writes-so _ _ _ _ _ _ _ _ k (reached .cluster-at .ensures) (a .new .mode) (a .new .count) (a .time .now) (a .name .now) (named .before .before .before .page-by .ensures) (named .before .first-of .ensures)
     (named .new-page .ensures) (paged .before .length-by .ensures) (paged .with-length .ensures))
     (words-so _ _ _ _ _ _ _ _ k (reached .cluster-at .ensures) (c .before .before .before .before .before .before .before .relink .ensures))

@@ -61,8 +61,7 @@ replace-listed-requires c κs =
     let start = kind .before .before .before .before .before .before .before in
     let a = start .args in (
       start .pre .card,
-      listed .collect-free .ensures .1,
-      omega (arith, listed .collect-free .ensures .0, ap length (listed .collect-free .ensures .1), judged .clusters-for .ensures, c .before .before .before .if2 .left),
+      record { listed = listed .collect-free .ensures .1; room = omega (arith, listed .collect-free .ensures .0, ap length (listed .collect-free .ensures .1), judged .clusters-for .ensures, c .before .before .before .if2 .left) },
       can-land (a .s) (a .image .now) (a .table .now) (a .directory) (a .t5) (a .time .now) (a .bytes .now) (sym (kind .is-directory .ensures) ∙ judged .before .before .before .before .before .if1 .left)
           (omega (arith, listed .collect-free .ensures .0, judged .clusters-for .ensures, c .before .before .before .if2 .left)) (start .pre),
     )

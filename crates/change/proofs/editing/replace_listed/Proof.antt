@@ -1,11 +1,8 @@
 -- The clusters taken are the first of those listed; pages and words are those that the change names.
-use Prim.Native.Nat.{ℕ}
-use mathlib.Core.List.{List}
-use mathlib.Core.Path.{_∙_, ap₂, sym}
+use mathlib.Core.Path.{sym}
 use native.Mathlib.Omega.{arith}
 use lib.Seq.{length-take-le}
-use Rattle.model.specs.Writes.{PageWrite}
-use Rattle.change.specs.Deeds.{imageBy}
+use Rattle.change.proofs.DeedSteps.{image-as}
 use Rattle.change.proofs.EditSteps.{few-bytes, own-inside, own-low, own-taken, replaced-lands, replaced-words, replaced-writes}
 use borrow.Author.Needs.{needs}
 use Rattle.change.proofs.editing.replace_listed.Statement.{statement}
@@ -19,7 +16,7 @@ slice-aggregate-taken c =
     let own = c .before in
     let start = own .before .before .before .before .before .before in
     let a = start .args in
-    sym (length-take-le (own .clusters-for .result) (a .list .now) (own-inside (a .table .now) (a .list .now) (a .bytes .now) (start .pre .1) (start .pre .2) (own .clusters-for .ensures)))
+    sym (length-take-le (own .clusters-for .result) (a .list .now) (own-inside (a .table .now) (a .list .now) (a .bytes .now) (start .pre .1 .listed) (start .pre .1 .room) (own .clusters-for .ensures)))
 
 slice-aggregate-none : tie.Need-slice-aggregate-none
 slice-aggregate-none c = search needs
@@ -29,7 +26,7 @@ cast-replaced-page c =
     let own = c .before .before .before .before in
     let start = own .before .before .before .before .before .before in
     let a = start .args in
-    omega (arith, few-bytes (a .table .now) (a .list .now) (a .bytes .now) (start .pre .1) (start .pre .2) (own .clusters-for .ensures) (a .image .now) (a .s) (start .pre .0))
+    omega (arith, few-bytes (a .table .now) (a .list .now) (a .bytes .now) (start .pre .1 .listed) (start .pre .1 .room) (own .clusters-for .ensures) (a .image .now) (a .s) (start .pre .0))
 
 first-of-requires : tie.Need-first-of-requires
 first-of-requires c κs = search needs
@@ -54,7 +51,7 @@ relink-requires c κs =
     let own = c .before .before .before .before .before .before .before .before .before .before .before .before .before .before .before .before in
     let start = own .before .before .before .before .before .before in
     let a = start .args in
-    (omega arith, own-low (a .table .now) (a .list .now) (a .bytes .now) (start .pre .1) (start .pre .2) (own .clusters-for .ensures) (a .image .now) (a .s) (start .pre .0))
+    (omega arith, own-low (a .table .now) (a .list .now) (a .bytes .now) (start .pre .1 .listed) (start .pre .1 .room) (own .clusters-for .ensures) (a .image .now) (a .s) (start .pre .0))
 
 put-down-requires : tie.Need-put-down-requires
 put-down-requires c κs =
@@ -65,10 +62,10 @@ put-down-requires c κs =
     record {
       card = record { opened = start .pre .0 .opened; long = omega (arith, c .before .before .before .before .relink .kept, start .pre .0 .long) };
       one = omega arith;
-      filled = own-taken (a .table .now) (a .list .now) (a .bytes .now) (start .pre .1) (start .pre .2) (own .clusters-for .ensures);
+      filled = own-taken (a .table .now) (a .list .now) (a .bytes .now) (start .pre .1 .listed) (start .pre .1 .room) (own .clusters-for .ensures);
       lands =
-          replaced-lands (a .table .now) (a .list .now) (a .bytes .now) (start .pre .1) (start .pre .2) (own .clusters-for .ensures) (a .t5) (a .t6) (a .time .now)
-          (paged .before .word-at .ensures) (paged .with-length .ensures) (paged .before .before .before .before .before .before .first-of .ensures) (paged .before .before .before .before .before .replaced-page .ensures) (a .s .end) (start .pre .3);
+          replaced-lands (a .table .now) (a .list .now) (a .bytes .now) (start .pre .1 .listed) (start .pre .1 .room) (own .clusters-for .ensures) (a .t5) (a .t6) (a .time .now)
+          (paged .before .word-at .ensures) (paged .with-length .ensures) (paged .before .before .before .before .before .before .first-of .ensures) (paged .before .before .before .before .before .replaced-page .ensures) (a .s .end) (start .pre .2);
     }
 
 same-length : tie.Need-same-length
@@ -84,11 +81,10 @@ returns c =
     let own = paged .before .before .before .before .before .before .before .before .before .before .before in
     let start = own .before .before .before .before .before .before in
     let a = start .args in
-    c .before .before .put-down .ensures
-    ∙ ap₂ (λ (w : List PageWrite) (t : List ℕ). imageBy (a .s) (a .image .now) w t)
-    (replaced-writes (a .table .now) (a .list .now) (a .bytes .now) (start .pre .1) (start .pre .2) (own .clusters-for .ensures) (a .t5) (a .t6) (a .time .now)
+    image-as (a .s) (a .image .now) (c .before .before .put-down .ensures)
+    (replaced-writes (a .table .now) (a .list .now) (a .bytes .now) (start .pre .1 .listed) (start .pre .1 .room) (own .clusters-for .ensures) (a .t5) (a .t6) (a .time .now)
     (paged .before .word-at .ensures) (paged .with-length .ensures) (paged .before .before .before .before .before .before .first-of .ensures) (paged .before .before .before .before .before .replaced-page .ensures))
-    (replaced-words (a .table .now) (a .list .now) (a .bytes .now) (start .pre .1) (start .pre .2) (own .clusters-for .ensures) (a .t6) (relinked .before .before .file-clusters .ensures) (relinked .before .before .before .word-at2 .ensures) (relinked .relink .ensures))
+    (replaced-words (a .table .now) (a .list .now) (a .bytes .now) (start .pre .1 .listed) (start .pre .1 .room) (own .clusters-for .ensures) (a .t6) (relinked .before .before .file-clusters .ensures) (relinked .before .before .before .word-at2 .ensures) (relinked .relink .ensures))
 
 pub replace-listed-spec : {M : Type 1} → statement M
 replace-listed-spec =

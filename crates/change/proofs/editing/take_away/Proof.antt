@@ -1,10 +1,7 @@
 -- Nothing is taken and nothing grows; the entry loses its bit and its clusters are freed.
-use Prim.Native.Nat.{ℕ}
-use mathlib.Core.List.{List}
-use mathlib.Core.Path.{_∙_, ap₂, refl}
+use mathlib.Core.Path.{refl}
 use native.Mathlib.Omega.{arith}
-use Rattle.model.specs.Writes.{PageWrite}
-use Rattle.change.specs.Deeds.{imageBy}
+use Rattle.change.proofs.DeedSteps.{image-as}
 use Rattle.change.proofs.EditSteps.{removed-lands, removed-writes}
 use borrow.Author.Needs.{needs}
 use Rattle.change.proofs.editing.take_away.Statement.{statement}
@@ -60,8 +57,7 @@ returns c =
     let relinked = c .before .before .before .before .before .before .before .before .before .before in
     let start = relinked .before .before .before .before .before .before .before .before .before .before .before .before .before .before in
     let a = start .args in
-    c .before .before .put-down .ensures
-    ∙ ap₂ (λ (w : List PageWrite) (t : List ℕ). imageBy (a .s) (a .image .now) w t)
+    image-as (a .s) (a .image .now) (c .before .before .put-down .ensures)
     (removed-writes (a .t4) (a .t5) (relinked .before .before .before .before .before .word-at .ensures) (relinked .before .before .before .before .with-length .ensures) (relinked .before .before .before .before .before .before .before .before .before .killed-page .ensures)) (relinked .relink .ensures)
 
 pub take-away-spec : {M : Type 1} → statement M

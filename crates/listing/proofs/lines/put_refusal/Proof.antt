@@ -10,6 +10,9 @@ use Rattle.listing.proofs.lines.put_refusal.Tie as tie
 number-requires : tie.Need-number-requires
 number-requires c κs = search needs
 
+cast-number : tie.Need-cast-number
+cast-number c = search needs
+
 page-requires : tie.Need-page-requires
 page-requires c κs = search needs
 
@@ -34,9 +37,10 @@ same-length c = search needs
 returns : tie.Need-returns
 unfolding refusalText
 returns c =
-    let n = c .before .before .before .before .before .before .before .before .before .before .before .before .before .before .before .before .before .numbers-of .ensures in
+    let page = c .before .before .before .before .before .before .before .before .before .before .before .before .before .before .before .before .before .page .ensures in
+    let number = c .before .before .before .before .before .before .before .before .before .before .before .before .before .before .before .before .before .before .number .ensures in
     wrote-append (omega arith)
-    (wrote-append (omega arith) (wrote-append (omega arith) (c .before .before .before .before .before .before .before .before .before .before .before .before .before .before .put .ensures) (wrote-as (ap decimalOf (n .0)) (c .before .before .before .before .before .before .before .before .before .before .put-number .ensures))) (wrote-as (ap₂ pageText (n .0) (n .1)) (c .before .before .before .before .before .before .put-page .ensures)))
+    (wrote-append (omega arith) (wrote-append (omega arith) (c .before .before .before .before .before .before .before .before .before .before .before .before .before .before .put .ensures) (wrote-as (ap decimalOf number) (c .before .before .before .before .before .before .before .before .before .before .put-number .ensures))) (wrote-as (ap₂ pageText number page) (c .before .before .before .before .before .before .put-page .ensures)))
     (c .before .before .put-byte .ensures)
 
 pub put-refusal-spec : {M : Type 1} → statement M
@@ -44,6 +48,7 @@ put-refusal-spec =
     tie.close
     (tie.spec
     number-requires
+    cast-number
     page-requires
     slice-aggregate-put
     put-requires

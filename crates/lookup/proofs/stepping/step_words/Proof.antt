@@ -1,20 +1,20 @@
--- `lookup::stepping::step_words` meets its contract: the words are the part of the table that is lent on.
+-- The words are the part of the table that is lent on.
 use mathlib.Core.Path.{sym}
 use lib.Seq.{length-take-le}
 use borrow.Author.Needs.{needs}
 use Rattle.lookup.proofs.stepping.step_words.Statement.{statement}
 use Rattle.lookup.proofs.stepping.step_words.Tie as tie
 
-slice-aggregate-step-card : tie.Need-slice-aggregate-step-card
-slice-aggregate-step-card c =
-    sym (length-take-le (c .before .before .before .before .args .end) (c .before .before .before .before .args .table .now) (c .before .before .before .before .pre))
+slice-aggregate-step-in : tie.Need-slice-aggregate-step-in
+slice-aggregate-step-in c =
+    let start = c .before .before .before in
+    sym (length-take-le (start .args .end) (start .args .table .now) (start .pre))
 
-step-card-requires : tie.Need-step-card-requires
-step-card-requires c κs = search needs
+step-in-requires : tie.Need-step-in-requires
+step-in-requires c κs = search needs
 
 returns : tie.Need-returns
-returns c = c .step-card .ensures
+returns c = search needs
 
 pub step-words-spec : {M : Type 1} → statement M
-step-words-spec =
-    tie.close (tie.spec slice-aggregate-step-card step-card-requires returns)
+step-words-spec = tie.close (tie.spec slice-aggregate-step-in step-in-requires returns)

@@ -15,7 +15,7 @@ same-length c = search needs
 returns : tie.Need-returns
 returns c =
     let made = c .before .before .before .before .create .ensures in
-    rw (← (made .0)) (c .tell-answer .ensures .0, (c .tell-answer .ensures .1, made .1))
+    rw (← (made .told)) (c .tell-answer .ensures .0, (c .tell-answer .ensures .1, made .left))
 
 pub ps2card-create-spec : {M : Type 1} → statement M
 ps2card-create-spec = tie.close (tie.spec create-requires tell-answer-requires same-length returns)

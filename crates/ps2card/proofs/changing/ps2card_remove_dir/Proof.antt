@@ -15,7 +15,7 @@ same-length c = search needs
 returns : tie.Need-returns
 returns c =
     let made = c .before .before .before .before .remove-dir .ensures in
-    rw (← (made .0)) (c .tell-answer .ensures .0, (c .tell-answer .ensures .1, made .1))
+    rw (← (made .told)) (c .tell-answer .ensures .0, (c .tell-answer .ensures .1, made .left))
 
 pub ps2card-remove-dir-spec : {M : Type 1} → statement M
 ps2card-remove-dir-spec = tie.close (tie.spec remove-dir-requires tell-answer-requires same-length returns)

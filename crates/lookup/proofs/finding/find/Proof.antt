@@ -1,0 +1,50 @@
+-- The answer of `stand`, asked for the entry.
+use Rattle.layout.specs.See.{viewBy}
+use Rattle.model.specs.Entry.{entryOf}
+use Rattle.lookup.specs.Find.{foundEntry}
+use Rattle.lookup.proofs.AnswerLaws.{find-at, find-refused}
+use Rattle.lookup.proofs.AskLaws.{ask-at, ask-refused}
+use borrow.Author.Needs.{needs}
+use Rattle.lookup.proofs.finding.find.Statement.{statement}
+use Rattle.lookup.proofs.finding.find.Tie as tie
+
+stand-requires : tie.Need-stand-requires
+stand-requires c κs = search needs
+
+enum-known-standing : tie.Need-enum-known-standing
+enum-known-standing c = search needs
+
+no-entry-requires : tie.Need-no-entry-requires
+no-entry-requires c κs = search needs
+
+enum-told : tie.Need-enum-told
+enum-told c = search needs
+
+entry-of-requires : tie.Need-entry-of-requires
+entry-of-requires c κs = search needs
+
+returns : tie.Need-returns
+returns c =
+    let a = c .before .before .before .before .before .before .before .before .args in
+    let way = c .before .before .before .before in
+    let told = c .before .before in
+    find-refused _ (told .standing .given .0 .0) _ (ask-refused (λ s. foundEntry) _ (a .image .now) (a .path .now) (way .stand .result) (way .stand .ensures .0) (told .standing .given .0 .0) (told .standing .given .1)) (c .no-entry .ensures)
+
+returns-2 : tie.Need-returns-2
+returns-2 c =
+    let a = c .before .before .before .before .before .before .before .before .before .args in
+    let way = c .before .before .before .before .before in
+    let told = c .before .before .before in
+    find-at _ _ _ (entryOf (way .stand .result .page)) _ (ask-at (λ s. foundEntry) _ (a .image .now) (a .path .now) (way .stand .result) (way .stand .ensures .0) (told .enum-told .given .0 .0) (told .enum-told .given .0 .1 .0) (told .enum-told .given .1)) (c .entry-of .ensures)
+
+pub find-spec : {M : Type 1} → statement M
+find-spec =
+    tie.close
+    (tie.spec
+    stand-requires
+    enum-known-standing
+    no-entry-requires
+    enum-told
+    entry-of-requires
+    returns
+    returns-2)

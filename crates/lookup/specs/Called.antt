@@ -1,0 +1,53 @@
+-- What the way of a call answers, for the questions that go on from it.
+use Prim.Native.Nat.{ℕ, _≤_}
+use mathlib.Core.List.{List, []}
+use mathlib.Core.Path.{_≡_}
+use lib.ListN.{replicate, take}
+use Rattle.fields.specs.PathBytes.{pathOf}
+use Rattle.layout.specs.Refusal.{numberOf, pageOf}
+use Rattle.layout.specs.See.{viewBy}
+use Rattle.layout.specs.declared.Refusal.{Refusal}
+use Rattle.layout.specs.declared.Superblock.{Superblock}
+use Rattle.model.specs.Check.{Result, fault, ok}
+use Rattle.model.specs.Entry.{entryOf}
+use Rattle.model.specs.Holds.{HoldsCard}
+use Rattle.model.specs.Tree.{Root, Slot, Tree}
+use Rattle.model.specs.View.{View, mostClusters}
+use Rattle.lookup.specs.Descend.{Stands}
+use Rattle.lookup.specs.Paths.{standing, standingOf, withPath}
+use Rattle.lookup.specs.declared.call.Standing.{Standing}
+use Rattle.lookup.specs.declared.call.Standing.the-variants as stood
+use Rattle.lookup.specs.declared.call.Stood.{Stood}
+
+-- the view of a card that stands open, by the words that the lent room has
+abbrev pub viewIn : List ℕ → List ℕ → Standing → View
+viewIn words image (stood.At s first) = viewBy (s .geometry) (take (s .end) words) image
+viewIn words image (stood.Refused f) = viewBy (record { offset = 0 }) [] image
+
+abbrev pub refusedAs : Refusal → Stood
+refusedAs f = record { standing = stood.Refused f; page = replicate 512 0 }
+
+-- the refusal; or the card, and in the page the entry of what stands at the path, as the view holds it
+abbrev pub TellsAs : View → Result (Superblock × Slot × Tree) → Standing → List ℕ → Type 0
+TellsAs v (fault n p) (stood.Refused f) page = (n ≡ numberOf f) × (p ≡ pageOf f) × (page ≡ replicate 512 0)
+TellsAs v (fault n p) (stood.At s first) page = ⊥
+TellsAs v (ok x) (stood.Refused f) page = ⊥
+TellsAs v (ok x) (stood.At s first) page = (x .0 ≡ s) × Stands v first (entryOf page) (x .1) (x .2)
+
+-- the card is the one given
+abbrev pub Of : Superblock → Standing → Type 0
+Of card (stood.At s first) = s ≡ card
+Of card (stood.Refused f) = Unit {0}
+
+-- of a way on one card: whatever tree its view holds
+abbrev pub TellsWay : View → Superblock → List ℕ → Stood → Type 0
+TellsWay v card bytes r = ((root : Root) → HoldsCard v root → TellsAs v (withPath (pathOf bytes) (standing card root)) (r .standing) (r .page)) × Of card (r .standing)
+
+-- of a whole call, with the words in the room
+abbrev pub TellsStood : List ℕ → List ℕ → List ℕ → Stood → Type 0
+TellsStood words image bytes r = TellsAs (viewIn words image (r .standing)) (standingOf image bytes) (r .standing) (r .page)
+
+-- the card's words fit the room
+abbrev pub Fits : Standing → Type 0
+Fits (stood.Refused f) = Unit {0}
+Fits (stood.At s first) = s .end ≤ mostClusters
