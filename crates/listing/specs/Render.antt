@@ -5,11 +5,14 @@ use mathlib.Core.List.{List, [], _++_, _∷_}
 use mathlib.Core.Option.{Option, none, some}
 use mathlib.Core.Path.{_≡_}
 use Rattle.model.specs.Entry.{Entry, isDirectory, isLive}
+use Rattle.model.specs.Holds.{HoldsCard}
+use Rattle.model.specs.Tree.{Root}
 use Rattle.model.specs.View.{View}
 use Rattle.tree.specs.Slots.{nextOf, slotPages}
 use Rattle.listing.specs.declared.entries.Listed.{Listed}
+use Rattle.listing.specs.Emit.{Wrote}
 use Rattle.listing.specs.Paths.{nameRoom, pathBytes}
-use Rattle.listing.specs.Text.{directoryLetter, entryLine, fileLetter, within}
+use Rattle.listing.specs.Text.{directoryLetter, entryLine, fileLetter, treeText, within}
 
 -- the line of the entry in a page; an unreadable page and a dead entry have none
 abbrev pub lineAt : List ℕ → Option Entry → List ℕ
@@ -43,3 +46,7 @@ pub record Leads (table path : List ℕ) (o : Option Entry) (len : ℕ) (listed 
   pub short : listed .path .len ≤ len + nameRoom
   pub inside : (deeper : Texts) → ((q : List ℕ) → deeper q [] ≡ [])
       → deeper (pathBytes (listed .path)) (slotPages table (listed .start) 0 (listed .count)) ≡ insideAt table deeper path o
+
+-- all entries of a card, whatever tree the view holds
+abbrev pub WroteTree : View → List ℕ → ℕ → List ℕ → ℕ → Type 0
+WroteTree v before at after r = (root : Root) → HoldsCard v root → Wrote before at (treeText [] (root .slots)) after r

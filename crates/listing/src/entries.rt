@@ -13,16 +13,12 @@ use tree::slots::next_of;
 use tree::slots::read_slot;
 use tree::slots::slot_page;
 use tree::slots::slots_of;
-ghost use mathlib.Core.List.{[]};
 ghost use Prim.Native.Nat.{_+_, _*_, _<_, _≤_};
 ghost use Rattle.layout.specs.See.{viewBy};
-ghost use Rattle.model.specs.Holds.{HoldsCard};
-ghost use Rattle.model.specs.Tree.{Root};
 ghost use Rattle.tree.specs.Slots.{slotPages};
 ghost use Rattle.listing.specs.Emit.{Wrote};
 ghost use Rattle.listing.specs.Paths.{nameRoom, pathBytes, pathRoom};
-ghost use Rattle.listing.specs.Render.{Leads, lineAt, slotsText};
-ghost use Rattle.listing.specs.Text.{treeText};
+ghost use Rattle.listing.specs.Render.{Leads, WroteTree, lineAt, slotsText};
 
 // An entry after its line: the next place, its path, and the slots inside it, which begin in cluster `start`. Only a directory has any.
 pub(crate) struct Listed {
@@ -132,7 +128,7 @@ pub(crate) fn list_tree(
     out: &mut [u8],
     at: usize,
 ) -> usize
-    ensures { λ r. ⌜ ((root : Root) → HoldsCard (viewBy geometry (now (table .entry)) (now (image .entry))) root → Wrote (now (out .entry)) at (treeText [] (root .slots)) (now (out .exit)) r) ⌝ }
+    ensures { λ r. ⌜ WroteTree (viewBy geometry (now (table .entry)) (now (image .entry))) (now (out .entry)) at (now (out .exit)) r ⌝ }
 {
     let mut d = [0u8; 512];
     if !read_slot(image, geometry, table.len(), 0, &mut d) {

@@ -14,17 +14,15 @@ use model::MOST_CLUSTERS;
 use tree::Checked;
 use tree::Counts;
 use tree::check;
-ghost use mathlib.Core.List.{[]};
 ghost use mathlib.Core.Path.{_≡_};
 ghost use Prim.Native.Nat.{_≤_};
 ghost use lib.ListN.{length, take};
 ghost use Rattle.layout.specs.See.{viewBy};
 ghost use Rattle.model.specs.Check.{ok};
-ghost use Rattle.model.specs.Holds.{HoldsCard};
-ghost use Rattle.model.specs.Tree.{Root};
 ghost use Rattle.tree.specs.Counted.{checkOf};
 ghost use Rattle.listing.specs.Emit.{Wrote};
-ghost use Rattle.listing.specs.Text.{fitted, listingOf, treeText};
+ghost use Rattle.listing.specs.Render.{WroteTree};
+ghost use Rattle.listing.specs.Text.{fitted, listingOf};
 
 // The lines of all entries by the first `end` words of a table.
 fn list_words(
@@ -36,7 +34,7 @@ fn list_words(
     at: usize,
 ) -> usize
     requires { ⌜ end ≤ length (now table) ⌝ }
-    ensures { λ r. ⌜ ((root : Root) → HoldsCard (viewBy geometry (take end (now (table .entry))) (now (image .entry))) root → Wrote (now (out .entry)) at (treeText [] (root .slots)) (now (out .exit)) r) ⌝ }
+    ensures { λ r. ⌜ WroteTree (viewBy geometry (take end (now (table .entry))) (now (image .entry))) (now (out .entry)) at (now (out .exit)) r ⌝ }
 {
     list_tree(image, &table[..end], geometry, out, at)
 }

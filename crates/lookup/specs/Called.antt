@@ -2,10 +2,11 @@
 use Prim.Native.Nat.{ℕ, _≤_}
 use mathlib.Core.List.{List, []}
 use mathlib.Core.Path.{_≡_}
-use lib.ListN.{replicate, take}
+use lib.ListN.{length, replicate, take}
 use Rattle.fields.specs.PathBytes.{pathOf}
 use Rattle.layout.specs.Refusal.{numberOf, pageOf}
-use Rattle.layout.specs.See.{viewBy}
+use Rattle.layout.specs.See.{onImage, viewBy}
+use Rattle.layout.specs.declared.Geometry.{Geometry}
 use Rattle.layout.specs.declared.Refusal.{Refusal}
 use Rattle.layout.specs.declared.Superblock.{Superblock}
 use Rattle.model.specs.Check.{Result, fault, ok}
@@ -13,11 +14,16 @@ use Rattle.model.specs.Entry.{entryOf}
 use Rattle.model.specs.Holds.{HoldsCard}
 use Rattle.model.specs.Tree.{Root, Slot, Tree}
 use Rattle.model.specs.View.{View, mostClusters}
+use Rattle.lookup.specs.Answers.{TellsRead, TellsStep}
 use Rattle.lookup.specs.Descend.{Stands}
 use Rattle.lookup.specs.Paths.{standing, standingOf, withPath}
+use Rattle.lookup.specs.Read.{readFrom}
+use Rattle.lookup.specs.Step.{stepFrom}
 use Rattle.lookup.specs.declared.call.Standing.{Standing}
 use Rattle.lookup.specs.declared.call.Standing.the-variants as stood
 use Rattle.lookup.specs.declared.call.Stood.{Stood}
+use Rattle.lookup.specs.declared.reading.ReadOutcome.{ReadOutcome}
+use Rattle.lookup.specs.declared.stepping.SteppedEntry.{SteppedEntry}
 
 -- the view of a card that stands open, by the words that the lent room has
 abbrev pub viewIn : List ℕ → List ℕ → Standing → View
@@ -51,3 +57,12 @@ TellsStood words image bytes r = TellsAs (viewIn words image (r .standing)) (sta
 abbrev pub Fits : Standing → Type 0
 Fits (stood.Refused f) = Unit {0}
 Fits (stood.At s first) = s .end ≤ mostClusters
+
+-- ---- what is asked of an entry's page and the cluster in which its chain begins, whatever stands there
+
+abbrev pub StepsAt : View → ℕ → List ℕ → ℕ → SteppedEntry → Type 0
+StepsAt v first page slot r = (h : Slot) (s : Tree) → Stands v first (entryOf page) h s → TellsStep (stepFrom slot h s) r
+
+abbrev pub ReadsAt : View → Geometry → ℕ → List ℕ → ℕ → ReadOutcome → List ℕ → List ℕ → Type 0
+ReadsAt v geometry first page from r before after =
+    (h : Slot) (s : Tree) → Stands v first (entryOf page) h s → TellsRead (onImage geometry (readFrom from (length before) h s)) r before after

@@ -42,6 +42,13 @@ abbrev pub Within : ℕ → Place → Type 0
 Within count place.Nowhere = Unit {0}
 Within count (place.At k p) = (p < pageLimit) × (k < count)
 
+-- the answer of a scan: of the slots `low` to `high` - 1, and of the first `count`
+abbrev pub FirstFrom : (ℕ → ℕ → Bool) → List ℕ → ℕ → ℕ → ℕ → Place → Type 0
+FirstFrom test table start low high r = (r ≡ scan test (slotPages table start low (high - low)) low) × Within high r
+
+abbrev pub FirstOf : (ℕ → ℕ → Bool) → List ℕ → ℕ → ℕ → Place → Type 0
+FirstOf test table start count r = (r ≡ scan test (slotPages table start 0 count) 0) × Within count r
+
 -- a live entry that bears the name
 abbrev pub bears : Name → Option Entry → Bool
 bears n none = false

@@ -6,11 +6,10 @@ use tree::slots::next_of;
 use tree::slots::read_slot;
 use tree::slots::slot_page;
 ghost use mathlib.Core.Path.{_≡_};
-ghost use Prim.Native.Nat.{_-_};
 ghost use Rattle.lookup.specs.declared.along.Place.the-variants.{Nowhere};
 ghost use Rattle.layout.specs.See.{viewBy};
-ghost use Rattle.tree.specs.Slots.{clusterAt, slotPages};
-ghost use Rattle.lookup.specs.Descend.{Within, bearing, bears, dies, dying, livingFrom, scan, seeks, unread};
+ghost use Rattle.tree.specs.Slots.{clusterAt};
+ghost use Rattle.lookup.specs.Descend.{FirstFrom, FirstOf, bearing, bears, dies, dying, livingFrom, seeks, unread};
 
 // A slot of a directory, counted from slot 2, and its page.
 pub enum Place {
@@ -101,7 +100,7 @@ fn first_sought(
     sought: Sought,
     name: &[u8],
 ) -> Place
-    ensures { λ r. ⌜ (r ≡ scan (seeks (viewBy geometry (now (table .entry)) (now (image .entry))) sought (now (name .entry))) (slotPages (now (table .entry)) start low (high - low)) low) × Within high r ⌝ }
+    ensures { λ r. ⌜ FirstFrom (seeks (viewBy geometry (now (table .entry)) (now (image .entry))) sought (now (name .entry))) (now (table .entry)) start low high r ⌝ }
 {
     let mut c = start;
     let mut k = low;
@@ -130,7 +129,7 @@ pub fn find_name(
     count: u32,
     name: &[u8],
 ) -> Place
-    ensures { λ r. ⌜ (r ≡ scan (bearing (viewBy geometry (now (table .entry)) (now (image .entry))) (now (name .entry))) (slotPages (now (table .entry)) start 0 count) 0) × Within count r ⌝ }
+    ensures { λ r. ⌜ FirstOf (bearing (viewBy geometry (now (table .entry)) (now (image .entry))) (now (name .entry))) (now (table .entry)) start count r ⌝ }
 {
     first_sought(image, table, geometry, start, 0, count, Sought::Named, name)
 }
@@ -144,7 +143,7 @@ pub fn first_live(
     count: u32,
     from: u32,
 ) -> Place
-    ensures { λ r. ⌜ (r ≡ scan (livingFrom (viewBy geometry (now (table .entry)) (now (image .entry))) from) (slotPages (now (table .entry)) start 0 count) 0) × Within count r ⌝ }
+    ensures { λ r. ⌜ FirstOf (livingFrom (viewBy geometry (now (table .entry)) (now (image .entry))) from) (now (table .entry)) start count r ⌝ }
 {
     first_sought(
         image,
@@ -160,7 +159,7 @@ pub fn first_live(
 
 // The first of them whose entry is dead.
 pub fn first_dead(image: &[u8], table: &[u32], geometry: Geometry, start: u32, count: u32) -> Place
-    ensures { λ r. ⌜ (r ≡ scan (dying (viewBy geometry (now (table .entry)) (now (image .entry)))) (slotPages (now (table .entry)) start 0 count) 0) × Within count r ⌝ }
+    ensures { λ r. ⌜ FirstOf (dying (viewBy geometry (now (table .entry)) (now (image .entry)))) (now (table .entry)) start count r ⌝ }
 {
     first_sought(image, table, geometry, start, 0, count, Sought::Dead, b"")
 }
@@ -174,7 +173,7 @@ pub fn first_unreadable(
     low: u32,
     high: u32,
 ) -> Place
-    ensures { λ r. ⌜ (r ≡ scan (unread (viewBy geometry (now (table .entry)) (now (image .entry)))) (slotPages (now (table .entry)) start low (high - low)) low) × Within high r ⌝ }
+    ensures { λ r. ⌜ FirstFrom (unread (viewBy geometry (now (table .entry)) (now (image .entry)))) (now (table .entry)) start low high r ⌝ }
 {
     first_sought(
         image,

@@ -19,15 +19,14 @@ ghost use lib.ListN.{length, take};
 ghost use lib.Seq.{sets};
 ghost use Rattle.model.specs.Bytes.{slice, wordLimit};
 ghost use Rattle.lookup.specs.declared.along.Place.the-variants.{Nowhere};
-ghost use Rattle.layout.specs.See.{onImage, viewBy};
+ghost use Rattle.layout.specs.See.{viewBy};
 ghost use mathlib.Core.Bool.{cond};
 ghost use lib.Dec.{leb};
-ghost use Rattle.model.specs.Entry.{entryOf};
-ghost use Rattle.model.specs.Tree.{Slot, Tree};
 ghost use Rattle.lookup.specs.Answers.{TellsRead};
-ghost use Rattle.lookup.specs.Read.{readFrom, readOf};
+ghost use Rattle.lookup.specs.Called.{ReadsAt};
+ghost use Rattle.lookup.specs.Read.{readOf};
 ghost use Rattle.tree.specs.Slots.{slotPages};
-ghost use Rattle.lookup.specs.Descend.{Piece, Stands, dataAlong, pagesFor, scan, unread};
+ghost use Rattle.lookup.specs.Descend.{Piece, dataAlong, pagesFor, scan, unread};
 
 // How many bytes a read copied.
 pub enum ReadOutcome {
@@ -117,7 +116,7 @@ fn read_in(
     from: usize,
     out: &mut [u8],
 ) -> ReadOutcome
-    ensures { λ r. ⌜ ((h : Slot) (s : Tree) → Stands (viewBy geometry (now (table .entry)) (now (image .entry))) first (entryOf (now (page .entry))) h s → TellsRead (onImage geometry (readFrom from (length (now (out .entry))) h s)) r (now (out .entry)) (now (out .exit))) ⌝ }
+    ensures { λ r. ⌜ ReadsAt (viewBy geometry (now (table .entry)) (now (image .entry))) geometry first (now (page .entry)) from r (now (out .entry)) (now (out .exit)) ⌝ }
 {
     if is_directory(page) {
         return ReadOutcome::Refused(Refusal::WrongKind);
@@ -158,7 +157,7 @@ fn read_words(
     out: &mut [u8],
 ) -> ReadOutcome
     requires { ⌜ end ≤ length (now table) ⌝ }
-    ensures { λ r. ⌜ ((h : Slot) (s : Tree) → Stands (viewBy geometry (take end (now (table .entry))) (now (image .entry))) first (entryOf (now (page .entry))) h s → TellsRead (onImage geometry (readFrom from (length (now (out .entry))) h s)) r (now (out .entry)) (now (out .exit))) ⌝ }
+    ensures { λ r. ⌜ ReadsAt (viewBy geometry (take end (now (table .entry))) (now (image .entry))) geometry first (now (page .entry)) from r (now (out .entry)) (now (out .exit)) ⌝ }
 {
     read_in(image, &table[..end], geometry, first, page, from, out)
 }

@@ -17,11 +17,9 @@ use tree::slots::slots_of;
 ghost use Prim.Native.Nat.{_+_, _≤_};
 ghost use lib.ListN.{length, take};
 ghost use Rattle.layout.specs.See.{viewBy};
-ghost use Rattle.model.specs.Entry.{entryOf};
-ghost use Rattle.model.specs.Tree.{Slot, Tree};
 ghost use Rattle.lookup.specs.Answers.{TellsStep};
-ghost use Rattle.lookup.specs.Step.{stepFrom, stepOf};
-ghost use Rattle.lookup.specs.Descend.{Stands};
+ghost use Rattle.lookup.specs.Step.{stepOf};
+ghost use Rattle.lookup.specs.Called.{StepsAt};
 
 // The slot that a directory step leads to.
 pub enum Stepped {
@@ -45,7 +43,7 @@ fn step_in(
     page: &[u8; 512],
     slot: u32,
 ) -> SteppedEntry
-    ensures { λ r. ⌜ ((h : Slot) (s : Tree) → Stands (viewBy geometry (now (table .entry)) (now (image .entry))) first (entryOf (now (page .entry))) h s → TellsStep (stepFrom slot h s) r) ⌝ }
+    ensures { λ r. ⌜ StepsAt (viewBy geometry (now (table .entry)) (now (image .entry))) first (now (page .entry)) slot r ⌝ }
 {
     if !is_directory(page) {
         return SteppedEntry {
@@ -93,7 +91,7 @@ fn step_words(
     slot: u32,
 ) -> SteppedEntry
     requires { ⌜ end ≤ length (now table) ⌝ }
-    ensures { λ r. ⌜ ((h : Slot) (s : Tree) → Stands (viewBy geometry (take end (now (table .entry))) (now (image .entry))) first (entryOf (now (page .entry))) h s → TellsStep (stepFrom slot h s) r) ⌝ }
+    ensures { λ r. ⌜ StepsAt (viewBy geometry (take end (now (table .entry))) (now (image .entry))) first (now (page .entry)) slot r ⌝ }
 {
     step_in(image, &table[..end], geometry, first, page, slot)
 }

@@ -9,7 +9,7 @@ use Rattle.fields.specs.declared.kinds.Kind.{Kind}
 use Rattle.fields.specs.declared.kinds.Kind.the-variants as kind
 use Rattle.layout.specs.declared.Geometry.{Geometry}
 use Rattle.layout.specs.Refusal.{numberOf, pageOf}
-use Rattle.layout.specs.See.{onImage}
+use Rattle.layout.specs.See.{imagePage, onImage}
 use Rattle.model.specs.Check.{Marks, Result, andThen, fault, followChain, judgeDots, marks, ok, walkDirectory}
 use Rattle.model.specs.Entry.{Entry, clustersFor, isFile, isLive, isSubdirectory}
 use Rattle.model.specs.Names.{Name}
@@ -23,7 +23,7 @@ use Rattle.tree.specs.declared.walk.Look.the-variants as look
 use Rattle.tree.specs.declared.walk.Verdict.{Verdict}
 use Rattle.tree.specs.declared.walk.Verdict.the-variants as verdict
 use Rattle.tree.specs.declared.walk.Walked.{Walked}
-use Rattle.tree.specs.Slots.{nextOf, slotPages}
+use Rattle.tree.specs.Slots.{liveBefore, nextOf, slotPage, slotPages}
 
 -- what was reached, the tree left out
 abbrev pub marksOnly : Result (Tree × Marks) → Result Marks
@@ -51,6 +51,10 @@ lookedAt seen page (some e) =
     (pickLook (isSubdirectory e) (look.Directory (e .length) (e .firstCluster)) look.Bad))
     look.Bad)
     look.Dead
+
+-- slot k, in cluster c, of the directory whose slots begin in cluster `start`
+abbrev pub lookedIn : View → Geometry → List ℕ → ℕ → ℕ → ℕ → Look
+lookedIn v geometry table start c k = lookedAt (liveBefore v table start k) (imagePage geometry (slotPage c k)) (v .entry (slotPage c k))
 
 -- the look by what the entry's page is, where its name is new
 abbrev pub lookBy : Kind → Look

@@ -23,14 +23,14 @@ ghost use mathlib.Core.Path.{_≡_};
 ghost use Prim.Native.Nat.{_+_, _-_, _*_, _<_, _≤_};
 ghost use lib.ListN.{length};
 ghost use Rattle.model.specs.Bytes.{pageLimit};
-ghost use Rattle.layout.specs.See.{imagePage, onImage, viewBy};
+ghost use Rattle.layout.specs.See.{onImage, viewBy};
 ghost use mathlib.Core.List.{_∷_, []};
 ghost use Rattle.model.specs.Check.{checkTree, judgeDot, judgeDots};
 ghost use Rattle.model.specs.View.{mostClusters};
 ghost use Rattle.reached.specs.Marks.{Sound, marksOf};
 ghost use Rattle.tree.specs.Filter.{Knows};
-ghost use Rattle.tree.specs.Slots.{clusterAt, liveBefore, slotPage};
-ghost use Rattle.tree.specs.Walk.{Judges, Tells, enteredLook, insideOf, isSound, lookBy, lookedAt, rootMarks};
+ghost use Rattle.tree.specs.Slots.{clusterAt};
+ghost use Rattle.tree.specs.Walk.{Judges, Tells, enteredLook, insideOf, isSound, lookBy, lookedIn, rootMarks};
 
 // How a part of the tree is judged.
 pub(crate) enum Verdict {
@@ -84,7 +84,7 @@ fn look_at(
     bits: &mut [u64; 4096],
 ) -> Look
     requires { ⌜ (c ≡ clusterAt (now table) start k) × Knows (viewBy geometry (now table) (now image)) (now table) start k (now bits) ⌝ }
-    ensures { λ r. ⌜ r ≡ lookedAt (liveBefore (viewBy geometry (now (table .entry)) (now (image .entry))) (now (table .entry)) start k) (imagePage geometry (slotPage c k)) ((viewBy geometry (now (table .entry)) (now (image .entry))) .entry (slotPage c k)) ⌝ }
+    ensures { λ r. ⌜ r ≡ lookedIn (viewBy geometry (now (table .entry)) (now (image .entry))) geometry (now (table .entry)) start c k ⌝ }
     ensures { λ r. ⌜ Knows (viewBy geometry (now (table .entry)) (now (image .entry))) (now (table .entry)) start (k + 1) (now (bits .exit)) ⌝ }
 {
     let page = slot_page(c, k);
