@@ -1,4 +1,4 @@
--- The image that an accepted change leaves (docs/RULES.md, "Changes"): the pages of the new clusters, of the directory's entry and of
+-- The image that an accepted change leaves (RULES, "Changes"): the pages of the new clusters, of the directory's entry and of
 -- the change's own, then the table's pages. A page's data as read is compared where a page is not written in any case.
 use Prim.Native.Nat.{ℕ, zero, suc, _+_, _-_, _*_, _<_, min}
 use mathlib.Core.Bool.{false}

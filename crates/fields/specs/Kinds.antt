@@ -1,4 +1,4 @@
--- What an entry from slot 2 on is (01, "Directories"), in the order in which the model's check judges it.
+-- What an entry from slot 2 on is (RULES, "Directories"), in the order in which the model's check judges it.
 use mathlib.Core.Bool.{cond}
 use Rattle.model.specs.Entry.{Entry, isFile, isLive, isSubdirectory}
 use Rattle.fields.specs.declared.kinds.Kind.the-variants.{Bad, Dead, Directory, File}

@@ -1,4 +1,4 @@
--- A path as bytes (01, "Changes"): `/`, or one to four names each after `/`, each name by the entry's name rule.
+-- A path as bytes (RULES, "Changes"): `/`, or one to four names each after `/`, each name by the entry's name rule.
 use Prim.Native.Nat.{suc, ℕ}
 use mathlib.Core.Bool.{_&&_, cond}
 use mathlib.Core.List.{List, [], _∷_}

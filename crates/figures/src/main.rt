@@ -1,4 +1,4 @@
-// Runs the figures of document 01 ("Numbers to meet") on the bench card, each on a fresh copy of it.
+// Runs the figures (RULES, "Numbers to meet") on the bench card, each on a fresh copy of it.
 use change::Answer;
 use lookup::reading::ReadOutcome;
 use tree::Checked;

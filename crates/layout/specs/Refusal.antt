@@ -1,4 +1,4 @@
--- The paper's number for each refusal, and the page that goes with number 2 (01, "Refusal numbers, in order").
+-- The paper's number for each refusal, and the page that goes with number 2 (RULES, "Refusal numbers, in order").
 use Prim.Native.Nat.{ℕ}
 use Rattle.layout.specs.declared.Refusal.{Refusal}
 use Rattle.layout.specs.declared.Refusal.the-variants as is

@@ -1,4 +1,4 @@
--- The superblock in page 0 (01, "Superblock and table"): refusals 1 to 4.
+-- The superblock in page 0 (RULES, "Superblock and table"): refusals 1 to 4.
 use Prim.Native.Nat.{ℕ, _+_, _*_, _/_, _%_}
 use mathlib.Core.Bool.{Bool, not, _&&_, _||_}
 use mathlib.Core.List.{List, [], _∷_}

@@ -1,4 +1,4 @@
--- The indirect cluster, the table's clusters and the table's words (01, "Superblock and table"): refusals 1 to 5 in the check's order.
+-- The indirect cluster, the table's clusters and the table's words (RULES, "Superblock and table"): refusals 1 to 5 in the check's order.
 use Prim.Native.Nat.{ℕ, zero, suc, _+_, _*_, _/_, _%_}
 use mathlib.Core.Bool.{Bool, true, false, _&&_}
 use mathlib.Core.List.{List, [], _∷_, _++_}

@@ -1,4 +1,4 @@
--- The listing (01, "What the build covers"): the counts, then every entry in tree order, a line each; on a refusal one line only.
+-- The listing (RULES, "What the build covers"): the counts, then every entry in tree order, a line each; on a refusal one line only.
 use Prim.Native.Nat.{ℕ, suc, zero, _%_, _+_, _/_}
 use mathlib.Core.Bool.{cond}
 use mathlib.Core.List.{List, [], _++_, _∷_}

@@ -1,4 +1,4 @@
--- Finding answers the entry, for the root its first one (01, "What the build covers").
+-- Finding answers the entry, for the root its first one (RULES, "What the build covers").
 use Prim.Native.Nat.{ℕ}
 use mathlib.Core.List.{List}
 use Rattle.model.specs.Check.{Result, fault, ok}

@@ -1,4 +1,4 @@
--- What is asked at a path (01, "Refusal numbers"): the check first, then 8, then 9 and 10 as met from the left.
+-- What is asked at a path (RULES, "Refusal numbers, in order"): the check first, then 8, then 9 and 10 as met from the left.
 use Prim.Native.Nat.{ℕ, suc, zero}
 use mathlib.Core.List.{List}
 use mathlib.Core.Option.{Option, none, some}

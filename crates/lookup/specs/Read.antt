@@ -1,4 +1,4 @@
--- Reading copies bytes from the offset until the file or the buffer ends (01, "Changes"). Data pages are read only where they have
+-- Reading copies bytes from the offset until the file or the buffer ends (RULES, "Changes"). Data pages are read only where they have
 -- a byte to copy; number 2 for the first of them comes last.
 use Prim.Native.Nat.{ℕ, _%_, _+_, _-_, _/_}
 use mathlib.Core.Bool.{cond}

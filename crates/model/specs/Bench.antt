@@ -1,4 +1,4 @@
--- The bench card of document 01 as a view: 30 allocatable clusters, only a root of length 2. Its numbers to meet.
+-- The bench card (RULES, "Numbers to meet") as a view: 30 allocatable clusters, only a root of length 2. Its numbers to meet.
 use Prim.Native.Nat.{ℕ}
 use mathlib.Core.Bool.{cond}
 use mathlib.Core.List.{List, [], _∷_}

@@ -93,7 +93,7 @@ pub record Rules : Type 0 where
   pub mayTake : ℕ → Bool
   pub locked : Change → Option Standing → Option Standing → ℕ
 
--- in document 01 every free cluster may be taken and nothing is locked
+-- as the rules stand, every free cluster may be taken and nothing is locked
 abbrev pub baseRules : (allocEnd : ℕ) → allocEnd ≤ mostClusters → Rules
 baseRules allocEnd limited =
     record { allocEnd = allocEnd; limited = limited; mayTake = λ c. true; locked = λ c d f. 0 }

@@ -2,7 +2,7 @@
 ghost use Rattle.model.specs.Claims.{ChainsAreSound, CheckIsHolding, ViewCountsAddUp, AcceptedExactly, ViewChangeKeeps, WritesGiveView, ViewDemand3};
 ghost use Rattle.model.specs.Bench.{BenchNumbers};
 
-// The limits of document 01, each with its one name in code: the largest N, how far below the root a directory may lie, and the most names of a path.
+// The limits (RULES), each with its one name in code: the largest N, how far below the root a directory may lie, and the most names of a path.
 pub const MOST_CLUSTERS: usize = 8192;
 
 pub const DEEPEST: u32 = 3;

@@ -1,4 +1,4 @@
--- Pages of a raw card image and their code (01, "Pages and their code"). Each rule speaks of one raw page;
+-- Pages of a raw card image and their code (RULES, "Pages and their code"). Each rule speaks of one raw page;
 -- only `pagesIn`, `pageAt` and `put` know where in the image it lies. No crate above opens them: it goes by PageLaws.
 use mathlib.Core.Path.{_≡_}
 use mathlib.Core.Bool.{Bool, true, false, cond, not, _&&_, _||_}

@@ -1,4 +1,4 @@
--- A sound chain of k clusters (01, "Superblock and table"): every cluster is below alloc_end, is not free, has not been reached before,
+-- A sound chain of k clusters (RULES, "Superblock and table"): every cluster is below alloc_end, is not free, has not been reached before,
 -- and the end mark stands at exactly the k-th. The record of the clusters reached is handed through.
 use Prim.Native.Nat.{_-_, suc, zero, ℕ}
 use mathlib.Core.Bool.{cond, false}

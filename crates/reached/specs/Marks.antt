@@ -1,4 +1,4 @@
--- The record of which clusters have been reached so far (01, "Superblock and table"): 8,192 marks, and how many are set.
+-- The record of which clusters have been reached so far (RULES, "Superblock and table"): 8,192 marks, and how many are set.
 use Prim.Native.Nat.{_%_, _+_, _/_, _^_, ℕ}
 use mathlib.Core.Bool.{Bool, _&&_, cond, false, not}
 use mathlib.Core.List.{List}

@@ -1,4 +1,4 @@
--- The check of an image (01): refusals 1 to 7 in their order, or free, reached and orphaned, each by its own definition.
+-- The check of an image (RULES, "Refusal numbers, in order"): refusals 1 to 7 in their order, or free, reached and orphaned, each by its own definition.
 use Prim.Native.Nat.{ℕ, _+_}
 use mathlib.Core.List.{List}
 use mathlib.Core.Path.{_≡_}

@@ -1,4 +1,4 @@
-// The walk of the directory tree, depth first (01, "Directories"): the first fault met, or the clusters reached.
+// The walk of the directory tree, depth first (RULES, "Directories"): the first fault met, or the clusters reached.
 use crate::filter::meet;
 use crate::slots::name_taken;
 use crate::slots::next_of;
