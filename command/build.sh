@@ -69,28 +69,37 @@ crates_below() {
 # What a crate takes, in seconds on two processors: measured, about one for each two kilobytes of its functions' proofs.
 seconds_of() { echo $(($(find "$home/crates/$1/proofs" -name Proof.antt -exec cat {} + 2>/dev/null | wc -c) / 2000 + 4)); }
 
-# Reads what rt prints and says how far it is; all of it goes to a log.
+# Reads what rt prints, all of it into a log, and says how far it is whenever rt is silent for a second: crates that are
+# proved already pass without a word.
 tell_progress() {
-    local log=$1 name total=0 done=0 left=0 line began=$SECONDS past=0
+    local log=$1 name total=0 done=0 told=-1 left=0 line part='' began=$SECONDS past=0
     local -A seconds
     for name in $(crates_below ps2card); do
         seconds[$name]=$(seconds_of "$name")
         left=$((left + seconds[$name]))
         total=$((total + 1))
     done
-    how_far
-    while IFS= read -r line; do
-        echo "$line" >>"$log"
-        case $line in
-        'rt: '*' proved ('*)
-            name=${line#rt: }
-            name=${name%% *}
-            done=$((done + 1))
-            left=$((left - ${seconds[$name]:-0}))
-            [[ $line == *'(unchanged '* ]] || past=$((past + ${seconds[$name]:-0}))
-            how_far
-            ;;
-        esac
+    while :; do
+        if IFS= read -r -t 1 line; then
+            line=$part$line
+            part=
+            echo "$line" >>"$log"
+            case $line in
+            'rt: '*' proved ('*)
+                name=${line#rt: }
+                name=${name%% *}
+                done=$((done + 1))
+                left=$((left - ${seconds[$name]:-0}))
+                [[ $line == *'(unchanged '* ]] || past=$((past + ${seconds[$name]:-0}))
+                ;;
+            esac
+        elif [ $? -gt 128 ]; then
+            part=$part$line
+            [ "$done" -eq "$told" ] || how_far
+            told=$done
+        else
+            return 0
+        fi
     done
 }
 how_far() {
