@@ -28,7 +28,7 @@ pub record Counted (table list bytes : List ℕ) (directory : EntryAt) (dead : P
   pub own-is : own ≡ clustersFor (length bytes)
   pub free : Listed table list (needOf directory dead bytes)
 
-module _ (table list bytes : List ℕ) (directory : EntryAt) (dead : Place) (entries growing own : ℕ) (counted : Counted table list bytes directory dead entries growing own) where
+module _ {table list bytes : List ℕ} {directory : EntryAt} {dead : Place} {entries growing own : ℕ} (counted : Counted table list bytes directory dead entries growing own) where
   -- ---- the clusters: a directory's growth first, then the entry's own
   growing-by : growing ≡ growthBy dead (entriesOf directory)
   growing-by = counted .growing-is ∙ ap (growthBy dead) (counted .entries-are)

@@ -12,7 +12,8 @@ ghost use lib.ListN.{getD, length};
 ghost use Rattle.page.specs.Page.{isSome, pageAt};
 ghost use Rattle.layout.specs.Table.{namesOf, tableClusters, tableNames};
 ghost use Rattle.model.specs.View.{mostClusters};
-ghost use Rattle.change.specs.Image.{alterPage, storeTable, withWords, wordsIn};
+ghost use Rattle.change.specs.Image.{alterPage, storeTable, wordsIn};
+ghost use Rattle.change.specs.Pages.{tableIn, tableStored};
 
 // How many words of a table of `end` words are in its page t.
 fn words_in(end: usize, t: usize) -> usize
@@ -32,7 +33,7 @@ fn words_in(end: usize, t: usize) -> usize
 // The words of page t of the table put into a page from its first word on.
 fn put_words(page: &mut [u8; 512], table: &[u32], t: usize)
     requires { ⌜ t < 65536 ⌝ }
-    ensures { λ _. ⌜ now (page .exit) ≡ withWords (λ c. getD (now (table .entry)) c 0) (128 * t) (wordsIn (length (now (table .entry))) t) (now (page .entry)) ⌝ }
+    ensures { λ _. ⌜ now (page .exit) ≡ tableIn (now (table .entry)) t (now (page .entry)) ⌝ }
 {
     let from = 128 * t;
     let count = words_in(table.len(), t);
@@ -46,7 +47,7 @@ fn put_words(page: &mut [u8; 512], table: &[u32], t: usize)
 // Page t of the table, which is page p of the image, rewritten where a word of it changed.
 fn store_page(image: &mut [u8], p: usize, table: &[u32], t: usize)
     requires { ⌜ t < 65536 ⌝ }
-    ensures { λ _. ⌜ now (image .exit) ≡ alterPage p (withWords (λ c. getD (now (table .entry)) c 0) (128 * t) (wordsIn (length (now (table .entry))) t)) (now (image .entry)) ⌝ }
+    ensures { λ _. ⌜ now (image .exit) ≡ alterPage p (tableIn (now (table .entry)) t) (now (image .entry)) ⌝ }
 {
     let mut page = [0u8; 512];
     if read_page(image, p, &mut page) {
@@ -58,7 +59,7 @@ fn store_page(image: &mut [u8], p: usize, table: &[u32], t: usize)
 // All pages of the table, by the first `count` names of the indirect cluster.
 fn store_pages(image: &mut [u8], first: &[u8; 512], second: &[u8; 512], count: usize, table: &[u32])
     requires { ⌜ count < 32768 ⌝ }
-    ensures { λ _. ⌜ now (image .exit) ≡ storeTable (tableNames (now (first .entry) ++ now (second .entry)) count) (length (now (table .entry))) (λ c. getD (now (table .entry)) c 0) (2 * count) (now (image .entry)) ⌝ }
+    ensures { λ _. ⌜ now (image .exit) ≡ tableStored (tableNames (now (first .entry) ++ now (second .entry)) count) (now (table .entry)) (2 * count) (now (image .entry)) ⌝ }
 {
     let mut t: usize = 0;
     while t < 2 * count {

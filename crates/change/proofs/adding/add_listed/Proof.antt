@@ -24,7 +24,7 @@ add-end c =
     let a = start .args in
     let k : Counted (a .table .now) (a .list .now) (a .bytes .now) (a .t5) (a .new .dead) (own .before .before .word-at .result) (own .before .growth-by .result) (own .clusters-for .result) =
     record { entries-are = own .before .before .word-at .ensures; growing-is = own .before .growth-by .ensures; own-is = own .clusters-for .ensures; free = start .pre .0 } in
-    omega (arith, both-fit _ _ _ _ _ _ _ _ k)
+    omega (arith, both-fit k)
 
 slice-aggregate-growth : tie.Need-slice-aggregate-growth
 slice-aggregate-growth c =
@@ -33,7 +33,7 @@ slice-aggregate-growth c =
     let a = start .args in
     let k : Counted (a .table .now) (a .list .now) (a .bytes .now) (a .t5) (a .new .dead) (own .before .before .word-at .result) (own .before .growth-by .result) (own .clusters-for .result) =
     record { entries-are = own .before .before .word-at .ensures; growing-is = own .before .growth-by .ensures; own-is = own .clusters-for .ensures; free = start .pre .0 } in
-    growth-long _ _ _ _ _ _ _ _ k
+    growth-long k
 
 mul-taken : tie.Need-mul-taken
 mul-taken c =
@@ -42,7 +42,7 @@ mul-taken c =
     let a = start .args in
     let k : Counted (a .table .now) (a .list .now) (a .bytes .now) (a .t5) (a .new .dead) (own .before .before .word-at .result) (own .before .growth-by .result) (own .clusters-for .result) =
     record { entries-are = own .before .before .word-at .ensures; growing-is = own .before .growth-by .ensures; own-is = own .clusters-for .ensures; free = start .pre .0 } in
-    omega (arith, both-fit _ _ _ _ _ _ _ _ k)
+    omega (arith, both-fit k)
 
 sub-taken : tie.Need-sub-taken
 sub-taken c = search needs
@@ -57,7 +57,7 @@ part-taken-end c =
     let a = start .args in
     let k : Counted (a .table .now) (a .list .now) (a .bytes .now) (a .t5) (a .new .dead) (own .before .before .word-at .result) (own .before .growth-by .result) (own .clusters-for .result) =
     record { entries-are = own .before .before .word-at .ensures; growing-is = own .before .growth-by .ensures; own-is = own .clusters-for .ensures; free = start .pre .0 } in
-    both-fit _ _ _ _ _ _ _ _ k
+    both-fit k
 
 sub-cluster-at : tie.Need-sub-cluster-at
 sub-cluster-at c = search needs
@@ -75,7 +75,7 @@ cast-new-page c =
     let a = start .args in
     let k : Counted (a .table .now) (a .list .now) (a .bytes .now) (a .t5) (a .new .dead) (own .before .before .word-at .result) (own .before .growth-by .result) (own .clusters-for .result) =
     record { entries-are = own .before .before .word-at .ensures; growing-is = own .before .growth-by .ensures; own-is = own .clusters-for .ensures; free = start .pre .0 } in
-    omega (arith, start .pre .1 .small (room-so _ _ _ _ _ _ _ _ k))
+    omega (arith, start .pre .1 .small (room-so k))
 
 first-of-requires : tie.Need-first-of-requires
 first-of-requires c κs = search needs
@@ -98,7 +98,7 @@ relink-requires c κs =
     let k : Counted (a .table .now) (a .list .now) (a .bytes .now) (a .t5) (a .new .dead) (own .before .before .word-at .result) (own .before .growth-by .result) (own .clusters-for .result) =
     record { entries-are = own .before .before .word-at .ensures; growing-is = own .before .growth-by .ensures; own-is = own .clusters-for .ensures; free = start .pre .0 } in
     let growing = own .before .growth-by .result in
-    (omega (arith, last-by _ _ _ _ _ _ _ _ k (reached .cluster-at .ensures), start .pre .1 .low-last), taken-low (a .image .now) (a .table .now) (a .s) (start .pre .1 .card .opened) (start .pre .1 .card .long) growing (growing + own .clusters-for .result - growing) (a .list .now) (start .pre .0 .listed))
+    (omega (arith, last-by k (reached .cluster-at .ensures), start .pre .1 .low-last), taken-low (a .image .now) (a .table .now) (a .s) (start .pre .1 .card .opened) (start .pre .1 .card .long) growing (growing + own .clusters-for .result - growing) (a .list .now) (start .pre .0 .listed))
 
 put-down-requires : tie.Need-put-down-requires
 put-down-requires c κs =
@@ -112,11 +112,11 @@ put-down-requires c κs =
     record { entries-are = own .before .before .word-at .ensures; growing-is = own .before .growth-by .ensures; own-is = own .clusters-for .ensures; free = start .pre .0 } in
     record {
       card = record { opened = start .pre .1 .card .opened; long = omega (arith, c .before .before .before .before .relink .kept, start .pre .1 .card .long) };
-      one = one-cluster _ _ _ _ _ _ _ _ k;
-      filled = own-long _ _ _ _ _ _ _ _ k;
+      one = one-cluster k;
+      filled = own-long k;
       lands =
-          lands-so _ _ _ _ _ _ _ _ k (reached .cluster-at .ensures) (a .new .mode) (a .new .count) (a .time .now) (a .name .now) (named .before .before .before .page-by .ensures) (named .before .first-of .ensures)
-          (named .new-page .ensures) (paged .before .length-by .ensures) (paged .with-length .ensures) (a .s .end) (start .pre .1 .lands (room-so _ _ _ _ _ _ _ _ k));
+          lands-so k (reached .cluster-at .ensures) (a .new .mode) (a .new .count) (a .time .now) (a .name .now) (named .before .before .before .page-by .ensures) (named .before .first-of .ensures)
+          (named .new-page .ensures) (paged .before .length-by .ensures) (paged .with-length .ensures) (a .s .end) (start .pre .1 .lands (room-so k));
     }
 
 same-length : tie.Need-same-length
@@ -136,9 +136,9 @@ returns c =
     let k : Counted (a .table .now) (a .list .now) (a .bytes .now) (a .t5) (a .new .dead) (own .before .before .word-at .result) (own .before .growth-by .result) (own .clusters-for .result) =
     record { entries-are = own .before .before .word-at .ensures; growing-is = own .before .growth-by .ensures; own-is = own .clusters-for .ensures; free = start .pre .0 } in
     image-as (a .s) (a .image .now) (c .before .before .put-down .ensures)
-    (writes-so _ _ _ _ _ _ _ _ k (reached .cluster-at .ensures) (a .new .mode) (a .new .count) (a .time .now) (a .name .now) (named .before .before .before .page-by .ensures) (named .before .first-of .ensures)
+    (writes-so k (reached .cluster-at .ensures) (a .new .mode) (a .new .count) (a .time .now) (a .name .now) (named .before .before .before .page-by .ensures) (named .before .first-of .ensures)
     (named .new-page .ensures) (paged .before .length-by .ensures) (paged .with-length .ensures))
-    (words-so _ _ _ _ _ _ _ _ k (reached .cluster-at .ensures) (c .before .before .before .before .before .before .before .relink .ensures))
+    (words-so k (reached .cluster-at .ensures) (c .before .before .before .before .before .before .before .relink .ensures))
 
 pub add-listed-spec : {M : Type 1} → statement M
 add-listed-spec =
