@@ -18,7 +18,7 @@ use Rattle.model.specs.Writes.{PageWrite}
 use Rattle.change.specs.declared.editing.Action.the-variants as action
 use Rattle.change.specs.declared.entries.EntryAt.{EntryAt}
 use Rattle.change.specs.Calls.{CanEdit, doneWith, enough, refusedBy, replacedEntry, replacedImage}
-use Rattle.change.specs.Deeds.{Open, directoryWrite, entriesOf, keptWrite, relinked, removedWrites, replacedTable, replacedWrites, writesOf}
+use Rattle.change.specs.Deeds.{Open, lengthWrite, entriesOf, keptWrite, relinked, removedWrites, replacedTable, replacedWrites, writesOf}
 use Rattle.change.specs.Image.{Lands}
 use Rattle.change.specs.Words.{freeList}
 use Rattle.change.proofs.FreeLaws.{free-few, taken-low}
@@ -26,7 +26,7 @@ use Rattle.change.proofs.FreeLaws.{free-few, taken-low}
 -- the directory's entry with the length that it has
 kept-so : (directory : EntryAt) {entries : ℕ} {kept : List ℕ} → entries ≡ entriesOf directory → kept ≡ alteredPage (directory .page) (withLength (entryOf (directory .page)) entries)
     → _≡_ {A = PageWrite} (record { always = false; page = directory .at; bytes = kept }) (keptWrite directory)
-kept-so directory e d = ap (λ p. record { always = false; page = directory .at; bytes = p }) d ∙ ap (directoryWrite directory) e
+kept-so directory e d = ap (λ p. record { always = false; page = directory .at; bytes = p }) d ∙ ap (lengthWrite directory) e
 
 -- ---- removing
 module _ (directory entry : EntryAt) {entries : ℕ} {kept gone : List ℕ} (entries-are : entries ≡ entriesOf directory)

@@ -106,8 +106,8 @@ abbrev pub lastOf : List ℕ → EntryAt → ℕ
 lastOf table directory = clusterAt table (directory .first) (entriesOf directory - 1)
 
 -- the directory's entry with a length
-abbrev pub directoryWrite : EntryAt → ℕ → PageWrite
-directoryWrite directory length =
+abbrev pub lengthWrite : EntryAt → ℕ → PageWrite
+lengthWrite directory length =
     record { always = false; page = directory .at; bytes = alteredPage (directory .page) (withLength (entryOf (directory .page)) length) }
 
 abbrev pub addedTable : List ℕ → EntryAt → Place → List ℕ → List ℕ
@@ -118,7 +118,7 @@ abbrev pub addedWrites : List ℕ → EntryAt → NewEntry → List ℕ → List
 addedWrites table directory new time name bytes =
     let growth = growthOf table directory (new .dead) in
     let taken = takenOf table directory (new .dead) bytes in
-    writesOf growth taken bytes (directoryWrite directory (lengthBy (new .dead) (entriesOf directory)))
+    writesOf growth taken bytes (lengthWrite directory (lengthBy (new .dead) (entriesOf directory)))
     (record {
       always = true;
       page = pageBy (new .dead) (lastOf table directory) growth;
@@ -128,7 +128,7 @@ addedWrites table directory new time name bytes =
 -- ---- an entry that stands; the directory keeps its length
 
 abbrev pub keptWrite : EntryAt → PageWrite
-keptWrite directory = directoryWrite directory ((entryOf (directory .page)) .length)
+keptWrite directory = lengthWrite directory ((entryOf (directory .page)) .length)
 
 -- replacing takes new clusters and gives back the old ones
 abbrev pub replacedTable : List ℕ → EntryAt → List ℕ → List ℕ

@@ -26,7 +26,7 @@ use Rattle.tree.specs.Counted.{superblockIn}
 use Rattle.lookup.proofs.CardLaws.{accepted, call-accepted, call-refused, words-hold}
 use Rattle.lookup.specs.Called.{Fits, Of, TellsAs, TellsStood, TellsWay, refusedAs, viewIn}
 use Rattle.lookup.specs.Descend.{Stands}
-use Rattle.lookup.specs.Paths.{atPath, onCard, refusing, standing, standingOf, standsThere, withPath}
+use Rattle.lookup.specs.Paths.{atPath, onCard, refusing, foundAt, standingOf, standsThere, withPath}
 use Rattle.lookup.specs.Read.{readFrom, readIn, readOf}
 use Rattle.lookup.specs.declared.call.Standing.{Standing}
 use Rattle.lookup.specs.declared.call.Standing.the-variants as stood
@@ -36,11 +36,11 @@ use Rattle.lookup.proofs.PathWalk.{at-path}
 
 -- ---- what `stand` answers
 pub way-refused : (v : View) (card : Superblock) (bytes : List ℕ) (f : Refusal) (r : Stood) → r ≡ refusedAs f
-    → ((root : Root) → HoldsCard v root → withPath (pathOf bytes) (standing card root) ≡ fault (numberOf f) (pageOf f)) → TellsWay v card bytes r
+    → ((root : Root) → HoldsCard v root → withPath (pathOf bytes) (foundAt card root) ≡ fault (numberOf f) (pageOf f)) → TellsWay v card bytes r
 way-refused v card bytes f r e z = rw e ((λ root holds. rw (z root holds) (refl, refl, refl)), tt)
 
 pub way-at : (v : View) (card : Superblock) (bytes : List ℕ) (first : ℕ) (page : List ℕ)
-    → ((root : Root) → HoldsCard v root → (h : Slot) × (t : Tree) × Stands v first (entryOf page) h t × (withPath (pathOf bytes) (standing card root) ≡ ok (card, h, t)))
+    → ((root : Root) → HoldsCard v root → (h : Slot) × (t : Tree) × Stands v first (entryOf page) h t × (withPath (pathOf bytes) (foundAt card root) ≡ ok (card, h, t)))
     → TellsWay v card bytes (record { standing = stood.At card first; page = page })
 way-at v card bytes first page y = ((λ root holds. let z = y root holds in rw (z .3) (refl, z .2)), refl)
 
@@ -62,7 +62,7 @@ fits-at st s first f e = rw e at f
 module _ (image bytes before words : List ℕ) (l : words ≡ tableAfter image (openCard image) before) (r : Stood) where
   pub stand-refused : (f : Refusal) → r ≡ refusedAs f → fault (numberOf f) (pageOf f) ≡ superblockIn (checkImage image)
       → TellsStood words image bytes r × ((words ≡ tableAfter image (openCard image) before) × Fits (r .standing))
-  stand-refused f e h = rw (e, call-refused image bytes standing (numberOf f) (pageOf f) h) ((refl, refl, refl), (l, tt))
+  stand-refused f e h = rw (e, call-refused image bytes foundAt (numberOf f) (pageOf f) h) ((refl, refl, refl), (l, tt))
 
   pub stand-accepted : (s : Superblock) (h : ok s ≡ superblockIn (checkImage image)) → TellsWay (viewBy (s .geometry) (take (s .end) words) image) s bytes r
       → TellsStood words image bytes r × ((words ≡ tableAfter image (openCard image) before) × Fits (r .standing))
@@ -70,7 +70,7 @@ module _ (image bytes before words : List ℕ) (l : words ≡ tableAfter image (
       let y = accepted image s h in
       let facts = open-facts image s (sym (y .opened)) in (
         as-stood s words image (standingOf image bytes) (r .standing) (r .page) (w .1)
-            (rw (call-accepted image bytes standing s (y .root) (y .marks) (y .checked)) (w .0 (y .root) (words-hold image s h before words l))),
+            (rw (call-accepted image bytes foundAt s (y .root) (y .marks) (y .checked)) (w .0 (y .root) (words-hold image s h before words l))),
         (l, fits-of s (r .standing) (w .1) (omega (arith, facts .room, facts .most))),
       )
 
@@ -95,7 +95,7 @@ module _ {A : Type 0} (ask : Superblock → Slot → Tree → Result A) where
   at-tree s zero (found h t) = refl
   at-tree s (suc w) f = refl
 
-  at-bytes : (s : Superblock) (root : Root) (o : Option Path) → withPath o (λ q. atPath root q (ask s)) ≡ andThen (withPath o (standing s root)) onward
+  at-bytes : (s : Superblock) (root : Root) (o : Option Path) → withPath o (λ q. atPath root q (ask s)) ≡ andThen (withPath o (foundAt s root)) onward
   unfolding andThen atPath
   at-bytes s root none = refl
   at-bytes s root (some q) = at-tree s (way (lookUp root) q) (lookUp root q)
@@ -105,7 +105,7 @@ module _ {A : Type 0} (ask : Superblock → Slot → Tree → Result A) where
   asked image bytes = go (checkImage image)
     where
       go : (r : Result (Superblock × Root × Marks))
-          → andThen r (λ x. withPath (pathOf bytes) (λ q. atPath (x .1) q (ask (x .0)))) ≡ andThen (andThen r (λ x. withPath (pathOf bytes) (standing (x .0) (x .1)))) onward
+          → andThen r (λ x. withPath (pathOf bytes) (λ q. atPath (x .1) q (ask (x .0)))) ≡ andThen (andThen r (λ x. withPath (pathOf bytes) (foundAt (x .0) (x .1)))) onward
       go (fault n p) = refl
       go (ok x) = at-bytes (x .0) (x .1) (pathOf bytes)
 

@@ -16,7 +16,7 @@ use Rattle.model.specs.Tree.{Root, Slot, Tree}
 use Rattle.model.specs.View.{View, mostClusters}
 use Rattle.lookup.specs.Answers.{TellsRead, TellsStep}
 use Rattle.lookup.specs.Descend.{Stands}
-use Rattle.lookup.specs.Paths.{standing, standingOf, withPath}
+use Rattle.lookup.specs.Paths.{foundAt, standingOf, withPath}
 use Rattle.lookup.specs.Read.{readFrom}
 use Rattle.lookup.specs.Step.{stepFrom}
 use Rattle.lookup.specs.declared.call.Standing.{Standing}
@@ -47,7 +47,7 @@ Of card (stood.Refused f) = Unit {0}
 
 -- of a way on one card: whatever tree its view holds
 abbrev pub TellsWay : View → Superblock → List ℕ → Stood → Type 0
-TellsWay v card bytes r = ((root : Root) → HoldsCard v root → TellsAs v (withPath (pathOf bytes) (standing card root)) (r .standing) (r .page)) × Of card (r .standing)
+TellsWay v card bytes r = ((root : Root) → HoldsCard v root → TellsAs v (withPath (pathOf bytes) (foundAt card root)) (r .standing) (r .page)) × Of card (r .standing)
 
 -- of a whole call, with the words in the room
 abbrev pub TellsStood : List ℕ → List ℕ → List ℕ → Stood → Type 0

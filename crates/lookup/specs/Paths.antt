@@ -34,8 +34,8 @@ module _ {A : Type 0} where
 abbrev pub standsThere : Superblock → Slot → Tree → Result (Superblock × Slot × Tree)
 standsThere s h inside = ok (s, h, inside)
 
-abbrev pub standing : Superblock → Root → Path → Result (Superblock × Slot × Tree)
-standing s root path = atPath root path (standsThere s)
+abbrev pub foundAt : Superblock → Root → Path → Result (Superblock × Slot × Tree)
+foundAt s root path = atPath root path (standsThere s)
 
 abbrev pub standingOf : List ℕ → List ℕ → Result (Superblock × Slot × Tree)
-standingOf image bytes = onCard image bytes standing
+standingOf image bytes = onCard image bytes foundAt
