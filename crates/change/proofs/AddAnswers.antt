@@ -6,9 +6,9 @@ use mathlib.Core.Path.{_∙_, _≡_, ap, ap₂, subst, sym}
 use native.Mathlib.Omega.{arith}
 use Rattle.layout.specs.declared.Superblock.{Superblock}
 use Rattle.layout.specs.See.{viewBy}
-use Rattle.lookup.specs.declared.along.Place.{Place}
-use Rattle.lookup.specs.declared.along.Place.the-variants as place
-use Rattle.lookup.specs.Descend.{bearing, dying, scan}
+use Rattle.tree.specs.declared.along.Place.{Place}
+use Rattle.tree.specs.declared.along.Place.the-variants as place
+use Rattle.tree.specs.Scan.{bearing, dying, scan}
 use Rattle.model.specs.Bytes.{wordLimit}
 use Rattle.model.specs.Entry.{entryOf, isDirectory}
 use Rattle.tree.specs.Slots.{nextOf, slotPages}

@@ -1,5 +1,5 @@
 -- What the code answers where a path's directory was found is what the model says of a creation.
-use Prim.Native.Nat.{ℕ, _+_, _-_, _<_, _≤_}
+use Prim.Native.Nat.{ℕ, _+_, _<_, _≤_}
 use mathlib.Core.Bool.{Bool, false, true}
 use mathlib.Core.List.{List, [], _∷_}
 use mathlib.Core.Path.{_∙_, _≡_, ap, ap₂, refl, sym}
@@ -12,8 +12,8 @@ use Rattle.layout.specs.See.{checkImage, see}
 use Rattle.layout.specs.Table.{openCard, tableOf}
 use Rattle.layout.proofs.OpenFacts.{open-facts}
 use Rattle.layout.proofs.TableLaws.{length-table}
-use Rattle.lookup.specs.declared.along.Place.{Place}
-use Rattle.lookup.specs.declared.along.Place.the-variants as place
+use Rattle.tree.specs.declared.along.Place.{Place}
+use Rattle.tree.specs.declared.along.Place.the-variants as place
 use Rattle.lookup.proofs.SlotLaws.{dead-at, dead-nowhere, name-found, name-nowhere}
 use Rattle.model.specs.Bytes.{wordLimit}
 use Rattle.model.specs.Change.{Change, create, creates, directoryMode, makeDirectory, path, size}

@@ -8,8 +8,8 @@ use borrow.Author.Tests.{eq-eqb, ne-eqb}
 use lib.ListN.{drop, getD, length, length-append, length-drop, take}
 use lib.Seq.{getD-at, getD-drop, getD-take, length-take-le}
 use Rattle.layout.proofs.TablePages.{getD-pages}
-use Rattle.lookup.specs.declared.along.Place.{Place}
-use Rattle.lookup.specs.declared.along.Place.the-variants as place
+use Rattle.tree.specs.declared.along.Place.{Place}
+use Rattle.tree.specs.declared.along.Place.the-variants as place
 use Rattle.model.specs.Entry.{Entry, directoryClusters}
 use Rattle.model.specs.Holds.{HoldsSlots}
 use Rattle.model.specs.Lookup.{firstDead}

@@ -8,14 +8,14 @@ use borrow.Author.Tests.{le-leb, lt-leb}
 use lib.ListN.{drop, length, length-drop, length-take, take}
 use lib.Seq.{length-take-le}
 use Rattle.layout.specs.declared.Superblock.{Superblock}
-use Rattle.lookup.specs.declared.along.Place.{Place}
+use Rattle.tree.specs.declared.along.Place.{Place}
 use Rattle.model.specs.Entry.{clustersFor, entryOf}
 use Rattle.model.specs.Pages.{alteredPage, newPage}
 use Rattle.model.specs.Plan.{firstOf, newEntry, withLength}
 use Rattle.tree.specs.Slots.{clusterAt}
 use Rattle.change.specs.declared.entries.EntryAt.{EntryAt}
 use Rattle.change.specs.declared.entries.NewEntry.{NewEntry}
-use Rattle.change.specs.Calls.{CanAdd, added, addedImage, doneWith, enough, needOf, refusedBy}
+use Rattle.change.specs.Calls.{added, addedImage, doneWith, enough, needOf, refusedBy}
 use Rattle.change.specs.Deeds.{Listed, addedTable, addedWrites, entriesOf, growthBy, growthOf, lastOf, lengthBy, pageBy, relinked, takenOf, writesOf}
 use Rattle.change.specs.Image.{Lands}
 use Rattle.change.specs.Words.{freeList}

@@ -9,9 +9,7 @@ use lib.Seq.{length-take-le}
 use Rattle.layout.specs.declared.Superblock.{Superblock}
 use Rattle.layout.specs.See.{see}
 use Rattle.layout.specs.Table.{openCard, tableOf}
-use Rattle.lookup.specs.declared.along.Place.{Place}
-use Rattle.lookup.specs.declared.along.Place.the-variants as place
-use Rattle.model.specs.Bytes.{word}
+use Rattle.tree.specs.declared.along.Place.{Place}
 use Rattle.model.specs.Check.{ok}
 use Rattle.model.specs.Entry.{Entry, clustersFor, entryOf}
 use Rattle.model.specs.Lookup.{firstDead}

@@ -1,5 +1,5 @@
 -- Creating a file and making a directory, as the code does them in the directory that it found.
-use Prim.Native.Nat.{ℕ, suc, _+_, _-_, _<_, _≤_}
+use Prim.Native.Nat.{ℕ, suc, _+_, _<_, _≤_}
 use mathlib.Core.Bool.{cond, false, true}
 use mathlib.Core.List.{List, [], _++_, _∷_}
 use mathlib.Core.Option.{some}
@@ -12,9 +12,7 @@ use Rattle.layout.specs.declared.Superblock.{Superblock}
 use Rattle.layout.specs.See.{checkImage, see}
 use Rattle.layout.specs.Table.{openCard, tableOf}
 use Rattle.layout.proofs.TableLaws.{length-table}
-use Rattle.lookup.specs.declared.along.Place.{Place}
-use Rattle.lookup.specs.declared.along.Place.the-variants as place
-use Rattle.model.specs.Bytes.{word}
+use Rattle.tree.specs.declared.along.Place.{Place}
 use Rattle.model.specs.Change.{Change, create, creates, directoryMode, fileMode, makeDirectory, path, size}
 use Rattle.model.specs.Check.{Marks, fault, ok}
 use Rattle.model.specs.Entry.{clustersFor, entryOf}
@@ -35,7 +33,7 @@ use Rattle.change.specs.declared.entries.EntryAt.{EntryAt}
 use Rattle.change.specs.declared.entries.NewEntry.{NewEntry}
 use Rattle.change.specs.Calls.{addedImage, doneWith, dotsOf, needOf, newOf}
 use Rattle.change.specs.Changed.{changed, rulesOf}
-use Rattle.change.specs.Deeds.{addedTable, addedWrites, entriesOf, growthBy, growthOf, imageBy, lastOf, numberBy, takenOf}
+use Rattle.change.specs.Deeds.{addedTable, addedWrites, entriesOf, growthBy, growthOf, lastOf, numberBy, takenOf}
 use Rattle.change.specs.Words.{freeList}
 use Rattle.change.proofs.AddPlans.{DeadAt, growth-is, number-is}
 use Rattle.change.proofs.AddWrites.{added-writes, grown-so, own-so}

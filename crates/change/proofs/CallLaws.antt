@@ -3,8 +3,8 @@ use Prim.Native.Nat.{ℕ, _-_}
 use mathlib.Core.Bool.{Bool}
 use mathlib.Core.List.{List}
 use mathlib.Core.Path.{_∙_, _≡_, ap, sym}
-use Rattle.lookup.specs.declared.along.Place.{Place}
-use Rattle.lookup.specs.Descend.{scan}
+use Rattle.tree.specs.declared.along.Place.{Place}
+use Rattle.tree.specs.Scan.{scan}
 use Rattle.tree.specs.Slots.{nextOf, slotPages}
 use Rattle.change.specs.declared.Answer.{Answer}
 use Rattle.change.specs.declared.entries.EntryAt.{EntryAt}

@@ -2,10 +2,10 @@
 use Prim.Native.Nat.{ℕ, _+_, _/_}
 use mathlib.Core.Bool.{false, true}
 use mathlib.Core.List.{List}
-use mathlib.Core.Path.{_∙_, _≡_, ap, refl, subst, sym}
+use mathlib.Core.Path.{_∙_, _≡_, ap, subst, sym}
 use Rattle.layout.specs.declared.Superblock.{Superblock}
 use Rattle.layout.specs.See.{viewBy}
-use Rattle.lookup.specs.declared.along.Place.the-variants as place
+use Rattle.tree.specs.declared.along.Place.the-variants as place
 use Rattle.lookup.specs.declared.way.Arrived.{Arrived}
 use Rattle.lookup.specs.declared.way.Arrival.the-variants as arrival
 use Rattle.lookup.specs.Descend.{entered}

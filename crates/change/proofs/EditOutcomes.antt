@@ -12,8 +12,8 @@ use Rattle.layout.specs.declared.Superblock.{Superblock}
 use Rattle.layout.specs.See.{checkImage, see}
 use Rattle.layout.specs.Table.{tableOf}
 use Rattle.layout.proofs.TableLaws.{length-table}
-use Rattle.lookup.specs.declared.along.Place.{Place}
-use Rattle.lookup.specs.declared.along.Place.the-variants as place
+use Rattle.tree.specs.declared.along.Place.{Place}
+use Rattle.tree.specs.declared.along.Place.the-variants as place
 use Rattle.lookup.specs.declared.way.Arrival.the-variants as arrival
 use Rattle.lookup.specs.declared.way.Arrived.{Arrived}
 use Rattle.lookup.specs.Descend.{entered, nowhere}
@@ -23,7 +23,7 @@ use Rattle.model.specs.Change.{Change, creates, delete, path, removeDirectory, 
 use Rattle.model.specs.Check.{Marks, ok}
 use Rattle.model.specs.Entry.{Entry, clustersFor, entryOf, isDirectory}
 use Rattle.model.specs.Holds.{HoldsSlot, HoldsSlots}
-use Rattle.model.specs.Lookup.{absent, found, indexOf, lookIn}
+use Rattle.model.specs.Lookup.{absent, indexOf, lookIn}
 use Rattle.model.specs.Names.{Path, goodName, lastName}
 use Rattle.model.specs.Pages.{decoded}
 use Rattle.model.specs.Refusal.{own, static}

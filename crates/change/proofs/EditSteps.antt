@@ -17,7 +17,7 @@ use Rattle.model.specs.View.{topBit}
 use Rattle.model.specs.Writes.{PageWrite}
 use Rattle.change.specs.declared.editing.Action.the-variants as action
 use Rattle.change.specs.declared.entries.EntryAt.{EntryAt}
-use Rattle.change.specs.Calls.{CanEdit, doneWith, enough, refusedBy, replacedEntry, replacedImage}
+use Rattle.change.specs.Calls.{CanEdit, doneWith, refusedBy, replacedEntry, replacedImage}
 use Rattle.change.specs.Deeds.{Open, lengthWrite, entriesOf, keptWrite, relinked, removedWrites, replacedTable, replacedWrites, writesOf}
 use Rattle.change.specs.Image.{Lands}
 use Rattle.change.specs.Words.{freeList}

@@ -7,8 +7,8 @@ use lib.ListN.{drop, getD, length, length-append, length-take, take}
 use Rattle.layout.specs.declared.Superblock.{Superblock}
 use Rattle.layout.specs.Table.{openCard}
 use Rattle.layout.proofs.OpenFacts.{open-facts}
-use Rattle.lookup.specs.declared.along.Place.{Place}
-use Rattle.lookup.specs.declared.along.Place.the-variants as place
+use Rattle.tree.specs.declared.along.Place.{Place}
+use Rattle.tree.specs.declared.along.Place.the-variants as place
 use Rattle.model.specs.Check.{ok}
 use Rattle.model.specs.Plan.{freeBelow, ifFree}
 use Rattle.model.specs.Tree.{times}

@@ -4,7 +4,7 @@ use mathlib.Core.List.{List, [], _∷_}
 use mathlib.Core.Path.{_≡_, refl}
 use native.Mathlib.Omega.{arith}
 use lib.ListN.{getD, length}
-use Rattle.lookup.specs.declared.along.Place.the-variants as place
+use Rattle.tree.specs.declared.along.Place.the-variants as place
 use Rattle.model.specs.Plan.{firstOf}
 use Rattle.change.specs.Deeds.{pageBy}
 

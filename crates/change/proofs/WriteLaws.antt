@@ -1,7 +1,7 @@
 -- Pages written in two parts, and data whose pages are plain to see: none, and a cluster of zeros.
 use Rattle.layout.specs.See.{imagePage}
 use Rattle.layout.specs.declared.Geometry.{Geometry}
-use Prim.Native.Nat.{ℕ, _*_, _+_}
+use Prim.Native.Nat.{ℕ, _+_}
 use mathlib.Core.List.{List, [], _++_, _∷_}
 use mathlib.Core.Option.{some}
 use mathlib.Core.Path.{_∙_, _≡_, ap, refl, sym}

@@ -7,12 +7,13 @@ use lib.Dec.{leb}
 use lib.ListN.{length}
 use Rattle.layout.specs.declared.Superblock.{Superblock}
 use Rattle.layout.specs.See.{viewBy}
-use Rattle.lookup.specs.declared.along.Place.{Place}
-use Rattle.lookup.specs.declared.along.Place.the-variants as place
+use Rattle.tree.specs.declared.along.Place.{Place}
+use Rattle.tree.specs.declared.along.Place.the-variants as place
 use Rattle.lookup.specs.declared.way.Arrived.{Arrived}
 use Rattle.lookup.specs.declared.way.Arrival.{Arrival}
 use Rattle.lookup.specs.declared.way.Arrival.the-variants as arrival
-use Rattle.lookup.specs.Descend.{bearing, dying, entered, livingFrom, scan}
+use Rattle.lookup.specs.Descend.{entered}
+use Rattle.tree.specs.Scan.{bearing, dying, livingFrom, scan}
 use Rattle.model.specs.Bytes.{word, wordLimit}
 use Rattle.model.specs.Change.{directoryMode, fileMode}
 use Rattle.model.specs.Check.{fault, ok}

@@ -1,5 +1,5 @@
 // What the steps of a change hand on.
-use lookup::along::Place;
+use tree::along::Place;
 
 // An entry that was found: its page's number, counted from the first allocatable cluster, the first cluster of its chain, and
 // the page's data.

@@ -1,7 +1,7 @@
 // How much a change needs, and where a new entry goes.
-use lookup::along::Place;
+use tree::along::Place;
 ghost use mathlib.Core.Path.{_≡_};
-ghost use Prim.Native.Nat.{_+_, _/_, _<_, _≤_};
+ghost use Prim.Native.Nat.{_+_, _/_, _<_};
 ghost use lib.ListN.{length};
 ghost use Rattle.model.specs.Bytes.{wordLimit};
 ghost use Rattle.model.specs.Entry.{clustersFor};

@@ -6,8 +6,8 @@ use mathlib.Core.Logic.{_⊎_, ⊎-elim}
 use mathlib.Core.Option.{Option, none, some}
 use mathlib.Core.Path.{_∙_, _≡_, ap, ap₂, refl, sym}
 use native.Mathlib.Omega.{arith}
-use borrow.Author.Tests.{leb-true, leb-false, le-leb, ne-eqb}
-use lib.Dec.{eqb, leb}
+use borrow.Author.Tests.{leb-true, leb-false, ne-eqb}
+use lib.Dec.{leb}
 use lib.ListN.{drop, getD, length, take}
 use lib.Seq.{take-all, take-append-add, take-append-le}
 use Rattle.layout.specs.declared.Geometry.{Geometry}
@@ -17,7 +17,7 @@ use Rattle.model.proofs.Equality.{bool, zero?}
 use Rattle.model.proofs.Frame.{hit-self}
 use Rattle.model.specs.Check.{Result, andThen, fault, ok}
 use Rattle.model.specs.Standing.{filePages, pageFront}
-use Rattle.model.specs.Tree.{hit, times}
+use Rattle.model.specs.Tree.{times}
 use Rattle.model.specs.View.{pagesOf}
 use Rattle.claims.specs.ReadsTree.{firstUnreadable, followedBy, pageTold, pagesTold, wholeOf}
 

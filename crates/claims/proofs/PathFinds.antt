@@ -3,7 +3,7 @@ use Prim.Native.Nat.{ℕ, _+_, _≤_, pred}
 use mathlib.Core.Bool.{true}
 use mathlib.Core.List.{List, [], _∷_, map}
 use mathlib.Core.Logic.{_⊎_, inl, inr, ⊎-elim}
-use mathlib.Core.Path.{_≡_, ap, refl}
+use mathlib.Core.Path.{_≡_, refl}
 use native.Mathlib.Omega.{arith}
 use lib.ListN.{length}
 use Rattle.lookup.proofs.Arrivals.{arrive}
@@ -16,7 +16,7 @@ use Rattle.model.specs.Entry.{Entry, fileClusters, isDirectory, isFile}
 use Rattle.model.specs.Holds.{HoldsCard, HoldsSlot, HoldsSlots, deepest}
 use Rattle.model.specs.Lookup.{Found, absent, found, isNamed, lookFrom, lookIn, lookUp, tell}
 use Rattle.model.specs.Names.{Name, Path}
-use Rattle.model.specs.Tree.{Root, Slot, Tree, chainOf, clusterUses, end, entryPages, node, reached, rootSlot, times}
+use Rattle.model.specs.Tree.{Root, Slot, Tree, chainOf, clusterUses, end, entryPages, node, rootSlot, times}
 use Rattle.model.specs.View.{Link, View, pagesOf}
 
 pub absent-under : (t : Tree) (n m : Name) (q : Path) → lookIn t (n ∷ []) ≡ absent → lookIn t (n ∷ m ∷ q) ≡ absent

@@ -1,5 +1,5 @@
 -- Whatever stands in a tree stands at a path that can be handed in: its names are by the rule, and there are at most four.
-use Prim.Native.Nat.{ℕ, suc, _<_, _≤_, pred}
+use Prim.Native.Nat.{ℕ, suc, _≤_, pred}
 use mathlib.Core.Bool.{Bool, _&&_, _||_, false, not, true}
 use mathlib.Core.List.{List, [], _++_, _∷_}
 use mathlib.Core.Option.{some}

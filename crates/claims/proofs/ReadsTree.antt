@@ -1,13 +1,13 @@
 -- The tree of an accepted image is what find and the reads answer.
-use Prim.Native.Nat.{ℕ, _+_, _*_, _/_, _≤_, _<_}
+use Prim.Native.Nat.{ℕ, _+_, _*_, _/_, _≤_}
 use mathlib.Core.Bool.{Bool, cond, false, true}
-use mathlib.Core.List.{List, [], _∷_, map}
+use mathlib.Core.List.{List, map}
 use mathlib.Core.Logic.{_⊎_, inl, inr, ⊎-elim}
 use mathlib.Core.Option.{Option, none, some}
 use mathlib.Core.Path.{_∙_, _≡_, ap, ap₂, refl, sym}
 use native.Mathlib.Omega.{arith}
 use borrow.Author.Tests.{le-leb, le-ltb, ltb-false}
-use lib.Dec.{eqb, leb, ltb}
+use lib.Dec.{ltb}
 use lib.ListN.{getD, length, take}
 use Rattle.change.proofs.ChangedLaws.{checked-parts}
 use Rattle.fields.specs.PathBytes.{pathOf}
@@ -17,20 +17,20 @@ use Rattle.layout.specs.Table.{tableOf}
 use Rattle.lookup.proofs.Arrivals.{arrive}
 use Rattle.lookup.proofs.CardLaws.{call-accepted}
 use Rattle.lookup.proofs.EnterLaws.{file-kind}
-use Rattle.lookup.proofs.PageReads.{view-sized}
+use Rattle.tree.proofs.PageReads.{view-sized}
 use Rattle.lookup.proofs.PathWalk.{at-path}
 use Rattle.lookup.specs.Find.{findIn, findOf, foundEntry}
 use Rattle.lookup.specs.Paths.{withPath}
-use Rattle.lookup.specs.Read.{bytesFrom, bytesToCopy, readFrom, readIn, readOf}
+use Rattle.lookup.specs.Read.{readFrom, readIn, readOf}
 use Rattle.model.proofs.CheckHolds.{check-holds}
 use Rattle.model.proofs.Frame.{times-pages}
 use Rattle.model.proofs.PlanFits.{length-pages}
 use Rattle.model.specs.Check.{Marks, Result, andThen, fault, ok}
-use Rattle.model.specs.Entry.{Entry, fileClusters, isDirectory, isFile}
+use Rattle.model.specs.Entry.{Entry, fileClusters}
 use Rattle.model.specs.Holds.{HoldsCard}
 use Rattle.model.specs.Lookup.{Found, absent, found, lookUp, tell}
 use Rattle.model.specs.Names.{Path}
-use Rattle.model.specs.Standing.{Standing, fieldsOf, filePages, standing}
+use Rattle.model.specs.Standing.{Standing, fieldsOf, standing}
 use Rattle.model.specs.Tree.{Root, Slot, Tree, chainOf, rootSlot, times}
 use Rattle.model.specs.View.{Link, View, pagesOf}
 use Rattle.page.specs.Page.{pageAt}

@@ -19,7 +19,6 @@ use Rattle.model.specs.Bench.{benchTime, bytes, pathA}
 use Rattle.model.specs.Bytes.{word}
 use Rattle.model.specs.Change.{Change, create}
 use Rattle.model.specs.Check.{checkTree, ok}
-use Rattle.model.specs.Entry.{Entry}
 use Rattle.model.specs.Holds.{HoldsCard}
 use Rattle.model.specs.Refusal.{refusal}
 use Rattle.model.specs.Time.{validTime}

@@ -90,13 +90,6 @@ pub fn name_is_good(page: &[u8; 512]) -> bool
     is_good_name(entry_name(page))
 }
 
-// Whether two entries have one name.
-pub fn same_entry_name(a: &[u8; 512], b: &[u8; 512]) -> bool
-    ensures { λ r. ⌜ r ≡ sameName ((entryOf (now (a .entry))) .name) ((entryOf (now (b .entry))) .name) ⌝ }
-{
-    same_name(entry_name(a), entry_name(b))
-}
-
 // Whether an entry has this name.
 pub fn is_named(page: &[u8; 512], name: &[u8]) -> bool
     ensures { λ r. ⌜ r ≡ sameName ((entryOf (now (page .entry))) .name) (now (name .entry)) ⌝ }

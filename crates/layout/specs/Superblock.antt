@@ -3,7 +3,6 @@ use Prim.Native.Nat.{ℕ, _+_, _*_, _/_, _%_}
 use mathlib.Core.Bool.{Bool, not, _&&_, _||_}
 use mathlib.Core.List.{List, [], _∷_}
 use lib.Dec.{eqb, leb, ltb}
-use lib.ListN.{length}
 use Rattle.page.specs.Page.{clusterBytes}
 use Rattle.model.specs.Bytes.{slice, half, word}
 use Rattle.model.specs.Names.{sameName}

@@ -11,7 +11,6 @@ use Rattle.model.specs.Check.{Result, fault, ok}
 use Rattle.model.specs.Tree.{times}
 use Rattle.model.specs.View.{pagesOf}
 use Rattle.layout.specs.declared.Superblock.{Superblock}
-use Rattle.layout.specs.declared.Refusal.{Refusal}
 use Rattle.layout.specs.declared.Opened.{Opened}
 use Rattle.layout.specs.declared.Opened.the-variants as opened
 use Rattle.layout.specs.Refusal.{numberOf, pageOf}

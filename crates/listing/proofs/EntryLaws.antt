@@ -7,7 +7,7 @@ use mathlib.Core.Path.{_∙_, _≡_, ap, refl}
 use native.Mathlib.Omega.{arith}
 use lib.ListN.{drop, length, length-take}
 use Rattle.fields.proofs.NameLaws.{name-short}
-use Rattle.lookup.specs.Descend.{lives}
+use Rattle.tree.specs.Scan.{lives}
 use Rattle.model.specs.Bytes.{slice}
 use Rattle.model.specs.Entry.{Entry, entryOf, isDirectory, isLive}
 use Rattle.tree.specs.Slots.{nextOf, slotPages}

@@ -6,7 +6,6 @@ use crate::path::Path;
 use crate::path::put_path;
 use layout::Refusal;
 use tree::Counts;
-ghost use mathlib.Core.Path.{_≡_};
 ghost use Prim.Native.Nat.{_≤_};
 ghost use Rattle.layout.specs.Refusal.{numberOf, pageOf};
 ghost use Rattle.listing.specs.Emit.{Wrote};

@@ -1,9 +1,7 @@
 -- A card that the check accepts, by what the open call told: the tree that the view of the loaded table holds.
-use Rattle.layout.specs.declared.Geometry.{Geometry}
 use Prim.Native.Nat.{_≤_, ℕ}
 use mathlib.Core.List.{List}
-use mathlib.Core.Option.{Option, none, some}
-use mathlib.Core.Path.{_∙_, _≡_, refl, sym}
+use mathlib.Core.Path.{_≡_, refl, sym}
 use lib.ListN.{length, take}
 use Rattle.fields.specs.PathBytes.{pathOf}
 use Rattle.layout.specs.declared.Superblock.{Superblock}
@@ -21,7 +19,6 @@ use Rattle.tree.proofs.SlotSteps.{fault-ok}
 use Rattle.tree.specs.Counted.{superblockIn}
 use Rattle.lookup.specs.Answers.{TellsRead}
 use Rattle.lookup.specs.Paths.{onCard, withPath}
-use Rattle.lookup.specs.Read.{readIn, readOf}
 use Rattle.lookup.specs.declared.reading.ReadOutcome.the-variants as reading
 
 module _ (image : List ℕ) where

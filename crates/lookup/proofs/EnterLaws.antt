@@ -18,9 +18,10 @@ use Rattle.model.specs.Tree.{Root, Slot, Tree, entryPages, rootSlot}
 use Rattle.model.specs.View.{View}
 use Rattle.reached.specs.Table.{tableLinks}
 use Rattle.lookup.specs.declared.way.Arrival.the-variants as arrival
-use Rattle.lookup.specs.declared.along.Place.{Place}
-use Rattle.lookup.specs.declared.along.Place.the-variants as place
-use Rattle.lookup.specs.Descend.{Stands, bearing, entered, landed, landedAt, nowhere, pickArrived, scan}
+use Rattle.tree.specs.declared.along.Place.{Place}
+use Rattle.tree.specs.declared.along.Place.the-variants as place
+use Rattle.lookup.specs.Descend.{Stands, entered, landed, landedAt, nowhere, pickArrived}
+use Rattle.tree.specs.Scan.{bearing, scan}
 use Rattle.lookup.proofs.Arrivals.{Arrives, ArrivesBy, arrive}
 use Rattle.tree.specs.Slots.{nextOf, slotPages}
 use Rattle.tree.proofs.ChainPages.{directory-pages}

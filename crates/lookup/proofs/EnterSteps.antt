@@ -12,11 +12,12 @@ use Rattle.model.specs.View.{View}
 use Rattle.page.proofs.Puts.{read-none, read-some}
 use Rattle.page.specs.Page.{Read, orKept}
 use Rattle.tree.specs.Slots.{nextOf, slotPages}
-use Rattle.lookup.specs.declared.along.Place.{Place}
-use Rattle.lookup.specs.declared.along.Place.the-variants as place
+use Rattle.tree.specs.declared.along.Place.{Place}
+use Rattle.tree.specs.declared.along.Place.the-variants as place
 use Rattle.lookup.specs.declared.way.Arrival.the-variants as arrival
-use Rattle.lookup.specs.Descend.{bearing, entered, nowhere, scan}
-use Rattle.lookup.proofs.ScanLaws.{scan-as}
+use Rattle.lookup.specs.Descend.{entered, nowhere}
+use Rattle.tree.specs.Scan.{bearing, scan}
+use Rattle.tree.proofs.ScanLaws.{scan-as}
 
 -- a buffer of zeros stays where the page is unreadable
 pub stays-zero : (o : Option (List ℕ)) (after : List ℕ) (r : Bool) → Read o (replicate 512 0) r after → r ≡ false

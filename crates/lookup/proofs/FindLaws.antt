@@ -11,9 +11,9 @@ use Rattle.model.specs.Lookup.{absent, found, isNamed, lookIn}
 use Rattle.model.specs.Names.{Name}
 use Rattle.model.specs.Tree.{Slot, Tree, end, entryPages, node}
 use Rattle.model.specs.View.{View}
-use Rattle.lookup.specs.Descend.{bearing, bears, pickPlace, scan}
-use Rattle.lookup.specs.declared.along.Place.{Place}
-use Rattle.lookup.specs.declared.along.Place.the-variants as place
+use Rattle.tree.specs.Scan.{bearing, bears, pickPlace, scan}
+use Rattle.tree.specs.declared.along.Place.{Place}
+use Rattle.tree.specs.declared.along.Place.the-variants as place
 
 pub file-live : (e : Entry) → isFile e ≡ true → isLive e ≡ true
 file-live e h = and-l _ _ (and-l _ _ (and-l _ _ (and-l _ _ h)))

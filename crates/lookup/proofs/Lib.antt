@@ -1,6 +1,4 @@
 -- Why what the code finds is what stands in the model's tree.
-pub mod PageReads
-pub mod ScanLaws
 pub mod FindLaws
 pub mod Arrivals
 pub mod SlotLaws

@@ -15,11 +15,12 @@ use Rattle.model.specs.Check.{Result, andThen, fault, ok}
 use Rattle.model.specs.View.{View}
 use Rattle.page.specs.Page.{Read, isSome, orKept}
 use Rattle.layout.specs.Table.{dataOf}
-use Rattle.lookup.specs.Descend.{Piece, dataAlong, pagesFor, pickPlace, scan, unread}
+use Rattle.lookup.specs.Descend.{Piece, dataAlong, pagesFor}
+use Rattle.tree.specs.Scan.{pickPlace, scan, unread}
 use Rattle.lookup.specs.Read.{dataOfPages}
 use Rattle.tree.specs.Slots.{slotPage, slotPages, clusterAfter}
-use Rattle.lookup.specs.declared.along.Place.{Place}
-use Rattle.lookup.specs.declared.along.Place.the-variants as place
+use Rattle.tree.specs.declared.along.Place.{Place}
+use Rattle.tree.specs.declared.along.Place.the-variants as place
 use Rattle.lookup.proofs.CopyLaws.{sets-join, slice-length, slice-piece}
 
 module _ (v : View) where

@@ -22,10 +22,11 @@ use Rattle.model.specs.Tree.{Slot, Tree}
 use Rattle.model.specs.View.{Link, View, pagesOf}
 use Rattle.reached.specs.Table.{firstLinkOf, tableLinks}
 use Rattle.lookup.specs.Answers.{TellsRead}
-use Rattle.lookup.specs.Descend.{Stands, dataAlong, pagesFor, scan, unread}
+use Rattle.lookup.specs.Descend.{Stands, dataAlong, pagesFor}
+use Rattle.tree.specs.Scan.{scan, unread}
 use Rattle.lookup.specs.Read.{bytesFrom, bytesToCopy, dataOfPages, pagesWith, readFrom}
 use Rattle.tree.specs.Slots.{clusterAt, slotPages}
-use Rattle.lookup.specs.declared.along.Place.the-variants as place
+use Rattle.tree.specs.declared.along.Place.the-variants as place
 use Rattle.lookup.specs.declared.reading.ReadOutcome.the-variants as reading
 use Rattle.tree.proofs.ChainPages.{chain-pages}
 use Rattle.lookup.proofs.PagesLaws.{scan-gives}

@@ -19,11 +19,12 @@ use Rattle.model.specs.Tree.{Slot, Tree}
 use Rattle.model.specs.View.{View}
 use Rattle.reached.specs.Table.{tableLinks}
 use Rattle.lookup.specs.Answers.{TellsRead}
-use Rattle.lookup.specs.Descend.{Stands, dataAlong, pagesFor, scan, unread}
+use Rattle.lookup.specs.Descend.{Stands, dataAlong, pagesFor}
+use Rattle.tree.specs.Scan.{scan, unread}
 use Rattle.lookup.specs.Read.{bytesToCopy, readFrom}
 use Rattle.tree.specs.Slots.{clusterAt, slotPages}
-use Rattle.lookup.specs.declared.along.Place.{Place}
-use Rattle.lookup.specs.declared.along.Place.the-variants as place
+use Rattle.tree.specs.declared.along.Place.{Place}
+use Rattle.tree.specs.declared.along.Place.the-variants as place
 use Rattle.lookup.specs.declared.reading.ReadOutcome.{ReadOutcome}
 use Rattle.lookup.specs.declared.reading.ReadOutcome.the-variants as reading
 use Rattle.lookup.proofs.CopyLaws.{slice-length}

@@ -11,9 +11,9 @@ use Rattle.model.specs.Lookup.{absent, firstDead, indexOf, isNamed, lookIn}
 use Rattle.model.specs.Names.{Name}
 use Rattle.model.specs.Tree.{Slot, Tree, deadSlots, end, node, slotCount}
 use Rattle.model.specs.View.{View}
-use Rattle.lookup.specs.Descend.{bearing, dying, livingFrom, pickPlace, scan}
-use Rattle.lookup.specs.declared.along.Place.{Place}
-use Rattle.lookup.specs.declared.along.Place.the-variants as place
+use Rattle.tree.specs.Scan.{bearing, dying, livingFrom, pickPlace, scan}
+use Rattle.tree.specs.declared.along.Place.{Place}
+use Rattle.tree.specs.declared.along.Place.the-variants as place
 use Rattle.lookup.proofs.FindLaws.{Finds, bears-slot, directory-live, file-live, scan-finds}
 
 -- ---- the first slot that a test takes

@@ -20,14 +20,15 @@ use Rattle.model.specs.Tree.{Slot, Tree, end, node}
 use Rattle.model.specs.View.{View}
 use Rattle.reached.specs.Table.{tableLinks}
 use Rattle.lookup.specs.Answers.{TellsStep, blankEntry}
-use Rattle.lookup.specs.Descend.{Stands, livingFrom, scan}
+use Rattle.lookup.specs.Descend.{Stands}
+use Rattle.tree.specs.Scan.{livingFrom, scan}
 use Rattle.tree.specs.Slots.{nextOf, slotPages}
 use Rattle.lookup.specs.Step.{liveFrom, stepFrom}
-use Rattle.lookup.specs.declared.along.Place.{Place}
-use Rattle.lookup.specs.declared.along.Place.the-variants as place
+use Rattle.tree.specs.declared.along.Place.{Place}
+use Rattle.tree.specs.declared.along.Place.the-variants as place
 use Rattle.lookup.specs.declared.stepping.Stepped.the-variants as stepped
 use Rattle.lookup.specs.declared.stepping.SteppedEntry.{SteppedEntry}
-use Rattle.lookup.proofs.ScanLaws.{scan-as}
+use Rattle.tree.proofs.ScanLaws.{scan-as}
 use Rattle.lookup.proofs.FindLaws.{directory-live, file-live}
 use Rattle.lookup.proofs.EnterLaws.{some-same, stands-held}
 

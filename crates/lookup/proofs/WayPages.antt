@@ -18,9 +18,10 @@ use Rattle.model.specs.Tree.{Root, Slot, Tree, end, entryPages, node, rootSlot}
 use Rattle.model.specs.View.{View}
 use Rattle.reached.specs.Table.{tableLinks}
 use Rattle.tree.specs.Slots.{nextOf, slotPages}
-use Rattle.lookup.specs.Descend.{Stands, atRoot, bearing, descended, entered, landed, landedAt, nowhere, onward, pickArrived, scan}
-use Rattle.lookup.specs.declared.along.Place.{Place}
-use Rattle.lookup.specs.declared.along.Place.the-variants as place
+use Rattle.lookup.specs.Descend.{Stands, atRoot, descended, entered, landed, landedAt, nowhere, onward, pickArrived}
+use Rattle.tree.specs.Scan.{bearing, scan}
+use Rattle.tree.specs.declared.along.Place.{Place}
+use Rattle.tree.specs.declared.along.Place.the-variants as place
 use Rattle.lookup.specs.declared.way.Arrival.{Arrival}
 use Rattle.lookup.specs.declared.way.Arrival.the-variants as arrival
 use Rattle.lookup.specs.declared.way.Arrived.{Arrived}

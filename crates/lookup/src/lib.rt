@@ -1,5 +1,4 @@
 // Finding a path, stepping through a directory and reading a file: what stands at a path of an image's tree.
-pub mod along;
 pub mod call;
 pub mod finding;
 pub mod reading;

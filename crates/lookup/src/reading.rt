@@ -1,7 +1,4 @@
 // The bytes of a file.
-use crate::along::Place;
-use crate::along::cluster_at;
-use crate::along::first_unreadable;
 use crate::call::Standing;
 use crate::call::stand;
 use fields::kinds::is_directory;
@@ -10,15 +7,18 @@ use layout::Geometry;
 use layout::Refusal;
 use layout::image_page;
 use model::MOST_CLUSTERS;
+use tree::along::Place;
+use tree::along::cluster_at;
+use tree::along::first_unreadable;
 use tree::slots::next_of;
 use tree::slots::read_slot;
 use tree::slots::slot_page;
 ghost use mathlib.Core.Path.{_≡_};
-ghost use Prim.Native.Nat.{_+_, _-_, _*_, _<_, _≤_};
+ghost use Prim.Native.Nat.{_+_, _-_, _<_, _≤_};
 ghost use lib.ListN.{length, take};
 ghost use lib.Seq.{sets};
 ghost use Rattle.model.specs.Bytes.{slice, wordLimit};
-ghost use Rattle.lookup.specs.declared.along.Place.the-variants.{Nowhere};
+ghost use Rattle.tree.specs.declared.along.Place.the-variants.{Nowhere};
 ghost use Rattle.layout.specs.See.{viewBy};
 ghost use mathlib.Core.Bool.{cond};
 ghost use lib.Dec.{leb};
@@ -26,7 +26,8 @@ ghost use Rattle.lookup.specs.Answers.{TellsRead};
 ghost use Rattle.lookup.specs.Called.{ReadsAt};
 ghost use Rattle.lookup.specs.Read.{readOf};
 ghost use Rattle.tree.specs.Slots.{slotPages};
-ghost use Rattle.lookup.specs.Descend.{Piece, dataAlong, pagesFor, scan, unread};
+ghost use Rattle.lookup.specs.Descend.{Piece, dataAlong, pagesFor};
+ghost use Rattle.tree.specs.Scan.{scan, unread};
 
 // How many bytes a read copied.
 pub enum ReadOutcome {

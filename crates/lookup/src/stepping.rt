@@ -1,6 +1,4 @@
 // The next live entry of a directory.
-use crate::along::Place;
-use crate::along::first_live;
 use crate::call::Standing;
 use crate::call::stand;
 use crate::finding::no_entry;
@@ -11,6 +9,8 @@ use fields::numbers::word_at;
 use layout::Geometry;
 use layout::Refusal;
 use model::MOST_CLUSTERS;
+use tree::along::Place;
+use tree::along::first_live;
 use tree::slots::next_of;
 use tree::slots::read_slot;
 use tree::slots::slots_of;

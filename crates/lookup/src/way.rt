@@ -1,10 +1,10 @@
 // From the root along the names of a path, from the left.
-use crate::along::Place;
-use crate::along::find_name;
 use fields::kinds::is_directory;
 use fields::numbers::word_at;
 use fields::paths::name_at;
 use layout::Geometry;
+use tree::along::Place;
+use tree::along::find_name;
 use tree::slots::next_of;
 use tree::slots::read_slot;
 use tree::slots::slots_of;

@@ -1,8 +1,10 @@
 -- Why the walk of the code is the check of the model.
 pub mod ChainPages
+pub mod ScanLaws
 pub mod SlotSteps
 pub mod FilterLaws
 pub mod LookLaws
+pub mod PageReads
 pub mod TellLaws
 pub mod RootLaws
 pub mod CheckLaws

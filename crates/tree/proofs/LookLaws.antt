@@ -1,20 +1,20 @@
 -- What the code reads of a slot, and the names before it, are the view's.
 use Rattle.layout.specs.See.{imagePage}
 use Rattle.layout.specs.declared.Geometry.{Geometry}
-use Prim.Native.Nat.{_%_, _*_, _+_, _-_, _<_, _≤_, suc, zero, ℕ}
-use mathlib.Core.Bool.{Bool, _&&_, cond, false, true}
+use Prim.Native.Nat.{_%_, _+_, _<_, _≤_, ℕ}
+use mathlib.Core.Bool.{Bool, cond, false, true}
 use mathlib.Core.List.{List}
 use mathlib.Core.Option.{Option, none, some}
 use mathlib.Core.Path.{_∙_, _≡_, ap, refl, sym}
 use native.Mathlib.Numerals.{add-one}
 use native.Mathlib.Omega.{arith}
-use borrow.Author.Tests.{eq-eqb, lt-ltb, ltb-false, ltb-true, ne-eqb}
+use borrow.Author.Tests.{eq-eqb, ltb-false, ltb-true, ne-eqb}
 use lib.Dec.{eqb, ltb}
 use Rattle.fields.specs.Kinds.{kindOf}
 use Rattle.fields.specs.declared.kinds.Kind.the-variants as kind
 use Rattle.model.proofs.Equality.{tf}
 use Rattle.model.specs.Entry.{Entry, entryOf, isFile, isLive, isSubdirectory}
-use Rattle.model.specs.Names.{Name, sameName}
+use Rattle.model.specs.Names.{Name}
 use Rattle.model.specs.Pages.{decoded}
 use Rattle.model.specs.View.{View}
 use Rattle.page.specs.Page.{Read, isSome, orKept}
@@ -40,50 +40,6 @@ was-read {o} {before} {after} k e = go o (sym (k .readable) ∙ e) (k .buffer)
     go : (o : Option (List ℕ)) → isSome o ≡ true → after ≡ orKept o before → decoded o ≡ some (entryOf after)
     go none h b = tf h refl
     go (some d) h b = ap {B = Option Entry} (λ x. some (entryOf x)) (sym b)
-
--- ---- names
-
-hit-test : (a b : Bool) → (a && b) ≡ ltb 0 (cond a (cond b 1 0) 0)
-hit-test true true = refl
-hit-test true false = refl
-hit-test false b = refl
-
-pub named-live : {o : Option (List ℕ)} {before after : List ℕ} {r : Bool} (n : Name) (a b : Bool) → Read o before r after → r ≡ true
-    → a ≡ isLive (entryOf after) → b ≡ sameName ((entryOf after) .name) n → (a && b) ≡ ltb 0 (liveHit (decoded o) n)
-named-live {after = after} n a b k e f g = rw (was-read k e, f, g) (hit-test (isLive (entryOf after)) (sameName ((entryOf after) .name) n))
-
-pub cluster-start : (t : List ℕ) (start : ℕ) → start ≡ clusterAt t start 0
-unfolding clusterAt
-cluster-start t start = refl
-
-pub before-none : (v : View) (t : List ℕ) (start : ℕ) (n : Name) → liveBefore v t start 0 n ≡ 0
-unfolding liveBefore
-before-none v t start n = refl
-
-module _ (v : View) (t : List ℕ) (start : ℕ) where
-  pub cluster-step : (c j x : ℕ) → c ≡ clusterAt t start j → x ≡ clusterAfter t c j → x ≡ clusterAt t start (j + 1)
-  unfolding clusterAt
-  cluster-step c j x e f = rw (add-one j, ← e) f
-
-  before-more : (n : Name) (j k : ℕ) → liveBefore v t start j n ≤ liveBefore v t start (j + k) n
-  unfolding liveBefore
-  before-more n j zero = let z : j + 0 ≡ j = omega arith in rw z (omega arith)
-  before-more n j (suc k) = let z : j + suc k ≡ suc (j + k) = omega arith in rw z (omega (arith, before-more n j k))
-
-  module _ (n : Name) (c j page : ℕ) (here : c ≡ clusterAt t start j) (at : page ≡ slotPage c j) where
-    pub taken-here : (k : ℕ) → j < k → ltb 0 (liveHit (v .entry page) n) ≡ true → true ≡ ltb 0 (liveBefore v t start k n)
-    unfolding liveBefore
-    taken-here k l e =
-        let h : 0 < liveHit (v .entry (slotPage (clusterAt t start j) j)) n = ltb-true _ _ (rw (at, here) at e) in
-        let z : suc j + (k - suc j) ≡ k = omega arith in
-        let m : liveBefore v t start (suc j) n ≤ liveBefore v t start k n = rw z at (before-more n (suc j) (k - suc j)) in
-        sym (lt-ltb 0 (liveBefore v t start k n) (omega arith))
-
-    pub taken-later : liveBefore v t start j n ≡ 0 → ltb 0 (liveHit (v .entry page) n) ≡ false → liveBefore v t start (j + 1) n ≡ 0
-    unfolding liveBefore
-    taken-later z e =
-        let h : liveHit (v .entry (slotPage (clusterAt t start j) j)) n ≤ 0 = ltb-false _ _ (rw (at, here) at e) in
-        rw (add-one j) (omega arith)
 
 -- the cluster of the next slot
 pub step-odd : (t : List ℕ) (c k x : ℕ) → k % 2 ≡ 1 → x ≡ nextOf t c → x ≡ clusterAfter t c k

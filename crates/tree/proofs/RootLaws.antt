@@ -1,6 +1,6 @@
 -- The root, and what the whole walk tells of the check.
 use Rattle.layout.specs.declared.Geometry.{Geometry}
-use Prim.Native.Nat.{_*_, _-_, _≤_, ℕ}
+use Prim.Native.Nat.{_-_, _≤_, ℕ}
 use mathlib.Core.Bool.{_&&_, false, true}
 use mathlib.Core.List.{List, [], _∷_}
 use mathlib.Core.Option.{Option, none, some}

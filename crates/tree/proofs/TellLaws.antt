@@ -1,6 +1,6 @@
 -- What the walk's answers say, step by step.
 use Rattle.layout.specs.declared.Geometry.{Geometry}
-use Prim.Native.Nat.{_*_, _+_, _-_, _/_, _<_, _≤_, pred, suc, zero, ℕ}
+use Prim.Native.Nat.{_+_, _-_, _/_, _<_, _≤_, pred, suc, zero, ℕ}
 use mathlib.Core.Bool.{Bool, _&&_, false, true}
 use mathlib.Core.List.{List, [], _∷_}
 use mathlib.Core.Option.{Option, none, some}

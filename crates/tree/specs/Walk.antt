@@ -1,5 +1,5 @@
 -- What the walk's functions answer, in terms of the model's check; the tree is left out, only what was reached is told.
-use Prim.Native.Nat.{ℕ, zero, suc, _+_, _-_, _*_, _/_, pred}
+use Prim.Native.Nat.{ℕ, _+_, _-_, _/_, pred}
 use mathlib.Core.Bool.{Bool, true, false, cond}
 use mathlib.Core.List.{List, [], _∷_}
 use mathlib.Core.Option.{Option, none, some}
@@ -22,7 +22,6 @@ use Rattle.tree.specs.declared.walk.Look.{Look}
 use Rattle.tree.specs.declared.walk.Look.the-variants as look
 use Rattle.tree.specs.declared.walk.Verdict.{Verdict}
 use Rattle.tree.specs.declared.walk.Verdict.the-variants as verdict
-use Rattle.tree.specs.declared.walk.Walked.{Walked}
 use Rattle.tree.specs.Slots.{liveBefore, nextOf, slotPage, slotPages}
 
 -- what was reached, the tree left out

@@ -1,6 +1,4 @@
 // The slots of a directory: their pages, and the live names in them.
-use fields::kinds::is_live;
-use fields::names::same_entry_name;
 use layout::Geometry;
 use layout::image_page;
 use page::page_count;
@@ -8,12 +6,10 @@ use page::read_page;
 ghost use mathlib.Core.Path.{_≡_};
 ghost use Prim.Native.Nat.{_+_, _-_, _*_, _<_};
 ghost use lib.ListN.{length};
-ghost use lib.Dec.{ltb};
 ghost use Rattle.model.specs.Bytes.{pageLimit};
-ghost use Rattle.layout.specs.See.{pageIn, viewBy};
-ghost use Rattle.model.specs.Entry.{entryOf};
+ghost use Rattle.layout.specs.See.{pageIn};
 ghost use Rattle.page.specs.Page.{Read};
-ghost use Rattle.tree.specs.Slots.{liveBefore, liveHit, nextOf, slotPage};
+ghost use Rattle.tree.specs.Slots.{nextOf, slotPage};
 
 // The cluster after c in its chain.
 pub fn next_of(table: &[u32], c: u32) -> u32
@@ -64,40 +60,4 @@ pub fn read_slot(
         return false;
     }
     read_page(image, image_page(geometry, page), out)
-}
-
-// Whether a live entry with the name of the entry d stands in the page.
-fn named_at(image: &[u8], table: &[u32], geometry: Geometry, page: usize, d: &[u8; 512]) -> bool
-    ensures { λ r. ⌜ r ≡ ltb 0 (liveHit ((viewBy geometry (now (table .entry)) (now (image .entry))) .entry page) ((entryOf (now (d .entry))) .name)) ⌝ }
-{
-    let mut e = [0u8; 512];
-    if !read_slot(image, geometry, table.len(), page, &mut e) {
-        return false;
-    }
-    is_live(&e) & same_entry_name(&e, d)
-}
-
-// Whether a live entry before slot k has the name of the entry d; the slots begin in cluster `start`.
-pub(crate) fn name_taken(
-    image: &[u8],
-    table: &[u32],
-    geometry: Geometry,
-    start: u32,
-    k: u32,
-    d: &[u8; 512],
-) -> bool
-    ensures { λ r. ⌜ r ≡ ltb 0 (liveBefore (viewBy geometry (now (table .entry)) (now (image .entry))) (now (table .entry)) start k ((entryOf (now (d .entry))) .name)) ⌝ }
-{
-    let mut c = start;
-    let mut j: u32 = 0;
-    while j < k {
-        if named_at(image, table, geometry, slot_page(c, j), d) {
-            return true;
-        }
-        if j % 2 == 1 {
-            c = next_of(table, c);
-        }
-        j += 1;
-    }
-    false
 }

@@ -1,6 +1,6 @@
 // The walk of the directory tree, depth first (RULES, "Directories"): the first fault met, or the clusters reached.
+use crate::along::name_taken;
 use crate::filter::meet;
-use crate::slots::name_taken;
 use crate::slots::next_of;
 use crate::slots::read_slot;
 use crate::slots::slot_page;

@@ -1,5 +1,4 @@
 -- Where the name leads to an entry, what is done with it decides; the other ways out are refusals.
-use mathlib.Core.Path.{_∙_}
 use Rattle.change.proofs.CallLaws.{leaves, leaves-as}
 use Rattle.change.proofs.EditAnswers.{can-there, on-absent, on-kind, on-there}
 use borrow.Author.Needs.{needs}

@@ -2,7 +2,7 @@
 use mathlib.Core.Path.{_∙_, sym}
 use borrow.Author.Tests.{not-false, not-true}
 use Rattle.layout.specs.See.{viewBy}
-use Rattle.lookup.specs.Descend.{livingFrom}
+use Rattle.tree.specs.Scan.{livingFrom}
 use Rattle.change.proofs.CallLaws.{leaves, scan-so}
 use Rattle.change.proofs.EditAnswers.{removed-done, removed-kind, removed-live}
 use borrow.Author.Needs.{needs}

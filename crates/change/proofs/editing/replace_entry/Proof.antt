@@ -1,7 +1,6 @@
 -- Refused on a directory and for want of room; otherwise the new contents are put down with the free clusters listed.
 use mathlib.Core.Path.{_∙_, ap, sym}
 use native.Mathlib.Omega.{arith}
-use borrow.Author.Tests.{not-false, not-true}
 use lib.ListN.{length}
 use Rattle.change.proofs.CallLaws.{leaves}
 use Rattle.change.proofs.EditSteps.{can-land, replaced-done, replaced-full, replaced-kind}

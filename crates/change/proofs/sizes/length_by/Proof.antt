@@ -1,6 +1,6 @@
 -- The place is the one of its arm.
 use mathlib.Core.Path.{ap, sym}
-use Rattle.lookup.specs.declared.along.Place.{Place}
+use Rattle.tree.specs.declared.along.Place.{Place}
 use Rattle.change.specs.Deeds.{lengthBy}
 use borrow.Author.Needs.{needs}
 use Rattle.change.proofs.sizes.length_by.Statement.{statement}

@@ -2,7 +2,7 @@
 use Prim.Native.Nat.{_+_}
 use mathlib.Core.Path.{_≡_, ap, sym}
 use native.Mathlib.Omega.{arith}
-use Rattle.lookup.specs.declared.along.Place.{Place}
+use Rattle.tree.specs.declared.along.Place.{Place}
 use Rattle.change.specs.Deeds.{numberBy}
 use borrow.Author.Needs.{needs}
 use Rattle.change.proofs.sizes.number_by.Statement.{statement}

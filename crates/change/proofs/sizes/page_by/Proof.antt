@@ -1,7 +1,7 @@
 -- A dead slot's page, the second page of the last cluster, or the first of the one added.
 use mathlib.Core.Path.{_∙_, ap, sym}
 use native.Mathlib.Omega.{arith}
-use Rattle.lookup.specs.declared.along.Place.{Place}
+use Rattle.tree.specs.declared.along.Place.{Place}
 use Rattle.change.specs.Deeds.{pageBy}
 use Rattle.change.proofs.SizeSteps.{page-added, page-behind}
 use borrow.Author.Needs.{needs}

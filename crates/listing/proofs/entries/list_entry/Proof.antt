@@ -4,8 +4,8 @@ use mathlib.Core.Path.{_∙_, _≡_, sym}
 use native.Mathlib.Omega.{arith}
 use borrow.Author.Tests.{not-false, not-true}
 use Rattle.layout.specs.See.{viewBy}
-use Rattle.lookup.specs.Descend.{lives}
-use Rattle.lookup.proofs.PageReads.{none-lives, shown-live}
+use Rattle.tree.specs.Scan.{lives}
+use Rattle.tree.proofs.PageReads.{none-lives, shown-live}
 use Rattle.tree.proofs.LookLaws.{unread, was-read}
 use Rattle.listing.specs.Paths.{pathBytes}
 use Rattle.listing.proofs.EmitLaws.{wrote-as, wrote-none}

@@ -2,7 +2,7 @@
 use mathlib.Core.Path.{refl}
 use borrow.Author.Tests.{not-false, not-true}
 use Rattle.layout.specs.See.{viewBy}
-use Rattle.lookup.proofs.PageReads.{readable}
+use Rattle.tree.proofs.PageReads.{readable}
 use Rattle.model.proofs.Equality.{tf}
 use Rattle.model.specs.Entry.{entryOf}
 use Rattle.tree.proofs.LookLaws.{was-read}

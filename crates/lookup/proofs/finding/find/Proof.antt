@@ -1,5 +1,4 @@
 -- The answer of `stand`, asked for the entry.
-use Rattle.layout.specs.See.{viewBy}
 use Rattle.model.specs.Entry.{entryOf}
 use Rattle.lookup.specs.Find.{foundEntry}
 use Rattle.lookup.proofs.AnswerLaws.{find-at, find-refused}

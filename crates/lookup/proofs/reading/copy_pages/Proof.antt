@@ -8,10 +8,11 @@ use lib.ListN.{length}
 use lib.Seq.{sets}
 use Rattle.layout.specs.See.{viewBy}
 use Rattle.model.specs.Bytes.{slice}
-use Rattle.lookup.specs.Descend.{dataAlong, pagesFor, scan, unread}
+use Rattle.lookup.specs.Descend.{dataAlong, pagesFor}
+use Rattle.tree.specs.Scan.{scan, unread}
 use Rattle.tree.specs.Slots.{slotPages, clusterAfter}
-use Rattle.lookup.specs.declared.along.Place.the-variants.{Nowhere}
-use Rattle.lookup.proofs.PageReads.{view-sized}
+use Rattle.tree.specs.declared.along.Place.the-variants.{Nowhere}
+use Rattle.tree.proofs.PageReads.{view-sized}
 use Rattle.lookup.proofs.PagesLaws.{copy-end, copy-more, copy-step}
 use Rattle.lookup.proofs.reading.copy_pages.Statement.{statement}
 use Rattle.lookup.proofs.reading.copy_pages.Tie as tie

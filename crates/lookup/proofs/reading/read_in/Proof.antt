@@ -6,8 +6,8 @@ use lib.ListN.{length}
 use Rattle.layout.specs.See.{viewBy}
 use Rattle.layout.specs.declared.Refusal.the-variants.{BadOffset, WrongKind}
 use Rattle.model.specs.Entry.{entryOf}
-use Rattle.lookup.proofs.ScanLaws.{within}
-use Rattle.lookup.proofs.PageReads.{view-sized}
+use Rattle.tree.proofs.ScanLaws.{within}
+use Rattle.tree.proofs.PageReads.{view-sized}
 use Rattle.lookup.proofs.ReadLaws.{read-beyond, read-directory, read-refused}
 use Rattle.lookup.proofs.ReadSteps.{copy-ready, least-within, tells-bytes, tells-none, tells-unreadable}
 use borrow.Author.Needs.{needs}

@@ -6,8 +6,8 @@ use Rattle.layout.specs.See.{viewBy}
 use Rattle.layout.specs.declared.Refusal.the-variants.{WrongKind}
 use Rattle.model.proofs.Equality.{tf}
 use Rattle.model.specs.Entry.{entryOf}
-use Rattle.lookup.proofs.ScanLaws.{within}
-use Rattle.lookup.proofs.PageReads.{readable}
+use Rattle.tree.proofs.ScanLaws.{within}
+use Rattle.tree.proofs.PageReads.{readable}
 use Rattle.lookup.proofs.StepLaws.{live-as, step-end, step-file, step-readable, step-refused, step-slot}
 use borrow.Author.Needs.{needs}
 use Rattle.lookup.proofs.stepping.step_in.Statement.{statement}

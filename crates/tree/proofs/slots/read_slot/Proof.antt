@@ -3,8 +3,8 @@ use Rattle.layout.specs.declared.Geometry.{Geometry}
 use mathlib.Core.Bool.{Bool, cond, false, true}
 use mathlib.Core.List.{List}
 use mathlib.Core.Option.{none}
-use mathlib.Core.Path.{_∙_, _≡_, refl}
-use Prim.Native.Nat.{_*_, _+_, _/_, _<_, _≤_, ℕ}
+use mathlib.Core.Path.{_≡_, refl}
+use Prim.Native.Nat.{_*_, _/_, _<_, _≤_, ℕ}
 use native.Mathlib.Omega.{arith}
 use borrow.Author.Needs.{needs}
 use borrow.Author.Tests.{le-ltb, lt-ltb}

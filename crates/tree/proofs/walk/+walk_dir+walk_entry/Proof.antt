@@ -12,7 +12,8 @@ use Rattle.tree.specs.Filter.{Knows}
 use Rattle.tree.specs.Slots.{clusterAt, clusterAfter}
 use Rattle.tree.specs.Walk.{insideOf}
 use Rattle.tree.proofs.FilterLaws.{knows-none}
-use Rattle.tree.proofs.LookLaws.{cluster-start, cluster-step, step-even, step-odd}
+use Rattle.tree.proofs.LookLaws.{step-even, step-odd}
+use Rattle.tree.proofs.ScanLaws.{cluster-start, cluster-step}
 use Rattle.tree.proofs.TellLaws.{directory-bad, directory-deep, directory-good, directory-sound, file-bad, file-good, inside-go, inside-stop, rest, slot-go, slot-stop, slots-done}
 use Prim.Native.Nat.{_%_, _*_, _+_, _-_, _/_, _<_, _^_, ℕ}
 use borrow.Fn.Kinds.{In}
@@ -136,7 +137,7 @@ walk-dir-loop-again t c =
     ⊎-elim (λ z. step-odd tb (w .c) (w .k) _ (z .0 .taken) (z .2 ∙ z .1 .ensures)) (λ z. step-even tb (w .c) (w .k) _ (z .0 .left) (z .1)) (c .if3 .came) in
     let g = slot-go v (a .geometry) (a .below) tb (λ n. refl) (c .before .before .before .before .before .before .before .before .before .before .next-of .result) (w .c) (w .k) (w .left) _ (w .r) (w .inv .0) (c .before .before .before .before .before .before .before .loop-test .taken) (w .inv .1) (c .before .before .before .before .before .look-at .result) (c .before .before .before .before .before .look-at .ensures .0) _ _ (c .before .before .before .before .walk-entry .ensures) (sym (c .before .before .before .is-sound2 .ensures) ∙ not-false _ (c .before .before .if2 .left)) in (
       rw x (g .0),
-      cluster-step v tb (c .before .before .before .before .before .before .before .before .before .before .next-of .result) (w .c) (w .k) _ (w .inv .1) x,
+      cluster-step tb (c .before .before .before .before .before .before .before .before .before .before .next-of .result) (w .c) (w .k) _ (w .inv .1) x,
       omega arith,
       w .inv .3,
       ⊎-elim (λ z. omega (arith, z .2, z .1 .ensures, c .before .before .before .before .before .before .before .before .before .before .before .before .before .before .shared-slice-known2 .given (w .c))) (λ z. omega (arith, z .1)) (c .if3 .came),

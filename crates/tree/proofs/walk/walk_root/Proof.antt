@@ -1,9 +1,9 @@
 -- `tree::walk::walk_root` meets its contract: the root's first entry, its chain, its inside.
 use mathlib.Core.Path.{_∙_, refl, sym}
-use Prim.Native.Nat.{_%_, _*_, _+_, _/_}
+use Prim.Native.Nat.{_%_, _+_, _/_}
 use native.Mathlib.Omega.{arith}
 use borrow.Author.Tests.{not-false, not-true}
-use Rattle.layout.specs.See.{imagePage, viewBy}
+use Rattle.layout.specs.See.{viewBy}
 use Rattle.tree.proofs.LookLaws.{unread, was-read}
 use Rattle.tree.proofs.RootLaws.{root-bad, root-broken, root-good, root-sound, root-unread}
 use borrow.Author.Needs.{needs}
