@@ -1,11 +1,11 @@
 -- A path as bytes (RULES, "Changes"): `/`, or one to four names each after `/`, each name by the entry's name rule.
-use Prim.Native.Nat.{suc, ℕ}
+use Prim.Native.Nat.{ℕ}
 use mathlib.Core.Bool.{_&&_, cond}
 use mathlib.Core.List.{List, [], _∷_}
 use mathlib.Core.Option.{Option, none, some}
 use lib.Dec.{eqb}
 use lib.ListN.{drop, getD, length}
-use Rattle.model.specs.Holds.{deepest}
+use Rattle.model.specs.Holds.{mostNames}
 use Rattle.model.specs.Names.{Name, Path, goodPath}
 use Rattle.fields.specs.declared.paths.Parsed.the-variants.{Malformed, Names}
 use Rattle.fields.specs.declared.paths.Parsed.{Parsed}
@@ -24,7 +24,7 @@ splitNames (b ∷ bs) = cond (eqb b 0x2F) ([] ∷ splitNames bs) (onFirst b (spl
 abbrev pub pathOf : List ℕ → Option Path
 pathOf [] = none
 pathOf (b ∷ []) = cond (eqb b 0x2F) (some []) none
-pathOf (b ∷ c ∷ bs) = cond (eqb b 0x2F && goodPath (suc deepest) (splitNames (c ∷ bs))) (some (splitNames (c ∷ bs))) none
+pathOf (b ∷ c ∷ bs) = cond (eqb b 0x2F && goodPath mostNames (splitNames (c ∷ bs))) (some (splitNames (c ∷ bs))) none
 
 -- the parser's answer: how many names
 abbrev pub parsedOf : Option Path → Parsed

@@ -8,14 +8,14 @@ use mathlib.Core.Path.{_≡_}
 use lib.ListN.{length, replicate}
 use Rattle.fields.specs.PathBytes.{nameAt}
 use Rattle.layout.specs.Table.{dataOf}
-use Rattle.model.specs.Bytes.{word}
+use Rattle.model.specs.Bytes.{word, wordLimit}
 use Rattle.model.specs.Entry.{Entry, directoryClusters, entryOf, fileClusters, isDirectory}
 use Rattle.model.specs.Holds.{Chain, HoldsSlots}
 use Rattle.model.specs.Names.{Name, Path}
 use Rattle.model.specs.Tree.{Slot, Tree, entryPages}
 use Rattle.model.specs.View.{View, pagesOf}
 use Rattle.reached.specs.Table.{firstLinkOf}
-use Rattle.tree.specs.Scan.{bearing, scan}
+use Rattle.tree.specs.Scan.{bearing, scan, unread}
 use Rattle.tree.specs.Slots.{nextOf, slotPages}
 use Rattle.lookup.specs.declared.way.Arrived.{Arrived}
 use Rattle.lookup.specs.declared.way.Arrival.{Arrival}
@@ -33,6 +33,15 @@ dataAlong v (p ∷ ps) = dataOf (v .page p) ++ dataAlong v ps
 -- how many pages hold `count` bytes that begin at byte `skip` of the first
 abbrev pub pagesFor : ℕ → ℕ → ℕ
 pagesFor skip count = (skip + count + 511) / 512
+
+-- the pages of `count` bytes of a file from byte `skip` of its page `low` on, which lies in cluster `start`
+abbrev pub pagesFrom : List ℕ → ℕ → ℕ → ℕ → ℕ → List ℕ
+pagesFrom table start low skip count = slotPages table start low (pagesFor skip count)
+
+-- what a copy of them knows: they are readable, words can count them, and the buffer has room
+abbrev pub CanCopy : View → List ℕ → ℕ → ℕ → ℕ → ℕ → ℕ → Type 0
+CanCopy v table start low skip count room =
+    (skip < 512) × (count ≤ room) × (low + pagesFor skip count < wordLimit) × (scan (unread v) (pagesFrom table start low skip count) low ≡ place.Nowhere)
 
 -- a piece of a page from byte `skip` on: all that is left, or all that the page has
 pub record Piece (skip left n : ℕ) : Type 0 where

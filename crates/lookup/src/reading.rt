@@ -17,7 +17,7 @@ ghost use mathlib.Core.Path.{_≡_};
 ghost use Prim.Native.Nat.{_+_, _-_, _<_, _≤_};
 ghost use lib.ListN.{length, take};
 ghost use lib.Seq.{sets};
-ghost use Rattle.model.specs.Bytes.{slice, wordLimit};
+ghost use Rattle.model.specs.Bytes.{slice};
 ghost use Rattle.tree.specs.declared.along.Place.the-variants.{Nowhere};
 ghost use Rattle.layout.specs.See.{viewBy};
 ghost use mathlib.Core.Bool.{cond};
@@ -25,9 +25,7 @@ ghost use lib.Dec.{leb};
 ghost use Rattle.lookup.specs.Answers.{TellsRead};
 ghost use Rattle.lookup.specs.Called.{ReadsAt};
 ghost use Rattle.lookup.specs.Read.{readOf};
-ghost use Rattle.tree.specs.Slots.{slotPages};
-ghost use Rattle.lookup.specs.Descend.{Piece, dataAlong, pagesFor};
-ghost use Rattle.tree.specs.Scan.{scan, unread};
+ghost use Rattle.lookup.specs.Descend.{CanCopy, Piece, dataAlong, pagesFrom};
 
 // How many bytes a read copied.
 pub enum ReadOutcome {
@@ -77,8 +75,8 @@ fn copy_pages(
     count: usize,
     out: &mut [u8],
 )
-    requires { ⌜ (skip < 512) × (count ≤ length (now out)) × (low + pagesFor skip count < wordLimit) × (scan (unread (viewBy geometry (now table) (now image))) (slotPages (now table) start low (pagesFor skip count)) low ≡ Nowhere) ⌝ }
-    ensures { λ _. ⌜ now (out .exit) ≡ sets (now (out .entry)) 0 (slice (dataAlong (viewBy geometry (now (table .entry)) (now (image .entry))) (slotPages (now (table .entry)) start low (pagesFor skip count))) skip count) ⌝ }
+    requires { ⌜ CanCopy (viewBy geometry (now table) (now image)) (now table) start low skip count (length (now out)) ⌝ }
+    ensures { λ _. ⌜ now (out .exit) ≡ sets (now (out .entry)) 0 (slice (dataAlong (viewBy geometry (now (table .entry)) (now (image .entry))) (pagesFrom (now (table .entry)) start low skip count)) skip count) ⌝ }
 {
     let mut c = start;
     let mut k = low;

@@ -10,7 +10,7 @@ use Rattle.fields.specs.declared.kinds.Kind.the-variants as kind
 use Rattle.layout.specs.declared.Geometry.{Geometry}
 use Rattle.layout.specs.Refusal.{numberOf, pageOf}
 use Rattle.layout.specs.See.{imagePage, onImage}
-use Rattle.model.specs.Check.{Marks, Result, andThen, fault, followChain, judgeDots, marks, ok, walkDirectory}
+use Rattle.model.specs.Check.{Marks, Result, andThen, fault, followChain, judgeDot, judgeDots, marks, ok, walkDirectory}
 use Rattle.model.specs.Entry.{Entry, clustersFor, isFile, isLive, isSubdirectory}
 use Rattle.model.specs.Names.{Name}
 use Rattle.model.specs.Tree.{Root, Tree}
@@ -83,6 +83,10 @@ enteredLook v geometry below table m (look.Directory length first) =
     cond (ltb 0 below)
     (onChain (followChain v ((length + 1) / 2) (firstLinkOf first) m) (λ cs. onImage geometry (insideOf v (pred below) table first length (marks m cs))))
     (fault 7 0)
+
+-- one of a directory's first two entries, in page p
+abbrev pub dotIn : View → Name → ℕ → Result (Unit {0})
+dotIn v name p = judgeDot v name p (v .entry p)
 
 -- ---- what the code's answer says
 

@@ -25,12 +25,12 @@ ghost use lib.ListN.{length};
 ghost use Rattle.model.specs.Bytes.{pageLimit};
 ghost use Rattle.layout.specs.See.{onImage, viewBy};
 ghost use mathlib.Core.List.{_∷_, []};
-ghost use Rattle.model.specs.Check.{checkTree, judgeDot, judgeDots};
+ghost use Rattle.model.specs.Check.{checkTree, judgeDots};
 ghost use Rattle.model.specs.View.{mostClusters};
 ghost use Rattle.reached.specs.Marks.{Sound, marksOf};
 ghost use Rattle.tree.specs.Filter.{Knows};
 ghost use Rattle.tree.specs.Slots.{clusterAt};
-ghost use Rattle.tree.specs.Walk.{Judges, Tells, enteredLook, insideOf, isSound, lookBy, lookedIn, rootMarks};
+ghost use Rattle.tree.specs.Walk.{Judges, Tells, dotIn, enteredLook, insideOf, isSound, lookBy, lookedIn, rootMarks};
 
 // How a part of the tree is judged.
 pub(crate) enum Verdict {
@@ -107,7 +107,7 @@ fn look_at(
 // One of a directory's first two entries.
 fn judge_dot(image: &[u8], table: &[u32], geometry: Geometry, page: usize, name: &[u8]) -> Verdict
     requires { ⌜ page < pageLimit ⌝ }
-    ensures { λ r. ⌜ Judges (onImage geometry (judgeDot (viewBy geometry (now (table .entry)) (now (image .entry))) (now (name .entry)) page ((viewBy geometry (now (table .entry)) (now (image .entry))) .entry page))) r ⌝ }
+    ensures { λ r. ⌜ Judges (onImage geometry (dotIn (viewBy geometry (now (table .entry)) (now (image .entry))) (now (name .entry)) page)) r ⌝ }
 {
     let mut d = [0u8; 512];
     if !read_slot(image, geometry, table.len(), page, &mut d) {
