@@ -16,15 +16,15 @@ ghost use Rattle.layout.specs.Table.{openCard, tableAfter};
 ghost use Rattle.lookup.specs.Called.{Fits, TellsStood, TellsWay, refusedAs};
 
 // Where a call stands: at an entry of an open card, whose chain begins with cluster `first`, or refused.
-pub enum Standing {
+pub(crate) enum Standing {
     At { card: Superblock, first: u32 },
     Refused(Refusal),
 }
 
 // A standing with the page of the entry there, zeros where there is none.
-pub struct Stood {
-    pub standing: Standing,
-    pub page: [u8; 512],
+pub(crate) struct Stood {
+    pub(crate) standing: Standing,
+    pub(crate) page: [u8; 512],
 }
 
 fn refused(refusal: Refusal) -> Stood
@@ -72,7 +72,7 @@ fn stand_words(image: &[u8], table: &[u32], card: Superblock, path: &[u8]) -> St
 }
 
 // The check, then 8, 9 and 10. The lent room has the table's words for the questions that go on from here.
-pub fn stand(image: &[u8], path: &[u8], room: &mut [u32; MOST_CLUSTERS]) -> Stood
+pub(crate) fn stand(image: &[u8], path: &[u8], room: &mut [u32; MOST_CLUSTERS]) -> Stood
     ensures told { λ r. ⌜ TellsStood (now (room .exit)) (now (image .entry)) (now (path .entry)) r ⌝ }
     ensures working_room { λ _. ⌜ now (room .exit) ≡ tableAfter (now (image .entry)) (openCard (now (image .entry))) (now (room .entry)) ⌝ }
     ensures fits { λ r. ⌜ Fits (r .standing) ⌝ }

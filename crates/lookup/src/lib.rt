@@ -1,5 +1,5 @@
 // Finding a path, stepping through a directory and reading a file: what stands at a path of an image's tree.
-pub mod call;
+mod call;
 pub mod finding;
 pub mod reading;
 pub mod stepping;
