@@ -1,0 +1,155 @@
+//! What the header says in words, beside the calls that show it; and what README says of the program `list`.
+
+use std::fs::{self, File, OpenOptions};
+use std::path::{Path, PathBuf};
+use std::process::{Command, Output, Stdio};
+
+use ps2card::{Card, Refusal, Stamp};
+use reader::build;
+
+/// The repository.
+fn home() -> PathBuf {
+    Path::new(env!("CARGO_MANIFEST_DIR")).join("..")
+}
+
+fn time() -> Stamp {
+    Stamp(build::usual_time())
+}
+
+fn fresh() -> Card {
+    Card::fresh(56, &time()).expect("a fresh card")
+}
+
+/// The words stand in a text, wherever its lines are broken.
+#[track_caller]
+fn says(file: &str, words: &str) {
+    let text = fs::read_to_string(home().join(file)).expect("a text");
+    let plain = text.replace("\n *", " ").split_whitespace().collect::<Vec<_>>().join(" ");
+    assert!(plain.contains(words), "{file} no longer says: {words}");
+}
+
+const HEADER: &str = "include/ps2card.h";
+
+#[test]
+fn lengths() {
+    says(
+        HEADER,
+        "A card has 32 to 8,192 clusters, in steps of 8: an image of any other length than 1,056 bytes for each",
+    );
+    let image = vec![0; 8_208 * 1_056 + 1];
+    let length_is_bad = |bytes: usize| Card::new(&image[..bytes]).check() == Err(Refusal::BadLength);
+    for clusters in 0..=8_208 {
+        let allowed = clusters % 8 == 0 && (32..=8_192).contains(&clusters);
+        assert_eq!(length_is_bad(clusters * 1_056), !allowed, "{clusters} clusters");
+        assert!(length_is_bad(clusters * 1_056 + 1), "{clusters} clusters and a byte");
+    }
+}
+
+#[test]
+fn names() {
+    says(
+        HEADER,
+        r#"A name has 1 to 31 bytes from 0x20 to 0x7E, none of them * / or ?, and is neither "." nor "..". Names are compared whole: case and blanks count."#,
+    );
+    let create = |path: &[u8]| fresh().create(path, &time(), b"");
+    for byte in 0..=255 {
+        let expected = match byte {
+            b'/' => Err(Refusal::Absent),
+            b'*' | b'?' => Err(Refusal::BadPath),
+            0x20..=0x7E => Ok(()),
+            _ => Err(Refusal::BadPath),
+        };
+        assert_eq!(create(&[b'/', b'a', byte, b'b']), expected, "byte {byte}");
+    }
+    for length in 0..40 {
+        let expected = if (1..=31).contains(&length) { Ok(()) } else { Err(Refusal::BadPath) };
+        assert_eq!(create(&[&b"/"[..], &vec![b'a'; length]].concat()), expected, "{length} bytes");
+    }
+    assert_eq!([&b"/."[..], b"/..", b"", b"a", b"//", b"/a/"].map(create), [Err(Refusal::BadPath); 6]);
+    let mut card = fresh();
+    for path in [&b"/a"[..], b"/A", b"/a ", b"/ a"] {
+        card.create(path, &time(), b"").expect("another name");
+    }
+    assert_eq!(card.create(b"/a ", &time(), b""), Err(Refusal::Exists));
+}
+
+#[test]
+fn depths() {
+    says(HEADER, r#""/" alone, or one to four names, each after a "/"."#);
+    says(HEADER, "Directories have one to three names, files one to four.");
+    let mut card = fresh();
+    for path in [&b"/a"[..], b"/a/b", b"/a/b/c"] {
+        card.make_dir(path, &time()).expect("a directory");
+    }
+    assert_eq!(card.make_dir(b"/a/b/c/d", &time()), Err(Refusal::BadPath));
+    assert_eq!(card.create(b"/a/b/c/d", &time(), b""), Ok(()));
+    assert_eq!(card.create(b"/a/b/c/d/e", &time(), b""), Err(Refusal::BadPath));
+    assert!(card.find(b"/").is_ok());
+}
+
+#[test]
+fn times() {
+    says(HEADER, "zero, second, minute, hour, day, month, year in two bytes, low one first");
+    says(HEADER, "a date that the calendar has, of the years 1980 to 9999. Cards hold Japan's time (UTC+9, all year)");
+    let stamp = |day: u8, month: u8, year: u16| Stamp([0, 59, 59, 23, day, month, year as u8, (year >> 8) as u8]);
+    let create = |time: Stamp| fresh().create(b"/a", &time, b"").is_ok();
+    for year in [0, 1979, 1980, 2026, 9999, 10_000, u16::MAX] {
+        assert_eq!(create(stamp(1, 1, year)), (1980..=9999).contains(&year), "{year}");
+    }
+    assert_eq!([2000, 2100, 2004, 2001].map(|year| create(stamp(29, 2, year))), [true, false, true, false]);
+    assert_eq!(fresh().create(b"/a", &Stamp([1; 8]), b""), Err(Refusal::BadTime));
+}
+
+#[test]
+fn listing() {
+    let lines = ["card CLUSTERS", "free COUNT", "reached COUNT", "orphaned COUNT", "d ENTRIES PATH", "f BYTES PATH"];
+    lines.iter().for_each(|line| says(HEADER, line));
+    let mut card = fresh();
+    card.make_dir(b"/d", &time()).expect("a directory");
+    card.create(b"/d/f", &time(), b"four").expect("a file");
+    let text = String::from_utf8(card.list().expect("a listing")).expect("text");
+    assert!(text.ends_with('\n'));
+    let told: Vec<Vec<&str>> = text.lines().map(|line| line.split(' ').collect()).collect();
+    let words: Vec<Vec<&str>> = lines.iter().map(|line| line.split(' ').collect()).collect();
+    assert_eq!(told.len(), words.len());
+    for (told, words) in told.iter().zip(&words) {
+        assert_eq!((told[0], told.len()), (words[0], words.len()));
+    }
+    assert_eq!((&told[4][1..], &told[5][1..]), (&["3", "/d"][..], &["4", "/d/f"][..]));
+}
+
+/// The proved program, as `rt check list` and `rt ci` build it.
+fn list(input: Stdio, output: Stdio) -> Output {
+    let program = home().join("target/bin/list");
+    assert!(program.exists(), "{} is missing: rt check list builds it", program.display());
+    let run = Command::new(program).stdin(input).stdout(output).spawn().expect("a run");
+    run.wait_with_output().expect("an end")
+}
+
+/// Its exit status is 0 whatever happens, as README says.
+#[test]
+fn list_tells_nothing_by_its_status() {
+    says("README.md", "Rattle has no exit status, so its is 0 whatever happens");
+    let sample = home().join("samples/bench.ps2");
+    let image = fs::read(&sample).expect("a card");
+    let of = |file: &Path| Stdio::from(File::open(file).expect("a file"));
+
+    let whole = list(of(&sample), Stdio::piped());
+    assert_eq!((whole.status.code(), whole.stdout), (Some(0), Card::new(&image[..]).list().expect("a listing")));
+
+    // A folder can be opened but not read: what came before the failure is nothing, and no image.
+    let unread = list(of(&home()), Stdio::piped());
+    assert_eq!((unread.status.code(), &unread.stdout[..]), (Some(0), &b"refused 1\n"[..]));
+
+    // Cut where another card could end, and elsewhere.
+    let cut = std::env::temp_dir().join(format!("ps2card-cut-{}.ps2", std::process::id()));
+    for (bytes, line) in [(48 * 1_056, &b"refused 4\n"[..]), (48 * 1_056 + 1, b"refused 1\n")] {
+        fs::write(&cut, &image[..bytes]).expect("a file");
+        let short = list(of(&cut), Stdio::piped());
+        assert_eq!((short.status.code(), &short.stdout[..]), (Some(0), line));
+    }
+    fs::remove_file(&cut).expect("a file to remove");
+
+    let full = OpenOptions::new().write(true).open("/dev/full").expect("a full device");
+    assert_eq!(list(of(&sample), Stdio::from(full)).status.code(), Some(0));
+}
