@@ -2,6 +2,7 @@ pub mod Xor
 pub mod Tests
 pub mod Codes
 pub mod Linear
+pub mod Sums
 pub mod Syndrome
 pub mod Locate
 pub mod Laws

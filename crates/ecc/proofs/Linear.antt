@@ -42,12 +42,18 @@ pub parity-lt : (b : ℕ) → parity b < 2
 unfolding parity
 parity-lt b = mod-lt (onesIn 8 b) (zero-lt-suc 1)
 
-parity-digit : (b : ℕ) → Digit (parity b)
+pub parity-digit : (b : ℕ) → Digit (parity b)
 parity-digit b = digit (parity b) (parity-lt b)
 
 parity-xor : (a b : ℕ) → parity (bitXor a b) ≡ differ (parity a) (parity b)
 unfolding parity
 parity-xor a b = ones-parity 8 a b
+
+pub columns-lt : (b : ℕ) → columnParities b < 128
+unfolding columnParities
+columns-lt b =
+    omega
+    (arith, parity-lt (bitAnd b 0x55), parity-lt (bitAnd b 0x33), parity-lt (bitAnd b 0x0F), parity-lt (bitAnd b 0xAA), parity-lt (bitAnd b 0xCC), parity-lt (bitAnd b 0xF0))
 
 -- the six parities, as the digits of a number
 abbrev packed : ℕ → ℕ → ℕ → ℕ → ℕ → ℕ → ℕ

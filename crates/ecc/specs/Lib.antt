@@ -1,4 +1,5 @@
 pub mod Code
+pub mod Parities
 pub mod Judge
 pub mod Flip
 pub mod Claims

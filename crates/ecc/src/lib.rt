@@ -1,10 +1,12 @@
+use crate::parities::parities_in;
+use crate::parities::parity_table;
 ghost use mathlib.Core.Path.{_≡_};
-ghost use Prim.Native.Nat.{_-_, _<_};
 ghost use lib.ListN.{take};
-ghost use Rattle.ecc.specs.Code.{parity, columnParities, whereOdd, _⊕_, codeOf};
+ghost use Rattle.ecc.specs.Code.{codeOf};
 ghost use Rattle.ecc.specs.Judge.{judgeSlice};
 
 pub mod claims;
+mod parities;
 
 // The three code bytes of a chunk.
 pub struct Code {
@@ -21,69 +23,25 @@ pub enum Verdict {
     Unreadable,
 }
 
-// 1 where x has an odd number of ones, else 0.
-fn parity(x: u8) -> u8
-    ensures { λ r. ⌜ r ≡ parity x ⌝ }
-{
-    let a = x ^ (x >> 4);
-    let b = a ^ (a >> 2);
-    let c = b ^ (b >> 1);
-    c & 1
-}
-
-// The bits of code byte 0 that the data byte x flips, one for each mask.
-fn column_parities(x: u8) -> u8
-    ensures { λ r. ⌜ r ≡ columnParities x ⌝ }
-{
-    let bit0 = parity(x & 0x55);
-    let bit1 = parity(x & 0x33);
-    let bit2 = parity(x & 0x0F);
-    let bit4 = parity(x & 0xAA);
-    let bit5 = parity(x & 0xCC);
-    let bit6 = parity(x & 0xF0);
-    bit0 ^ (bit1 << 1) ^ (bit2 << 2) ^ (bit4 << 4) ^ (bit5 << 5) ^ (bit6 << 6)
-}
-
-// The sums with the data byte x at index i: byte 0 is the XOR of the bytes themselves, bytes 1 and 2 are as in the code.
-fn fold(sums: Code, i: u8, x: u8) -> Code
-    requires { ⌜ i < 128 ⌝ }
-    ensures { λ r. ⌜ r ≡ sums ⊕ record { byte0 = x; byte1 = whereOdd (parity x) (127 - i); byte2 = whereOdd (parity x) i } ⌝ }
-{
-    let byte0 = sums.byte0 ^ x;
-    if parity(x) == 1 {
-        Code {
-            byte0: byte0,
-            byte1: sums.byte1 ^ (127 - i),
-            byte2: sums.byte2 ^ i,
-        }
-    } else {
-        Code {
-            byte0: byte0,
-            byte1: sums.byte1,
-            byte2: sums.byte2,
-        }
-    }
-}
-
 // The code of the first 128 bytes of `chunk`, or of them all where there are fewer.
-// A parity of the XOR of all bytes is the XOR of their parities, so the columns are taken once.
+// `sums` has code byte 0 in bits 0 to 6, code byte 2 in bits 8 to 14, and in bit 7 whether an odd number of bytes was odd.
+// Byte 1 takes 127 - i where byte 2 takes i, and 127 - i is 127 XOR i: so it is byte 2, and 127 XOR that where bit 7 is set.
 pub fn chunk_code(chunk: &[u8]) -> Code
     ensures { λ r. ⌜ r ≡ codeOf (take 128 (now (chunk .entry))) ⌝ }
 {
-    let mut sums = Code {
-        byte0: 0,
-        byte1: 0x7F,
-        byte2: 0x7F,
-    };
+    let table = parity_table();
+    let mut sums: u16 = 0x7F77;
     let mut i: usize = 0;
     while i < 128 && i < chunk.len() {
-        sums = fold(sums, i as u8, chunk[i]);
+        sums = sums ^ (parities_in(&table, chunk[i]) & (256 * (i as u16) + 255));
         i += 1;
     }
+    let odd = (sums / 128 % 2) as u8;
+    let byte2 = (sums / 256 % 256) as u8;
     Code {
-        byte0: 0x77 ^ column_parities(sums.byte0),
-        byte1: sums.byte1,
-        byte2: sums.byte2,
+        byte0: (sums % 128) as u8,
+        byte1: byte2 ^ (127 * odd),
+        byte2: byte2,
     }
 }
 
