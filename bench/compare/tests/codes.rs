@@ -33,7 +33,7 @@ fn code_of(place: usize, byte: u8) -> [u8; 3] {
     let odd = |value: u8| value.count_ones() as u8 % 2;
     let masks = [(0, 0x55), (1, 0x33), (2, 0x0F), (4, 0xAA), (5, 0xCC), (6, 0xF0)];
     let columns: u8 = masks.iter().map(|(bit, mask)| odd(byte & mask) << bit).sum();
-    [0x77 ^ columns, 0x7F ^ odd(byte) * (127 - place as u8), 0x7F ^ odd(byte) * place as u8]
+    [0x77 ^ columns, 0x7F ^ (odd(byte) * (127 - place as u8)), 0x7F ^ (odd(byte) * place as u8)]
 }
 
 /// The image with the file, and where its pages begin.

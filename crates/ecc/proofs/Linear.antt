@@ -89,7 +89,7 @@ packed-xor {u} {v} {w} {x} {y} {z} {u′} {v′} {w′} {x′} {y′} {z′} du 
 parity-masked : (a b m : ℕ) → parity (bitAnd (bitXor a b) m) ≡ differ (parity (bitAnd a m)) (parity (bitAnd b m))
 parity-masked a b m = ap parity (and-xor a b m) ∙ parity-xor (bitAnd a m) (bitAnd b m)
 
-pub columns-xor : (a b : ℕ) → columnParities (bitXor a b) ≡ bitXor (columnParities a) (columnParities b)
+columns-xor : (a b : ℕ) → columnParities (bitXor a b) ≡ bitXor (columnParities a) (columnParities b)
 columns-xor a b =
     columns-packed (bitXor a b)
     ∙ rw (parity-masked a b 0x55, parity-masked a b 0x33, parity-masked a b 0x0F, parity-masked a b 0xAA, parity-masked a b 0xCC, parity-masked a b 0xF0)
