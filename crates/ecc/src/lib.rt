@@ -24,8 +24,8 @@ pub enum Verdict {
 }
 
 // The code of the first 128 bytes of `chunk`, or of them all where there are fewer.
-// `sums` has code byte 0 in bits 0 to 6, code byte 2 in bits 8 to 14, and in bit 7 whether an odd number of bytes was odd.
-// Byte 1 takes 127 - i where byte 2 takes i, and 127 - i is 127 XOR i: so it is byte 2, and 127 XOR that where bit 7 is set.
+// `sums` has code byte 0 in bits 0 to 6 and code byte 2 in bits 8 to 14. Where byte 2 takes i, byte 1 takes 127 - i,
+// which is 127 XOR i: so it is byte 2, and 127 XOR that after an odd number of such bytes, which bit 7 tells.
 pub fn chunk_code(chunk: &[u8]) -> Code
     ensures { λ r. ⌜ r ≡ codeOf (take 128 (now (chunk .entry))) ⌝ }
 {
@@ -33,6 +33,7 @@ pub fn chunk_code(chunk: &[u8]) -> Code
     let mut sums: u16 = 0x7F77;
     let mut i: usize = 0;
     while i < 128 && i < chunk.len() {
+        // Of the entry's ones above bit 7 those of the index stay.
         sums = sums ^ (parities_in(&table, chunk[i]) & (256 * (i as u16) + 255));
         i += 1;
     }
