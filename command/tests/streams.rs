@@ -195,32 +195,47 @@ fn no_progress_while_typing() {
     );
 }
 
+/// Writes a card with so many files that `verify` is at work for two seconds on this machine; how many.
+fn long_work(folder: &Folder) -> usize {
+    let mut files = 1000;
+    loop {
+        folder.write("card", &crowd(files));
+        let start = Instant::now();
+        folder.run(&["verify", "card"]).done();
+        if start.elapsed() > Duration::from_secs(2) {
+            return files;
+        }
+        files += files / 2;
+    }
+}
+
 /// What takes longer than a second says how far it is, on a terminal alone, and clears its line.
 #[test]
 fn progress() {
     let folder = Folder::new();
-    folder.write("card", &crowd(1500));
+    let files = long_work(&folder);
     let (shown, took) = on_terminal(&folder, &[b"verify", b"card"], None);
     assert!(took > Duration::from_secs(1), "{took:?}: too short to tell");
     let mut last = 0;
-    let steps = shown.split('\r').filter_map(|line| line.strip_prefix("ps2card verify: ")?.split_once(" of 1500"));
+    let of = format!(" of {files}");
+    let steps = shown.split('\r').filter_map(|line| line.strip_prefix("ps2card verify: ")?.split_once(&of));
     let mut count = 0;
     for (done, _) in steps {
         let done: usize = done.parse().expect("a number");
-        assert!(done >= last && done <= 1500, "{done} after {last}");
+        assert!(done >= last && done <= files, "{done} after {last}");
         (last, count) = (done, count + 1);
     }
     assert!(count > 1 && last > 0, "{count} steps, {last} files");
     let sums = shown.split(['\r', '\n']).filter(|line| line.len() > 64 && line.contains("  SAVE")).count();
-    assert_eq!(sums, 1500);
-    assert!(!shown.rsplit('\n').next().expect("an end").contains("of 1500") || shown.ends_with('\r'));
+    assert_eq!(sums, files);
+    assert!(!shown.rsplit('\n').next().expect("an end").contains(&of) || shown.ends_with('\r'));
 
     // Elsewhere, nothing of it: into a pipe.
     let (mut reader, writer) = std::io::pipe().expect("a pipe");
     let drain = std::thread::spawn(move || std::io::copy(&mut reader, &mut std::io::sink()).expect("read"));
     let (shown, took) = on_terminal(&folder, &[b"verify", b"card"], Some(writer.into()));
     assert!(took > Duration::from_secs(1), "{took:?}: too short to tell");
-    assert_eq!((shown.as_str(), drain.join().expect("read") > 64 * 1500), ("", true));
+    assert_eq!((shown.as_str(), drain.join().expect("read") > 64 * files as u64), ("", true));
     // And nothing of what is short.
     let (shown, _) = on_terminal(&folder, &[b"ls", b"card", b"/"], None);
     assert!(!shown.contains("ps2card ls"), "{shown}");
@@ -228,5 +243,5 @@ fn progress() {
     let file = File::create(folder.path("sums")).expect("a file");
     let (shown, _) = on_terminal(&folder, &[b"verify", b"card"], Some(file.into()));
     assert!(shown.contains("ps2card verify: ") && shown.ends_with('\r'), "{shown:?}");
-    assert_eq!(folder.read("sums").iter().filter(|&&byte| byte == b'\n').count(), 1500);
+    assert_eq!(folder.read("sums").iter().filter(|&&byte| byte == b'\n').count(), files);
 }
