@@ -1,5 +1,5 @@
 -- `chunk_code` meets its contract: the code in `sums`, with what the bytes that are left flip in it, is the whole code at every turn.
-use mathlib.Core.Path.{_≡_, refl, ap, _∙_}
+use mathlib.Core.Path.{_≡_, refl, _∙_}
 use mathlib.Core.List.{List}
 use mathlib.Core.Logic.{⊎-elim}
 use Prim.Native.Nat.{ℕ, _+_, _-_, _≤_, _<_}
@@ -12,7 +12,7 @@ use lib.ListN.{length, take, drop, getD, length-take, drop-of-length-le}
 use lib.Seq.{drop-cons, getD-take}
 use Rattle.ecc.specs.declared.Code.{Code}
 use Rattle.ecc.specs.Code.{codeFrom, codeOf}
-use Rattle.ecc.specs.Parities.{parityEntry, HoldsParities}
+use Rattle.ecc.specs.Parities.{parityEntry}
 use Rattle.ecc.proofs.Sums.{codeIn, indexMask, with-entry}
 use Rattle.ecc.proofs.chunk_code.Statement.{statement}
 use Rattle.ecc.proofs.chunk_code.Tie as tie
