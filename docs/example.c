@@ -1,5 +1,5 @@
 /* A whole program over ps2card.h: checks a card, shows its saves, puts a note on it and writes the changed card to a new
- * file. The image that it is given stays as it is.
+ * file. The image that it is given stays as it is. It is raw, or after --plain without spare bytes.
  *
  *   ./install --prefix "$HOME/ps2card"
  *   cc -o example docs/example.c $(PKG_CONFIG_PATH="$HOME/ps2card/lib/pkgconfig" pkg-config --cflags --libs ps2card)
@@ -12,6 +12,9 @@
 #include <time.h>
 
 #include <ps2card.h>
+
+/* What the caller says, and nobody can see in the bytes. */
+static uint32_t format = PS2CARD_RAW;
 
 /* One byte more than the largest card, so that a longer file is refused and not cut. */
 static uint8_t image[PS2CARD_MOST_BYTES + 1];
@@ -53,7 +56,8 @@ static void show_directory(const char *path) {
     uint32_t slot = 2, found = 0;
     size_t page = 0;
     for (;;) {
-        accepted(path, ps2card_step_entry(image, image_length, TEXT(path), slot, &page, &found, &slot, &entry), page);
+        accepted(path, ps2card_step_entry(format, image, image_length, TEXT(path), slot, &page, &found, &slot, &entry),
+                 page);
         if (!found) {
             return;
         }
@@ -69,37 +73,45 @@ static void put_note(void) {
     uint8_t now[8], back[sizeof note];
     size_t page = 0, count = 0;
     time_in_japan(now);
-    accepted("make /EXAMPLE", ps2card_make_dir(image, image_length, TEXT("/EXAMPLE"), now, &page), page);
-    accepted("create", ps2card_create(image, image_length, TEXT("/EXAMPLE/NOTE"), now, TEXT(note), &page), page);
+    accepted("make /EXAMPLE", ps2card_make_dir(format, image, image_length, TEXT("/EXAMPLE"), now, &page), page);
+    accepted("create", ps2card_create(format, image, image_length, TEXT("/EXAMPLE/NOTE"), now, TEXT(note), &page),
+             page);
     accepted("read",
-             ps2card_read(image, image_length, TEXT("/EXAMPLE/NOTE"), 0, back, sizeof back, &page, &count), page);
+             ps2card_read(format, image, image_length, TEXT("/EXAMPLE/NOTE"), 0, back, sizeof back, &page, &count),
+             page);
     printf("note %s\n", count == strlen(note) && memcmp(back, note, count) == 0 ? "kept" : "differs");
 }
 
 /* The listing: asked for its length first. An accepted card has at least its counts. */
 static void show_listing(void) {
-    size_t length = ps2card_list(image, image_length, NULL, 0);
+    size_t length = ps2card_list(format, image, image_length, NULL, 0);
     uint8_t *text = (uint8_t *)malloc(length);
     if (text == NULL) {
         exit(2);
     }
-    ps2card_list(image, image_length, text, length);
+    ps2card_list(format, image, image_length, text, length);
     fwrite(text, 1, length, stdout);
     free(text);
 }
 
 int main(int count, char **words) {
-    FILE *file = count == 3 ? fopen(words[1], "rb") : NULL;
+    FILE *file;
     ps2card_counts counts;
     size_t page = 0;
+    if (count > 1 && strcmp(words[1], "--plain") == 0) {
+        format = PS2CARD_PLAIN;
+        count--;
+        words++;
+    }
+    file = count == 3 ? fopen(words[1], "rb") : NULL;
     if (file == NULL) {
-        fprintf(stderr, "usage: example IMAGE NEW-IMAGE (ps2card %s)\n", PS2CARD_VERSION);
+        fprintf(stderr, "usage: example [--plain] IMAGE NEW-IMAGE (ps2card %s)\n", PS2CARD_VERSION);
         return 2;
     }
     image_length = fread(image, 1, sizeof image, file);
     fclose(file);
 
-    accepted("check", ps2card_check_counts(image, image_length, &page, &counts), page);
+    accepted("check", ps2card_check_counts(format, image, image_length, &page, &counts), page);
     printf("%lu clusters, %lu free\n", (unsigned long)counts.clusters, (unsigned long)counts.free);
     show_directory("/");
     put_note();

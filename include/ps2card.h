@@ -1,4 +1,4 @@
-/* ps2card.h: raw PlayStation 2 memory card images, read and changed by the proved library libps2card.a.
+/* ps2card.h: PlayStation 2 memory card images, raw and plain, read and changed by the proved library libps2card.a.
  *
  * Every function is proved to meet its contract for every input: it reads and writes nothing outside what it is lent,
  * takes no memory and ends. docs/example.c is a whole program over this header.
@@ -13,9 +13,13 @@
  * NULL: image, path, bytes and out may be NULL where their length is 0. No other pointer may be NULL, page included.
  * Threads: no state is kept. Calls may run at once, on one image too as long as none of them changes it.
  *
- * image, image_length: the raw image with its spare bytes, of any content and length. A page is 512 bytes of data and
- *   16 spare bytes, a cluster two pages. A card has 32 to 8,192 clusters, in steps of 8: an image of any other length
- *   than 1,056 bytes for each of them is refused. Every call checks the whole card first.
+ * format: how the image holds its pages (enum ps2card_format), as the caller says. It is never guessed: some lengths
+ *   are a card's in both. A raw page is 512 bytes of data and 16 spare bytes, with the codes that find wrong bits; a
+ *   plain one is the 512 bytes alone, as emulators keep them. A cluster is two pages. Answers, refusals and their order
+ *   are the same in both formats; but a plain page has no code, so that none is unreadable.
+ * image, image_length: the image, of any content and length. A card has 32 to 8,192 clusters, in steps of 8: an image
+ *   of any other length than 1,056 bytes for each of them, or 1,024 where it is plain, is refused. No length is right
+ *   for a number that names no format. Every call but the two conversions checks the whole card first.
  * The check reads the superblock, the table and every directory, but NO FILE DATA: a card that it accepts may have
  *   files with unreadable pages. Only ps2card_read of all of a file's bytes shows that they can be read.
  * path, path_length: a path on the card as bytes, without a zero at the end: "/" alone, or one to four names, each
@@ -27,10 +31,12 @@
  *
  * The answer is 0, or the number of a refusal (enum ps2card_refusal). On a refusal the image and every output stay as
  * they were; only number 2 writes the unreadable page's index in the image to page, and nothing else writes to page.
+ * A page has the same index in a raw image and in its plain one.
  *
  * Stack: a bound on x86-64 for a function's frame and all below it. Measured by painting the stack, on cards with
- * directories on every level: 207 KiB for check, find, step and read, 240 KiB for the others; the bound leaves room for
- * another compiler, and a test sees that it holds. The size of the card and the number of its entries do not matter.
+ * directories on every level: 208 KiB for check, find, step and read, 240 KiB for list and the changes, 2 KiB for the
+ * conversions; the bound leaves room for another compiler, and a test sees that it holds. The size of the card and the
+ * number of its entries do not matter.
  */
 #ifndef PS2CARD_H
 #define PS2CARD_H
@@ -38,16 +44,27 @@
 #include <stddef.h>
 #include <stdint.h>
 
-#define PS2CARD_VERSION "0.1.0"
+#define PS2CARD_VERSION "0.2.0"
 /* 10,000 for each major, 100 for each minor version, and the patch. */
-#define PS2CARD_VERSION_NUMBER 100
+#define PS2CARD_VERSION_NUMBER 200
 
-/* Bytes of a cluster with its spare bytes, and of the largest card. */
+/* Bytes of a cluster with its spare bytes, and of the largest card. A plain one is shorter, so that MOST_BYTES is room
+ * for either. */
 #define PS2CARD_CLUSTER_BYTES 1056
 #define PS2CARD_MOST_BYTES (8192 * PS2CARD_CLUSTER_BYTES)
+/* The same without spare bytes. */
+#define PS2CARD_PLAIN_CLUSTER_BYTES 1024
+#define PS2CARD_PLAIN_MOST_BYTES (8192 * PS2CARD_PLAIN_CLUSTER_BYTES)
+
+/* The formats of an image. */
+enum ps2card_format {
+    PS2CARD_RAW = 0,  /* pages of 528 bytes: data and spare bytes */
+    PS2CARD_PLAIN = 1 /* pages of 512 bytes: data alone */
+};
 
 /* The refusals, in their order: of several that apply, the first is told. Among 1 to 7 that is the first fault that the
- * check meets on its way. The page of a file's data (2, by ps2card_read) comes after all others. */
+ * check meets on its way. The page of a file's data (2, by ps2card_read) comes after all others. The conversions tell
+ * 1, 23 and 2 in this order. */
 enum ps2card_refusal {
     PS2CARD_DONE = 0,            /* no refusal */
     PS2CARD_BAD_LENGTH = 1,      /* the image's length is that of no card */
@@ -64,7 +81,8 @@ enum ps2card_refusal {
     PS2CARD_EXISTS = 11,         /* the path to create exists */
     PS2CARD_NOT_EMPTY = 13,      /* the directory to remove has a live entry after its first two */
     PS2CARD_BAD_OFFSET = 15,     /* the read's offset lies beyond the file's length */
-    PS2CARD_NO_ROOM = 12         /* fewer free clusters than needed */
+    PS2CARD_NO_ROOM = 12,        /* fewer free clusters than needed */
+    PS2CARD_WRONG_OUTPUT = 23    /* the output of a conversion isn't exactly as long as needed */
 };
 
 /* Mode bits of an entry. A live one has EXISTS and exactly one of FILE and DIRECTORY; no other bit is judged. A new
@@ -89,32 +107,33 @@ extern "C" {
 /* Checks the card: its clusters, and how many of the allocatable ones are free, reached by a chain, and neither.
  * Refusals: 1 to 7. Untouched on a refusal: clusters, free, reached, orphaned.
  * Stack: at most 224 KiB. */
-uint32_t ps2card_check(const uint8_t *image, size_t image_length, size_t *page, uint32_t *clusters, size_t *free,
-                       size_t *reached, size_t *orphaned);
+uint32_t ps2card_check(uint32_t format, const uint8_t *image, size_t image_length, size_t *page, uint32_t *clusters,
+                       size_t *free, size_t *reached, size_t *orphaned);
 
 /* Finds the entry at a path, for the root its first one, and hands out its fields: ps2card_find_entry below has them as
  * a struct.
  * Refusals: 1 to 10. Untouched on a refusal: every field.
  * Stack: at most 224 KiB. */
-uint32_t ps2card_find(const uint8_t *image, size_t image_length, const uint8_t *path, size_t path_length, size_t *page,
-                      uint16_t *mode, uint32_t *length, uint8_t *created, uint32_t *first, uint32_t *dir_entry,
-                      uint8_t *modified, uint32_t *attribute, uint8_t *name);
+uint32_t ps2card_find(uint32_t format, const uint8_t *image, size_t image_length, const uint8_t *path,
+                      size_t path_length, size_t *page, uint16_t *mode, uint32_t *length, uint8_t *created,
+                      uint32_t *first, uint32_t *dir_entry, uint8_t *modified, uint32_t *attribute, uint8_t *name);
 
 /* Finds the first live entry of a directory from a slot on, never before slot 2: found is 1, at its slot, and its
  * fields are handed out, by ps2card_step_entry below as a struct. At the end found is 0, and at and the fields stay as
  * they were.
  * Refusals: 1 to 10. Untouched on a refusal: found, at and every field.
  * Stack: at most 224 KiB. */
-uint32_t ps2card_step(const uint8_t *image, size_t image_length, const uint8_t *path, size_t path_length, uint32_t slot,
-                      size_t *page, uint32_t *found, uint32_t *at, uint16_t *mode, uint32_t *length, uint8_t *created,
-                      uint32_t *first, uint32_t *dir_entry, uint8_t *modified, uint32_t *attribute, uint8_t *name);
+uint32_t ps2card_step(uint32_t format, const uint8_t *image, size_t image_length, const uint8_t *path,
+                      size_t path_length, uint32_t slot, size_t *page, uint32_t *found, uint32_t *at, uint16_t *mode,
+                      uint32_t *length, uint8_t *created, uint32_t *first, uint32_t *dir_entry, uint8_t *modified,
+                      uint32_t *attribute, uint8_t *name);
 
 /* Copies a file's bytes from an offset on into out, until the file or out ends; count tells how many. The rest of out
  * stays as it was.
  * Refusals: 1 to 10, 15; 2 also for a page with a byte to copy. Untouched on a refusal: out and count.
  * Stack: at most 224 KiB. */
-uint32_t ps2card_read(const uint8_t *image, size_t image_length, const uint8_t *path, size_t path_length, size_t offset,
-                      uint8_t *out, size_t out_length, size_t *page, size_t *count);
+uint32_t ps2card_read(uint32_t format, const uint8_t *image, size_t image_length, const uint8_t *path,
+                      size_t path_length, size_t offset, uint8_t *out, size_t out_length, size_t *page, size_t *count);
 
 /* Writes the listing into out, as much of it as fits. The answer is the whole text's length, without a zero at the end:
  * a call with out_length 0 tells how much room it needs. The rest of out stays as it was. The lines, each with a
@@ -128,37 +147,52 @@ uint32_t ps2card_read(const uint8_t *image, size_t image_length, const uint8_t *
  * the last two for each entry in tree order: slot order, a directory before its inside; the root has no line. On a
  * refusal the text is one line, "refused N" or "refused 2 PAGE".
  * Stack: at most 256 KiB. */
-size_t ps2card_list(const uint8_t *image, size_t image_length, uint8_t *out, size_t out_length);
+size_t ps2card_list(uint32_t format, const uint8_t *image, size_t image_length, uint8_t *out, size_t out_length);
 
 /* Creates a file with these bytes at a path; both its times become the given one.
  * Refusals: 1 to 12, 14. Untouched on a refusal: the whole image.
  * Stack: at most 256 KiB. */
-uint32_t ps2card_create(uint8_t *image, size_t image_length, const uint8_t *path, size_t path_length,
+uint32_t ps2card_create(uint32_t format, uint8_t *image, size_t image_length, const uint8_t *path, size_t path_length,
                         const uint8_t *time, const uint8_t *bytes, size_t bytes_length, size_t *page);
 
 /* Replaces the bytes of the file at a path; its time of change becomes the given one. The new bytes need room beside
  * the old ones.
  * Refusals: 1 to 10, 12, 14. Untouched on a refusal: the whole image.
  * Stack: at most 256 KiB. */
-uint32_t ps2card_replace(uint8_t *image, size_t image_length, const uint8_t *path, size_t path_length,
+uint32_t ps2card_replace(uint32_t format, uint8_t *image, size_t image_length, const uint8_t *path, size_t path_length,
                          const uint8_t *time, const uint8_t *bytes, size_t bytes_length, size_t *page);
 
 /* Deletes the file at a path.
  * Refusals: 1 to 10. Untouched on a refusal: the whole image.
  * Stack: at most 256 KiB. */
-uint32_t ps2card_delete(uint8_t *image, size_t image_length, const uint8_t *path, size_t path_length, size_t *page);
+uint32_t ps2card_delete(uint32_t format, uint8_t *image, size_t image_length, const uint8_t *path, size_t path_length,
+                        size_t *page);
 
 /* Makes an empty directory at a path of one to three names; its times become the given one.
  * Refusals: 1 to 12, 14. Untouched on a refusal: the whole image.
  * Stack: at most 256 KiB. */
-uint32_t ps2card_make_dir(uint8_t *image, size_t image_length, const uint8_t *path, size_t path_length,
+uint32_t ps2card_make_dir(uint32_t format, uint8_t *image, size_t image_length, const uint8_t *path, size_t path_length,
                           const uint8_t *time, size_t *page);
 
 /* Removes the directory at a path, which must have no live entry after its first two.
  * Refusals: 1 to 10, 13. Untouched on a refusal: the whole image.
  * Stack: at most 256 KiB. */
-uint32_t ps2card_remove_dir(uint8_t *image, size_t image_length, const uint8_t *path, size_t path_length,
-                            size_t *page);
+uint32_t ps2card_remove_dir(uint32_t format, uint8_t *image, size_t image_length, const uint8_t *path,
+                            size_t path_length, size_t *page);
+
+/* Writes the plain image of a raw one: out becomes the data of every page as read, single wrong bits corrected; the
+ * spare bytes are lost. out must have exactly 512 bytes for each page of 528. Only lengths and pages are judged: what
+ * the pages hold need not be a card.
+ * Refusals: 1, 23, then 2 for the first unreadable page of all, whether or not a file or a directory uses it. Untouched
+ * on a refusal: out.
+ * Stack: at most 4 KiB. */
+uint32_t ps2card_to_plain(const uint8_t *image, size_t image_length, uint8_t *out, size_t out_length, size_t *page);
+
+/* Writes the raw image of a plain one: out becomes each page's data with its codes, and zero in the four spare bytes
+ * after them. out must have exactly 528 bytes for each page of 512. Only lengths are judged.
+ * Refusals: 1, 23. Untouched on a refusal: out.
+ * Stack: at most 4 KiB. */
+uint32_t ps2card_to_raw(const uint8_t *image, size_t image_length, uint8_t *out, size_t out_length);
 
 #ifdef __cplusplus
 }
@@ -185,26 +219,27 @@ typedef struct ps2card_entry {
 } ps2card_entry;
 
 /* ps2card_check with its counts. Untouched on a refusal: counts. */
-static inline uint32_t ps2card_check_counts(const uint8_t *image, size_t image_length, size_t *page,
+static inline uint32_t ps2card_check_counts(uint32_t format, const uint8_t *image, size_t image_length, size_t *page,
                                             ps2card_counts *counts) {
-    return ps2card_check(image, image_length, page, &counts->clusters, &counts->free, &counts->reached,
+    return ps2card_check(format, image, image_length, page, &counts->clusters, &counts->free, &counts->reached,
                          &counts->orphaned);
 }
 
 /* ps2card_find with an entry. Untouched on a refusal: entry. */
-static inline uint32_t ps2card_find_entry(const uint8_t *image, size_t image_length, const uint8_t *path,
-                                          size_t path_length, size_t *page, ps2card_entry *entry) {
-    return ps2card_find(image, image_length, path, path_length, page, &entry->mode, &entry->length, entry->created,
-                        &entry->first, &entry->dir_entry, entry->modified, &entry->attribute, entry->name);
+static inline uint32_t ps2card_find_entry(uint32_t format, const uint8_t *image, size_t image_length,
+                                          const uint8_t *path, size_t path_length, size_t *page, ps2card_entry *entry) {
+    return ps2card_find(format, image, image_length, path, path_length, page, &entry->mode, &entry->length,
+                        entry->created, &entry->first, &entry->dir_entry, entry->modified, &entry->attribute,
+                        entry->name);
 }
 
 /* ps2card_step with an entry. Untouched on a refusal: found, at and entry; at the end: at and entry. */
-static inline uint32_t ps2card_step_entry(const uint8_t *image, size_t image_length, const uint8_t *path,
-                                          size_t path_length, uint32_t slot, size_t *page, uint32_t *found,
-                                          uint32_t *at, ps2card_entry *entry) {
-    return ps2card_step(image, image_length, path, path_length, slot, page, found, at, &entry->mode, &entry->length,
-                        entry->created, &entry->first, &entry->dir_entry, entry->modified, &entry->attribute,
-                        entry->name);
+static inline uint32_t ps2card_step_entry(uint32_t format, const uint8_t *image, size_t image_length,
+                                          const uint8_t *path, size_t path_length, uint32_t slot, size_t *page,
+                                          uint32_t *found, uint32_t *at, ps2card_entry *entry) {
+    return ps2card_step(format, image, image_length, path, path_length, slot, page, found, at, &entry->mode,
+                        &entry->length, entry->created, &entry->first, &entry->dir_entry, entry->modified,
+                        &entry->attribute, entry->name);
 }
 
 /* Whether an entry is a directory; what find and step hand out is a file otherwise. */

@@ -5,7 +5,7 @@ use std::ops::RangeInclusive;
 use std::os::unix::ffi::OsStrExt;
 use std::path::Path;
 
-use ps2card::Stamp;
+use ps2card::{Format, Stamp};
 
 use crate::failure::Failure;
 
@@ -39,14 +39,24 @@ pub enum Opt {
     Recursive,
     Long,
     BytesOnly,
+    Plain,
+    PlainA,
+    PlainB,
+    ToPlain,
+    ToRaw,
 }
 
-const OPTIONS: [(&str, Opt); 5] = [
+const OPTIONS: [(&str, Opt); 10] = [
     ("--stamp", Opt::Stamp),
     ("--as", Opt::As),
     ("-r", Opt::Recursive),
     ("-l", Opt::Long),
     ("--bytes-only", Opt::BytesOnly),
+    ("--plain", Opt::Plain),
+    ("--plain-a", Opt::PlainA),
+    ("--plain-b", Opt::PlainB),
+    ("--to-plain", Opt::ToPlain),
+    ("--to-raw", Opt::ToRaw),
 ];
 
 impl Opt {
@@ -101,6 +111,19 @@ impl Call {
 
     pub fn asked(&self, option: Opt) -> bool {
         self.value(option).is_some()
+    }
+
+    /// The format of the image, or of every one: as said, and never guessed.
+    pub fn format(&self) -> Format {
+        self.format_by(Opt::Plain)
+    }
+
+    /// Plain where this option says so.
+    pub fn format_by(&self, option: Opt) -> Format {
+        match self.asked(option) {
+            true => Format::Plain,
+            false => Format::Raw,
+        }
     }
 
     /// An option's value, the last one given.

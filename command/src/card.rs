@@ -1,9 +1,6 @@
 //! A card over an image, owned or borrowed.
 
-use crate::Refusal;
-
-/// Bytes of the largest card.
-pub const MOST_BYTES: usize = 8192 * 1056;
+use crate::{Format, Refusal};
 
 /// What the check counts. Free, reached and orphaned add up to the allocatable clusters.
 #[derive(Clone, Copy, Debug, Default, PartialEq, Eq)]
@@ -18,26 +15,28 @@ pub struct Counts {
     pub orphaned: usize,
 }
 
-/// A card. Its image may be any bytes; every call checks it first and answers a refusal where it is no sound card.
+/// A card: an image and its format. The image may be any bytes; every call checks it first and answers a refusal where
+/// it is no sound card of that format.
 ///
 /// `Card` alone owns its image. [`CardRef`] borrows one to look at it, [`CardMut`] to change it in place; what they can
 /// do is said once, by what the image lends.
 ///
 /// ```
-/// use ps2card::{Card, CardMut, CardRef, Stamp};
+/// use ps2card::{Card, CardMut, CardRef, Format, Stamp};
 ///
 /// let time = Stamp::parse("2000-02-29T12:34:56").unwrap();
-/// let mut image: Vec<u8> = Card::fresh(56, &time)?.into_image();
+/// let mut image: Vec<u8> = Card::fresh(Format::Plain, 56, &time)?.into_image();
 ///
-/// let mut changing: CardMut = Card::new(&mut image[..]);
+/// let mut changing: CardMut = Card::plain(&mut image[..]);
 /// changing.make_dir(b"/SAVE", &time)?;
 ///
-/// let looking: CardRef = Card::new(&image[..]);
-/// assert_eq!(looking.check()?, Card::new(image.clone()).check()?);
+/// let looking: CardRef = Card::plain(&image[..]);
+/// assert_eq!(looking.check()?, Card::new(Format::Plain, image.clone()).check()?);
 /// # Ok::<(), ps2card::Refusal>(())
 /// ```
 #[derive(Clone, Copy, Debug, PartialEq, Eq)]
 pub struct Card<B = Vec<u8>> {
+    pub(crate) format: Format,
     pub(crate) image: B,
 }
 
@@ -56,9 +55,24 @@ pub(crate) fn verdict(number: u32, page: usize) -> Result<(), Refusal> {
 }
 
 impl<B> Card<B> {
-    /// A card over these bytes. Nothing is checked yet.
-    pub const fn new(image: B) -> Card<B> {
-        Card { image }
+    /// A card of this format over these bytes. Nothing is checked yet.
+    pub const fn new(format: Format, image: B) -> Card<B> {
+        Card { format, image }
+    }
+
+    /// A raw card, with spare bytes.
+    pub const fn raw(image: B) -> Card<B> {
+        Card::new(Format::Raw, image)
+    }
+
+    /// A plain card, without them.
+    pub const fn plain(image: B) -> Card<B> {
+        Card::new(Format::Plain, image)
+    }
+
+    /// The image's format, as it was said.
+    pub const fn format(&self) -> Format {
+        self.format
     }
 
     /// The image, handed back.

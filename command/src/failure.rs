@@ -9,8 +9,8 @@ use ps2card::Refusal;
 use crate::output;
 
 pub enum Failure {
-    /// Status 1, by the rules of the card: the refusal, and where it was met, image and path.
-    Refused(Refusal, String),
+    /// Status 1, by the rules of the card: the refusal, what more is to say of it, and where it was met, image and path.
+    Refused(Refusal, String, String),
     /// Status 2: the command line is wrong; the usage line of its command, where that is known.
     Usage(String, Option<&'static str>),
     /// Status 3: a file of the host cannot be read or written.
@@ -27,14 +27,22 @@ pub const REFUSED: u8 = 1;
 impl Failure {
     /// A refusal that concerns the image alone.
     pub fn refused(refusal: Refusal, image: &Path) -> Failure {
-        Failure::Refused(refusal, shown(image))
+        Failure::Refused(refusal, String::new(), shown(image))
     }
 
     /// A refusal that concerns a path on the card; where the card itself is refused, the path has no part in it.
     pub fn refused_at(refusal: Refusal, image: &Path, path: &[u8]) -> Failure {
         match refusal.number() {
             1 | 3..=7 => Failure::refused(refusal, image),
-            _ => Failure::Refused(refusal, format!("{}: {}", shown(image), path.escape_ascii())),
+            _ => Failure::Refused(refusal, String::new(), format!("{}: {}", shown(image), path.escape_ascii())),
+        }
+    }
+
+    /// Says more of an image's size, where that is what is refused.
+    pub fn with_hint(self, hint: &str) -> Failure {
+        match self {
+            Failure::Refused(Refusal::BadLength, _, at) => Failure::Refused(Refusal::BadLength, hint.to_string(), at),
+            other => other,
         }
     }
 
@@ -62,8 +70,8 @@ impl Failure {
     /// Says the line and gives the status.
     pub fn tell(self) -> u8 {
         match self {
-            Failure::Refused(refusal, at) => {
-                output::complain(&format!("{refusal} ({at})"));
+            Failure::Refused(refusal, hint, at) => {
+                output::complain(&format!("{refusal}{hint} ({at})"));
                 REFUSED
             }
             Failure::Usage(words, usage) => {

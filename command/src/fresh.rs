@@ -1,12 +1,8 @@
 //! A fresh formatted card, laid out as source document 001 describes the standard one.
 
-use crate::{Card, Refusal, Stamp};
-
-/// Clusters of the standard card of 8 MB.
-pub const STANDARD_CLUSTERS: usize = 8192;
+use crate::{allowed_clusters, Card, Format, Refusal, Stamp};
 
 const DATA: usize = 512;
-const PAGE: usize = 528;
 const CHUNK: usize = 128;
 
 /// The indirect cluster: the first after the superblock's erase block. The table follows it.
@@ -20,15 +16,10 @@ const END: u32 = 0xFFFF_FFFF;
 const FREE: u32 = 0x7FFF_FFFF;
 const DIRECTORY_MODE: u16 = 0x8427;
 
-/// Whether a card may have so many clusters.
-pub fn allowed_clusters(clusters: usize) -> bool {
-    clusters.is_multiple_of(8) && (32..=STANDARD_CLUSTERS).contains(&clusters)
-}
-
 impl Card {
     /// A card with nothing but an empty root, its entries with this time; 14 where the time is invalid, 1 where no card
     /// has so many clusters. Every page that nothing stands in is erased, both backup blocks too.
-    pub fn fresh(clusters: usize, time: &Stamp) -> Result<Card, Refusal> {
+    pub fn fresh(format: Format, clusters: usize, time: &Stamp) -> Result<Card, Refusal> {
         if !allowed_clusters(clusters) {
             return Err(Refusal::BadLength);
         }
@@ -36,20 +27,20 @@ impl Card {
             return Err(Refusal::BadTime);
         }
         let layout = Layout::of(clusters);
-        let mut image = vec![0xFF; clusters * 2 * PAGE];
-        write_page(&mut image, 0, &superblock(&layout));
+        let mut card = Card::new(format, vec![0xFF; clusters * format.cluster_bytes()]);
+        write_page(&mut card, 0, &superblock(&layout));
         let mut names = [END; WORDS];
         names.iter_mut().zip(layout.table_clusters()).for_each(|(name, cluster)| *name = cluster as u32);
-        write_words(&mut image, INDIRECT, &names);
+        write_words(&mut card, INDIRECT, &names);
         let mut table = vec![END; WORDS * layout.table];
         table[1..layout.alloc_end].fill(FREE);
         for (cluster, words) in layout.table_clusters().zip(table.chunks(WORDS)) {
-            write_words(&mut image, cluster, words);
+            write_words(&mut card, cluster, words);
         }
         let root = 2 * layout.alloc_offset();
-        write_page(&mut image, root, &directory_entry(b".", 2, time));
-        write_page(&mut image, root + 1, &directory_entry(b"..", 0, time));
-        Ok(Card::new(image))
+        write_page(&mut card, root, &directory_entry(b".", 2, time));
+        write_page(&mut card, root + 1, &directory_entry(b"..", 0, time));
+        Ok(card)
     }
 }
 
@@ -119,18 +110,20 @@ fn put(data: &mut [u8], at: usize, bytes: &[u8]) {
 }
 
 /// Writes up to 256 words into the two pages of a card cluster.
-fn write_words(image: &mut [u8], cluster: usize, words: &[u32]) {
+fn write_words(card: &mut Card, cluster: usize, words: &[u32]) {
     for (second, half) in words.chunks(DATA / 4).enumerate() {
         let mut data = [0; DATA];
         half.iter().enumerate().for_each(|(place, word)| put(&mut data, 4 * place, &word.to_le_bytes()));
-        write_page(image, 2 * cluster + second, &data);
+        write_page(card, 2 * cluster + second, &data);
     }
 }
 
-/// Writes a page with the codes of its four chunks; the last four spare bytes stay.
-fn write_page(image: &mut [u8], page: usize, data: &[u8; DATA]) {
-    let (stored, spare) = image[page * PAGE..][..PAGE].split_at_mut(DATA);
+/// Writes a page, a raw one with the codes of its four chunks; the last four spare bytes stay.
+fn write_page(card: &mut Card, page: usize, data: &[u8; DATA]) {
+    let size = card.format.page_bytes();
+    let (stored, spare) = card.image[page * size..][..size].split_at_mut(DATA);
     stored.copy_from_slice(data);
+    // A plain page has no room for a code.
     for (chunk, code) in data.chunks(CHUNK).zip(spare.chunks_mut(3)) {
         code.copy_from_slice(&code_of(chunk));
     }

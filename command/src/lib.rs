@@ -1,14 +1,15 @@
-//! Raw PlayStation 2 memory card images, read and changed by the proved library.
+//! PlayStation 2 memory card images, raw and plain, read and changed by the proved library.
 //!
-//! A [`Card`] is an image of any bytes, owned or borrowed: each call checks it first, so none has to be checked before.
-//! A call answers, or tells a [`Refusal`] and leaves the image and every buffer as they were.
+//! A [`Card`] is an image of any bytes, owned or borrowed, in a [`Format`] that the caller says: each call checks it
+//! first, so none has to be checked before. A call answers, or tells a [`Refusal`] and leaves the image and every buffer
+//! as they were.
 //!
 //! ```
-//! use ps2card::{Card, Refusal, Stamp};
+//! use ps2card::{Card, Format, Refusal, Stamp};
 //!
 //! # fn main() -> Result<(), Refusal> {
 //! let time = Stamp::parse("2000-02-29T12:34:56").expect("a time");
-//! let mut card = Card::fresh(56, &time)?;
+//! let mut card = Card::fresh(Format::Raw, 56, &time)?;
 //! card.make_dir(b"/SAVE", &time)?;
 //! card.create(b"/SAVE/A", &time, b"the bytes of a save")?;
 //!
@@ -29,8 +30,10 @@
 
 mod card;
 mod change;
+mod convert;
 mod entry;
 mod error;
+mod format;
 mod fresh;
 pub mod image_file;
 mod listing;
@@ -41,9 +44,9 @@ mod stamp;
 /// Bytes of stack that a call of the library takes at most, by the bounds that `include/ps2card.h` gives.
 pub const STACK: usize = 256 * 1024;
 
-pub use card::{Card, CardMut, CardRef, Counts, MOST_BYTES};
+pub use card::{Card, CardMut, CardRef, Counts};
 pub use entry::{Entry, Kind};
-pub use fresh::{allowed_clusters, STANDARD_CLUSTERS};
+pub use format::{allowed_clusters, Format, MOST_BYTES, STANDARD_CLUSTERS};
 pub use listing::Line;
 pub use refusal::Refusal;
 pub use stamp::Stamp;

@@ -29,9 +29,9 @@ impl<B: AsRef<[u8]>> Card<B> {
     /// Every entry in tree order: slot order, a directory before its inside. One check of the card.
     ///
     /// ```
-    /// use ps2card::{Card, Kind, Stamp};
+    /// use ps2card::{Card, Format, Kind, Stamp};
     ///
-    /// let mut card = Card::fresh(56, &Stamp::now())?;
+    /// let mut card = Card::fresh(Format::Raw, 56, &Stamp::now())?;
     /// card.make_dir(b"/SAVE", &Stamp::now())?;
     /// card.create(b"/SAVE/A", &Stamp::now(), b"bytes")?;
     /// let tree = card.tree()?;

@@ -9,12 +9,12 @@ impl<B: AsRef<[u8]>> Card<B> {
     /// The check, with its counts. It reads no file data: only a read of a file tells whether its bytes are readable.
     ///
     /// ```
-    /// use ps2card::{Card, Refusal, Stamp};
+    /// use ps2card::{Card, Format, Refusal, Stamp};
     ///
-    /// let card = Card::fresh(56, &Stamp::now())?;
+    /// let card = Card::fresh(Format::Raw, 56, &Stamp::now())?;
     /// let counts = card.check()?;
     /// assert_eq!((counts.clusters, counts.free, counts.reached, counts.orphaned), (56, 29, 1, 0));
-    /// assert_eq!(Card::new(&b"no card"[..]).check(), Err(Refusal::BadLength));
+    /// assert_eq!(Card::raw(&b"no card"[..]).check(), Err(Refusal::BadLength));
     /// # Ok::<(), Refusal>(())
     /// ```
     pub fn check(&self) -> Result<Counts, Refusal> {
@@ -24,6 +24,7 @@ impl<B: AsRef<[u8]>> Card<B> {
         // own, and all of them outlive the call.
         let number = unsafe {
             calls::ps2card_check(
+                self.format.number(),
                 image.as_ptr(),
                 image.len(),
                 &mut page,
@@ -39,9 +40,9 @@ impl<B: AsRef<[u8]>> Card<B> {
     /// The entry at a path, for the root its first one.
     ///
     /// ```
-    /// use ps2card::{Card, Kind, Refusal, Stamp};
+    /// use ps2card::{Card, Format, Kind, Refusal, Stamp};
     ///
-    /// let card = Card::fresh(56, &Stamp::now())?;
+    /// let card = Card::fresh(Format::Raw, 56, &Stamp::now())?;
     /// let root = card.find(b"/")?;
     /// assert_eq!((root.kind(), root.length, root.name()), (Kind::Directory, 2, &b"."[..]));
     /// assert_eq!(card.find(b"/none"), Err(Refusal::Absent));
@@ -54,6 +55,7 @@ impl<B: AsRef<[u8]>> Card<B> {
         // and the name one of 32, as the header asks; every output is a place of its own and outlives the call.
         let number = unsafe {
             calls::ps2card_find(
+                self.format.number(),
                 image.as_ptr(),
                 image.len(),
                 path.as_ptr(),
@@ -75,9 +77,9 @@ impl<B: AsRef<[u8]>> Card<B> {
     /// The first live entry of a directory from a slot on, never before slot 2, with its slot; nothing at the end.
     ///
     /// ```
-    /// use ps2card::{Card, Stamp};
+    /// use ps2card::{Card, Format, Stamp};
     ///
-    /// let mut card = Card::fresh(56, &Stamp::now())?;
+    /// let mut card = Card::fresh(Format::Raw, 56, &Stamp::now())?;
     /// card.make_dir(b"/SAVE", &Stamp::now())?;
     /// let (slot, entry) = card.step(b"/", 0)?.expect("an entry");
     /// assert_eq!((slot, entry.name()), (2, &b"SAVE"[..]));
@@ -91,6 +93,7 @@ impl<B: AsRef<[u8]>> Card<B> {
         // SAFETY: as in `find`, with the slot by value and two more numbers that are places of their own.
         let number = unsafe {
             calls::ps2card_step(
+                self.format.number(),
                 image.as_ptr(),
                 image.len(),
                 path.as_ptr(),
@@ -128,9 +131,9 @@ impl<B: AsRef<[u8]>> Card<B> {
     /// and an unreadable page among those with a byte to copy is one.
     ///
     /// ```
-    /// use ps2card::{Card, Refusal, Stamp};
+    /// use ps2card::{Card, Format, Refusal, Stamp};
     ///
-    /// let mut card = Card::fresh(56, &Stamp::now())?;
+    /// let mut card = Card::fresh(Format::Raw, 56, &Stamp::now())?;
     /// card.create(b"/note", &Stamp::now(), b"kept")?;
     /// let mut buffer = [0; 3];
     /// assert_eq!((card.read(b"/note", 2, &mut buffer)?, buffer), (2, *b"pt\0"));
@@ -144,6 +147,7 @@ impl<B: AsRef<[u8]>> Card<B> {
         // it overlaps neither; both numbers are places of their own. All outlive the call.
         let number = unsafe {
             calls::ps2card_read(
+                self.format.number(),
                 image.as_ptr(),
                 image.len(),
                 path.as_ptr(),
@@ -170,9 +174,9 @@ impl<B: AsRef<[u8]>> Card<B> {
     /// The listing: the counts, then every entry in tree order, a line each.
     ///
     /// ```
-    /// use ps2card::{Card, Stamp};
+    /// use ps2card::{Card, Format, Stamp};
     ///
-    /// let mut card = Card::fresh(56, &Stamp::now())?;
+    /// let mut card = Card::fresh(Format::Raw, 56, &Stamp::now())?;
     /// card.make_dir(b"/SAVE", &Stamp::now())?;
     /// card.create(b"/SAVE/A", &Stamp::now(), &[0; 1500])?;
     /// assert_eq!(card.list()?, b"card 56\nfree 24\nreached 6\norphaned 0\nd 3 /SAVE\nf 1500 /SAVE/A\n");
@@ -199,6 +203,6 @@ impl<B: AsRef<[u8]>> Card<B> {
         let image = self.image();
         // SAFETY: the image is one slice, with its length, and only read; the text is borrowed mutably, so it does not
         // overlap it. Both outlive the call.
-        unsafe { calls::ps2card_list(image.as_ptr(), image.len(), text.as_mut_ptr(), text.len()) }
+        unsafe { calls::ps2card_list(self.format.number(), image.as_ptr(), image.len(), text.as_mut_ptr(), text.len()) }
     }
 }

@@ -1,4 +1,4 @@
-//! The command `ps2card`: raw PlayStation 2 memory card images at a shell.
+//! The command `ps2card`: PlayStation 2 memory card images, raw and plain, at a shell.
 
 mod arguments;
 mod command;

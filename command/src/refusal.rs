@@ -5,19 +5,19 @@ use std::fmt;
 /// A refusal. The image and every output are as they were before the call.
 ///
 /// Of several that apply, the first of 1 to 7 that the check meets is told, then the first in this order: 8, 14, 9, 10,
-/// 11, 13, 15, 12.
+/// 11, 13, 15, 12. A conversion tells 1, 23, 2 in this order.
 ///
 /// ```
 /// use ps2card::{Card, Refusal};
 ///
-/// let refusal = Card::new(&[0; 100][..]).check().unwrap_err();
+/// let refusal = Card::raw(&[0; 100][..]).check().unwrap_err();
 /// assert_eq!((refusal, refusal.number(), refusal.page()), (Refusal::BadLength, 1, None));
 /// assert!(refusal.to_string().starts_with("refused 1: "));
 /// ```
 #[derive(Clone, Copy, Debug, PartialEq, Eq, Hash)]
 #[non_exhaustive]
 pub enum Refusal {
-    /// 1: the image's length is that of no card.
+    /// 1: the image's length is that of no card in its format.
     BadLength,
     /// 2: a needed page cannot be read; its index in the image.
     UnreadablePage(usize),
@@ -47,6 +47,8 @@ pub enum Refusal {
     BadTime,
     /// 15: the read's offset lies beyond the file's length.
     BadOffset,
+    /// 23: the output of a conversion isn't exactly as long as needed.
+    WrongOutput,
     /// A number that this wrapper has no word for, as a newer library may tell it.
     Unknown(u32),
 }
@@ -71,6 +73,7 @@ impl Refusal {
             13 => Refusal::NotEmpty,
             14 => Refusal::BadTime,
             15 => Refusal::BadOffset,
+            23 => Refusal::WrongOutput,
             other => Refusal::Unknown(other),
         })
     }
@@ -101,6 +104,7 @@ impl Refusal {
             Refusal::NotEmpty => 13,
             Refusal::BadTime => 14,
             Refusal::BadOffset => 15,
+            Refusal::WrongOutput => 23,
             Refusal::Unknown(number) => number,
         }
     }
@@ -117,7 +121,7 @@ impl Refusal {
     pub fn words(self) -> &'static str {
         match self {
             Refusal::BadLength => {
-                "this is not a raw card image with spare bytes: its size is not 1,056 bytes for each of 32 to 8,192 clusters, in steps of 8"
+                "this is not a card image of the format asked for: a raw one has 1,056 bytes for each of 32 to 8,192 clusters, in steps of 8, a plain one, without spare bytes, 1,024"
             }
             Refusal::UnreadablePage(_) => "this page of the card is damaged beyond correction and is needed",
             Refusal::BadText => "the card is not formatted as a PlayStation 2 memory card",
@@ -133,6 +137,7 @@ impl Refusal {
             Refusal::NotEmpty => "the directory is not empty",
             Refusal::BadTime => "this is no valid time from 1980 to 9999",
             Refusal::BadOffset => "the offset lies beyond the end of the file",
+            Refusal::WrongOutput => "the buffer for the converted card isn't exactly as long as needed",
             Refusal::Unknown(_) => "the library gives a reason that this program does not know",
         }
     }
@@ -154,12 +159,15 @@ impl std::error::Error for Refusal {}
 mod tests {
     use super::*;
 
+    const NUMBERS: [u32; 16] = [1, 2, 3, 4, 5, 6, 7, 8, 9, 10, 11, 12, 13, 14, 15, 23];
+
     #[test]
     fn numbers_come_back() {
-        for number in 1..=15 {
-            let refusal = Refusal::told(number, 77).expect("a number of document 01");
+        for number in NUMBERS {
+            let refusal = Refusal::told(number, 77).expect("a number of the library");
             assert_eq!(refusal.number(), number);
             assert_eq!(refusal.page(), (number == 2).then_some(77));
+            assert!(!matches!(refusal, Refusal::Unknown(_)));
         }
         assert_eq!(Refusal::told(0, 77), None);
     }
@@ -167,7 +175,7 @@ mod tests {
     /// A number of another library is kept and told, and no panic.
     #[test]
     fn unknown_numbers() {
-        for number in [16, 22, u32::MAX] {
+        for number in [16, 22, 24, u32::MAX] {
             let refusal = Refusal::told(number, 77).expect("a refusal");
             assert_eq!((refusal, refusal.number(), refusal.page()), (Refusal::Unknown(number), number, None));
             assert!(refusal.to_string().starts_with(&format!("refused {number}: ")), "{refusal}");
@@ -176,7 +184,7 @@ mod tests {
 
     #[test]
     fn lines_of_listings() {
-        for number in 1..=15 {
+        for number in NUMBERS {
             let line = if number == 2 { "refused 2 77\n".to_string() } else { format!("refused {number}\n") };
             assert_eq!(Refusal::listed(line.as_bytes()), Refusal::told(number, 77), "{line}");
         }
@@ -186,7 +194,7 @@ mod tests {
 
     #[test]
     fn one_line_each() {
-        for number in 1..=15 {
+        for number in NUMBERS {
             let line = Refusal::told(number, 5).expect("a number").to_string();
             let start = if number == 2 { "refused 2 5: ".to_string() } else { format!("refused {number}: ") };
             assert!(line.starts_with(&start) && !line.contains('\n') && line.len() > start.len(), "{line}");

@@ -13,6 +13,7 @@ use std::path::Path;
 
 use common::{Folder, Outcome};
 use reader::build;
+use reader::Format::Raw;
 
 extern "C" {
     fn setxattr(path: *const c_char, name: *const c_char, value: *const c_void, size: usize, flags: c_int) -> c_int;
@@ -71,7 +72,7 @@ fn mode(path: &Path) -> u32 {
 #[test]
 fn kept() {
     let folder = Folder::new();
-    let card = folder.write("card", &build::bench());
+    let card = folder.write("card", &build::bench(Raw));
     set(&card, "user.note", b"the shop's own card").expect("this file system has attributes");
     set(&card, "user.empty", b"").expect("an attribute");
     set(&card, ACCESS, &private()).expect("this file system has access lists");
@@ -88,7 +89,7 @@ fn kept() {
 #[test]
 fn never_widened() {
     let folder = Folder::new();
-    let card = folder.write("card", &build::bench());
+    let card = folder.write("card", &build::bench(Raw));
     set(&folder.path("."), DEFAULT, &generous()).expect("this file system has access lists");
     // The folder does give it, to a file that is made there.
     assert!(get(&folder.write("other", b""), ACCESS).is_some());
@@ -106,7 +107,7 @@ fn never_widened() {
 #[test]
 fn refused() {
     let folder = Folder::new();
-    let image = build::bench();
+    let image = build::bench(Raw);
     let card = folder.write("card", &image);
     folder.run_failing("attribute", &["mkdir", "card", "/A"]).done();
     folder.write("card", &image);
@@ -126,7 +127,7 @@ fn refused() {
 #[test]
 fn group_kept_or_refused() {
     let folder = Folder::new();
-    let card = folder.write("card", &build::bench());
+    let card = folder.write("card", &build::bench(Raw));
     if chown(&card, Some(1234), Some(5678)).is_err() {
         return println!("not tried: this user cannot give files away");
     }

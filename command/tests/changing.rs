@@ -9,7 +9,8 @@ use common::{raw_stamp, Folder, Outcome, USUAL};
 use reader::build::requests::random_change;
 use reader::build::{self, random, scribble};
 use reader::rng::Rng;
-use reader::{Change, Refusal};
+use reader::Format::{Plain, Raw};
+use reader::{Change, Format, Refusal};
 
 /// Makes a change by the command, the bytes from a file or from standard input.
 fn make(folder: &Folder, change: &Change, by_input: bool) -> Outcome {
@@ -33,38 +34,46 @@ fn make(folder: &Folder, change: &Change, by_input: bool) -> Outcome {
 
 #[test]
 fn random_changes() {
-    let folder = Folder::new();
+    Format::BOTH.into_iter().for_each(random_changes_of);
+}
+
+fn random_changes_of(format: Format) {
+    let folder = Folder::of(format);
     let mut seen = [0; 16];
     for seed in 0..30 {
         let mut rng = Rng::new(seed);
-        let mut image = random::random(seed).image;
+        let mut image = random::random(format, seed).image;
         folder.write("card", &image);
         for _ in 0..12 {
-            let tree = reader::tree(&image).expect("an accepted card");
+            let tree = reader::tree(format, &image).expect("an accepted card");
             let change = random_change(&mut rng, &tree);
             let given = make(&folder, &change, rng.chance(1, 2));
-            match change.apply(&mut image) {
+            match change.apply(format, &mut image) {
                 Ok(()) => drop((given.done(), seen[0] += 1)),
                 Err(refusal) => {
                     seen[usize::from(refusal.number)] += 1;
                     given.refused(refusal);
                 }
             }
-            assert!(folder.read("card") == image, "seed {seed}: {change:?}");
+            assert!(folder.read("card") == image, "{format:?}, seed {seed}: {change:?}");
         }
     }
-    println!("done, and refused with 1 to 15: {seen:?}");
+    println!("{format:?}: done, and refused with 1 to 15: {seen:?}");
     assert!(seen[0] > 100 && [8, 9, 10, 11, 12, 13, 14].iter().all(|&number| seen[number] > 0), "{seen:?}");
 }
 
 /// Refusals leave the very file, not only its bytes; nothing is left beside it.
 #[test]
 fn refusals() {
-    let folder = Folder::new();
-    let mut image = build::bench();
+    Format::BOTH.into_iter().for_each(refusals_of);
+}
+
+fn refusals_of(format: Format) {
+    let folder = Folder::of(format);
+    let mut image = build::bench(format);
     let time = build::usual_time();
-    reader::make_dir(&mut image, b"/d", &time).expect("room");
-    reader::create(&mut image, b"/d/f", &time, b"bytes").expect("room");
+    reader::make_dir(format, &mut image, b"/d", &time).expect("room");
+    reader::create(format, &mut image, b"/d/f", &time, b"bytes").expect("room");
     folder.write("card", &image);
     folder.write("file", &[1; 30 * 1024]);
     let was = fs::metadata(folder.path("card")).expect("there");
@@ -98,26 +107,43 @@ fn refusals() {
 #[test]
 fn unreadable_pages() {
     let folder = Folder::new();
-    let mut image = build::bench();
-    reader::create(&mut image, b"/f", &build::usual_time(), &[5; 2000]).expect("room");
-    scribble::break_page(&mut image, 2 * (10 + 2) + 1);
+    let mut image = build::bench(Raw);
+    reader::create(Raw, &mut image, b"/f", &build::usual_time(), &[5; 2000]).expect("room");
+    scribble::break_page(Raw, &mut image, 2 * (10 + 2) + 1);
     folder.write("card", &image);
     folder.run(&["check", "card"]).done();
     folder.run(&["read", "card", "/f"]).refused(Refusal::unreadable(25));
     folder.run(&["get", "card", "/f", "out"]).refused(Refusal::unreadable(25));
     folder.run(&["get", "card", "/", "out"]).refused(Refusal::unreadable(25));
     assert_eq!(folder.run(&["read", "card", "/f", "0", "512"]).done(), vec![5; 512]);
-    scribble::break_page(&mut image, 2 * 10 + 1);
+    scribble::break_page(Raw, &mut image, 2 * 10 + 1);
     folder.write("card", &image);
     folder.run(&["delete", "card", "/f"]).refused(Refusal::unreadable(21));
     assert_eq!((folder.read("card"), folder.names()), (image, vec!["card".to_string()]));
 }
 
-/// The figures of document 01 for the bench card.
+/// No page of a plain card is unreadable: the same damage is other bytes there.
+#[test]
+fn other_bytes() {
+    let folder = Folder::of(Plain);
+    let mut image = build::bench(Plain);
+    reader::create(Plain, &mut image, b"/f", &build::usual_time(), &[5; 2000]).expect("room");
+    scribble::break_page(Plain, &mut image, 2 * (10 + 2) + 1);
+    folder.write("card", &image);
+    let bytes = folder.run(&["read", "card", "/f"]).done();
+    assert_eq!(bytes, image[512 * 2 * (10 + 2)..][..2000]);
+    assert_ne!(bytes, [5; 2000]);
+}
+
+/// The figures of document 01 for the bench card, which are the same without spare bytes.
 #[test]
 fn bench_card() {
-    let folder = Folder::new();
-    folder.write("card", &build::bench());
+    Format::BOTH.into_iter().for_each(bench_card_of);
+}
+
+fn bench_card_of(format: Format) {
+    let folder = Folder::of(format);
+    folder.write("card", &build::bench(format));
     folder.write("fits", &[9; 28_672]);
     folder.write("more", &[9; 28_673]);
     for _ in 0..2 {
@@ -125,7 +151,7 @@ fn bench_card() {
         folder.run(&["create", "card", "/A", "fits"]).done();
         folder.run(&["delete", "card", "/A"]).done();
     }
-    folder.write("card", &build::bench());
+    folder.write("card", &build::bench(format));
     folder.write("save", &[1; 1500]);
     folder.run(&["mkdir", "card", "/SAVE"]).done();
     folder.run(&["create", "card", "/SAVE/A", "save"]).done();
@@ -137,7 +163,7 @@ fn bench_card() {
 #[test]
 fn time_now() {
     let folder = Folder::new();
-    folder.write("card", &build::bench());
+    folder.write("card", &build::bench(Raw));
     let before = ps2card::Stamp::now().to_string();
     folder.run(&["mkdir", "card", "/d"]).done();
     let after = ps2card::Stamp::now().to_string();
@@ -150,7 +176,7 @@ fn time_now() {
 #[test]
 fn paths_are_bytes() {
     let folder = Folder::new();
-    folder.write("card", &build::bench());
+    folder.write("card", &build::bench(Raw));
     let outcome = folder.feed(&[b"mkdir", b"card", b"/\xC3\xA9"], b"");
     outcome.refused(Refusal::number(8));
     folder.feed(&[b"find", b"card", b"/\xFF"], b"").refused(Refusal::number(8));
@@ -162,22 +188,22 @@ fn paths_are_bytes() {
 #[test]
 fn endless_file() {
     let folder = Folder::new();
-    folder.write("card", &build::bench());
+    folder.write("card", &build::bench(Raw));
     if Path::new("/dev/zero").exists() {
         folder.run(&["create", "card", "/A", "/dev/zero"]).refused(Refusal::number(12));
     }
     folder.run(&["create", "card", "/A", "none"]).failed(3, "cannot read none");
     folder.run(&["create", "none", "/A", "card"]).failed(3, "cannot change none");
-    assert_eq!(folder.read("card"), build::bench());
+    assert_eq!(folder.read("card"), build::bench(Raw));
 }
 
 /// A dated stamp stands in the entry as its eight bytes.
 #[test]
 fn stamps() {
     let folder = Folder::new();
-    let mut image = build::bench();
+    let mut image = build::bench(Raw);
     folder.write("card", &image);
     folder.run(&["mkdir", "card", "/d", "--stamp", USUAL]).done();
-    reader::make_dir(&mut image, b"/d", &build::usual_time()).expect("room");
+    reader::make_dir(Raw, &mut image, b"/d", &build::usual_time()).expect("room");
     assert_eq!(folder.read("card"), image);
 }

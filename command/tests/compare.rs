@@ -9,13 +9,17 @@ use reader::build::requests::random_change;
 use reader::build::{self, random, samples, scribble};
 use reader::rng::Rng;
 use reader::tree::Checked;
-use reader::{page, Item, Tree};
+use reader::Format::{Plain, Raw};
+use reader::{page, Format, Item, Tree};
+
+/// A card in its format.
+type Card<'a> = (Format, &'a [u8]);
 
 /// The lines that compare must print.
-fn expected(images: [&[u8]; 2], bytes_only: bool) -> Vec<String> {
-    let trees: [Tree; 2] = images.map(|image| reader::tree(image).expect("an accepted card"));
+fn expected(cards: [Card; 2], bytes_only: bool) -> Vec<String> {
+    let trees: [Tree; 2] = cards.map(|(format, image)| reader::tree(format, image).expect("an accepted card"));
     let unreadable: [BTreeMap<Vec<u8>, Vec<usize>>; 2] =
-        images.map(|image| unreadable_pages(image).into_iter().collect());
+        cards.map(|(format, image)| unreadable_pages(format, image).into_iter().collect());
     let mut lines = Vec::new();
     let paths: BTreeSet<&Vec<u8>> = trees[0].keys().chain(trees[1].keys()).collect();
     for path in paths {
@@ -69,17 +73,28 @@ fn time(time: &[u8; 8]) -> String {
     }
 }
 
+/// How the command is told which of the two is plain.
+fn told(formats: [Format; 2]) -> &'static [&'static str] {
+    match formats {
+        [Raw, Raw] => &[],
+        [Raw, Plain] => &["--plain-b"],
+        [Plain, Raw] => &["--plain-a"],
+        [Plain, Plain] => &["--plain"],
+    }
+}
+
 /// Compares the two by the command, both ways of looking; the words that its lines begin with are counted.
-fn judge(folder: &Folder, images: [&[u8]; 2], seen: &mut BTreeMap<String, usize>) {
-    folder.write("a", images[0]);
-    folder.write("b", images[1]);
+fn judge(folder: &Folder, cards: [Card; 2], seen: &mut BTreeMap<String, usize>) {
+    folder.write("a", cards[0].1);
+    folder.write("b", cards[1].1);
+    let formats = told(cards.map(|card| card.0));
     for bytes_only in [false, true] {
-        let lines = expected(images, bytes_only);
-        let words: &[&str] = if bytes_only { &["compare", "--bytes-only", "a", "b"] } else { &["compare", "a", "b"] };
-        let given = folder.run(words);
+        let lines = expected(cards, bytes_only);
+        let looking: &[&str] = if bytes_only { &["--bytes-only"] } else { &[] };
+        let given = folder.run(&[&["compare", "a", "b"], looking, formats].concat());
         let text = String::from_utf8(given.out).expect("text");
         if lines.is_empty() {
-            let tree = reader::tree(images[0]).expect("accepted");
+            let tree = reader::tree(cards[0].0, cards[0].1).expect("accepted");
             let directories = tree.values().filter(|item| item.is_directory).count();
             let what = if bytes_only { "the same files and bytes" } else { "the same" };
             assert_eq!(text, format!("{what}: {} files, {directories} directories\n", tree.len() - directories));
@@ -94,8 +109,8 @@ fn judge(folder: &Folder, images: [&[u8]; 2], seen: &mut BTreeMap<String, usize>
 }
 
 /// A field of a random entry altered, or a page of a random file broken.
-fn tamper(image: &mut [u8], rng: &mut Rng) {
-    let checked = Checked::of(image).expect("accepted");
+fn tamper(format: Format, image: &mut [u8], rng: &mut Rng) {
+    let checked = Checked::of(format, image).expect("accepted");
     let (mut nodes, mut paths) = (Vec::new(), Vec::new());
     reader::content::visit(&checked.root, b"/", &mut |path, node| {
         nodes.push(node.clone());
@@ -105,64 +120,76 @@ fn tamper(image: &mut [u8], rng: &mut Rng) {
     if node.inside.is_none() && rng.chance(1, 6) {
         // A directory where a file was.
         let file = paths[nodes.iter().position(|other| other.page == node.page).expect("it is there")].clone();
-        reader::delete(image, &file).expect("a file");
-        let _ = reader::make_dir(image, &file, &build::usual_time());
+        reader::delete(format, image, &file).expect("a file");
+        let _ = reader::make_dir(format, image, &file, &build::usual_time());
         return;
     }
     if node.inside.is_none() && node.entry.length > 0 && rng.chance(1, 2) {
         let pages = (node.entry.length as usize).div_ceil(page::DATA);
         let at = checked.card.slot_page(&node.chain, rng.below(pages));
-        return match page::read(image, at) {
+        return match page::read(format, image, at) {
             Some(mut data) if rng.chance(1, 2) => {
                 data[rng.below(page::DATA)] ^= 1 << rng.below(8);
-                page::write(image, at, &data);
+                page::write(format, image, at, &data);
             }
-            Some(_) => scribble::ruin(image, at, rng.below(4), rng),
+            Some(_) => scribble::ruin(format, image, at, rng.below(4), rng),
             None => {}
         };
     }
-    let mut data = page::read(image, node.page).expect("an entry is readable");
+    let mut data = page::read(format, image, node.page).expect("an entry is readable");
     match rng.below(4) {
         0 => data[1] ^= 4,
         1 => data[0x20 + rng.below(4)] ^= 1 << rng.below(8),
         2 => data[0x08 + rng.below(8)] ^= 1,
         _ => data[0x18 + rng.below(8)] ^= 1,
     }
-    page::write(image, node.page, &data);
+    page::write(format, image, node.page, &data);
 }
 
-/// A random card, not too large.
+/// A raw card's image in a format; where a page is unreadable, the bytes that stand there.
+fn in_format(format: Format, raw: &[u8]) -> Vec<u8> {
+    let stored = |page: usize| raw[Raw.place(page)][..page::DATA].to_vec();
+    let data = |page: usize| page::read(Raw, raw, page).map_or_else(|| stored(page), Vec::from);
+    match format {
+        Raw => raw.to_vec(),
+        Plain => (0..raw.len() / Raw.page_bytes()).flat_map(data).collect(),
+    }
+}
+
+/// A random raw card, not too large.
 fn card(seed: u64) -> Vec<u8> {
-    random::sized(seed, 8 * Rng::new(seed).between(4, 24)).image
+    random::sized(Raw, seed, 8 * Rng::new(seed).between(4, 24)).image
 }
 
 #[test]
 fn random_pairs() {
     let folder = Folder::new();
-    let mut seen = BTreeMap::new();
-    for seed in 0..60 {
-        let mut rng = Rng::new(seed);
-        let image = card(seed);
-        let mut other = image.clone();
-        for _ in 0..rng.below(5) {
-            let tree = reader::tree(&other).expect("accepted");
-            let _ = random_change(&mut rng, &tree).apply(&mut other);
+    for formats in [[Raw, Raw], [Plain, Plain], [Raw, Plain], [Plain, Raw]] {
+        let (mut seen, seeds) = (BTreeMap::new(), if formats == [Raw, Raw] { 60 } else { 30 });
+        for seed in 0..seeds {
+            let mut rng = Rng::new(seed);
+            let [image, mut other] = formats.map(|format| in_format(format, &card(seed)));
+            for _ in 0..rng.below(5) {
+                let tree = reader::tree(formats[1], &other).expect("accepted");
+                let _ = random_change(&mut rng, &tree).apply(formats[1], &mut other);
+            }
+            for _ in 0..rng.below(5) {
+                tamper(formats[1], &mut other, &mut rng);
+            }
+            judge(&folder, [(formats[0], &image), (formats[1], &other)], &mut seen);
         }
-        for _ in 0..rng.below(5) {
-            tamper(&mut other, &mut rng);
+        // Two cards that have nothing to do with each other, and one beside itself.
+        for seed in 60..70 {
+            let [image, other] = [in_format(formats[0], &card(seed)), in_format(formats[1], &card(seed + 1))];
+            judge(&folder, [(formats[0], &image), (formats[1], &other)], &mut seen);
         }
-        judge(&folder, [&image, &other], &mut seen);
-    }
-    // Two cards that have nothing to do with each other, and one beside itself.
-    for seed in 60..70 {
-        judge(&folder, [&card(seed), &card(seed + 1)], &mut seen);
-    }
-    let save = samples::save();
-    judge(&folder, [&save, &save], &mut seen);
-    println!("{seen:?}");
-    for word in ["same", "missing", "extra", "kind", "mode", "attribute", "created", "modified", "bytes", "unreadable"]
-    {
-        assert!(seen.get(word).is_some_and(|&count| count > 1), "{word}: {seen:?}");
+        let [image, other] = formats.map(|format| in_format(format, &samples::save()));
+        judge(&folder, [(formats[0], &image), (formats[1], &other)], &mut seen);
+        println!("{formats:?}: {seen:?}");
+        for word in ["same", "missing", "extra", "kind", "mode", "attribute", "created", "modified", "bytes"] {
+            assert!(seen.get(word).is_some_and(|&count| count > 1), "{word}: {seen:?}");
+        }
+        assert_eq!(seen.contains_key("unreadable"), formats.contains(&Raw), "{formats:?}: {seen:?}");
     }
 }
 
@@ -171,7 +198,7 @@ fn random_pairs() {
 fn unreadable_is_not_the_same() {
     let folder = Folder::new();
     let mut image = samples::save();
-    scribble::break_page(&mut image, 2 * (10 + 4));
+    scribble::break_page(Raw, &mut image, 2 * (10 + 4));
     folder.write("card", &image);
     for words in [&["compare", "card", "card"][..], &["compare", "card", "card", "--bytes-only"]] {
         let given = folder.run(words);
@@ -201,12 +228,29 @@ fn copied_card() {
 #[test]
 fn refused_cards() {
     let folder = Folder::new();
-    folder.write("card", &build::bench());
-    folder.write("cut", &build::bench()[..5000]);
+    folder.write("card", &build::bench(Raw));
+    folder.write("cut", &build::bench(Raw)[..5000]);
     for words in [["compare", "card", "cut"], ["compare", "cut", "card"]] {
         let given = folder.run(&words);
         assert!(given.err.ends_with(" (cut)\n"), "{given:?}");
         given.refused(reader::Refusal::number(1));
     }
     folder.run(&["compare", "card", "none"]).failed(3, "cannot read none");
+    // What one option says is said of that image alone.
+    folder.write("plain", &build::bench(Plain));
+    for (words, end) in [
+        (&["compare", "card", "plain"][..], "a plain card: say --plain-b (plain)\n"),
+        (&["compare", "plain", "card"], "a plain card: say --plain-a (plain)\n"),
+        (&["compare", "card", "plain", "--plain"], "a raw card: leave out --plain (card)\n"),
+        (&["compare", "card", "plain", "--plain-a"], "a raw card: leave out --plain-a (card)\n"),
+        (&["compare", "plain", "card", "--plain-b"], "a plain card: say --plain-a (plain)\n"),
+    ] {
+        let given = folder.run(words);
+        assert!(given.err.ends_with(&format!("; its size is that of {end}")), "{words:?}: {given:?}");
+        given.refused(reader::Refusal::number(1));
+    }
+    let same = "the same: 0 files, 1 directories\n";
+    assert_eq!(folder.run(&["compare", "card", "plain", "--plain-b"]).text(), same);
+    assert_eq!(folder.run(&["compare", "plain", "card", "--plain-a"]).text(), same);
+    assert_eq!(folder.run(&["compare", "plain", "plain", "--plain-a", "--plain-b"]).text(), same);
 }

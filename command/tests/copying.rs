@@ -7,17 +7,25 @@ use std::os::unix::fs::symlink;
 
 use common::{Folder, Outcome, USUAL};
 use reader::build::{self, random};
-use reader::{Piece, Refusal};
+use reader::Format::{Plain, Raw};
+use reader::{Format, Piece, Refusal};
 
 /// Every file and directory of a card comes out, byte for byte.
 #[test]
 fn get_everything() {
-    let folder = Folder::new();
+    let whole = get_all_of(Raw, 20);
+    assert!(whole > 3, "{whole} whole cards");
+    assert_eq!(get_all_of(Plain, 10), 10);
+}
+
+/// The whole cards among so many; from the others nothing comes out.
+fn get_all_of(format: Format, cards: u64) -> usize {
+    let folder = Folder::of(format);
     let mut whole = 0;
-    for seed in 0..20 {
-        let image = random::random(seed).image;
+    for seed in 0..cards {
+        let image = random::random(format, seed).image;
         folder.write("card", &image);
-        let tree = reader::tree(&image).expect("an accepted card");
+        let tree = reader::tree(format, &image).expect("an accepted card");
         let broken = tree.values().flat_map(|item| &item.pieces).any(|piece| matches!(piece, Piece::Unreadable { .. }));
         let given = folder.run(&["get", "card", "/", "out"]);
         if broken {
@@ -39,7 +47,7 @@ fn get_everything() {
         assert_eq!(count(&folder, "out"), files);
         fs::remove_dir_all(folder.path("out")).expect("removed");
     }
-    assert!(whole > 3, "{whole} whole cards");
+    whole
 }
 
 /// The entries in a host folder, itself and all below.
@@ -59,9 +67,9 @@ fn count(folder: &Folder, name: &str) -> usize {
 #[test]
 fn get_one_file() {
     let folder = Folder::new();
-    let mut image = build::bench();
-    reader::create(&mut image, b"/A", &build::usual_time(), b"a save\n").expect("room");
-    reader::make_dir(&mut image, b"/D", &build::usual_time()).expect("room");
+    let mut image = build::bench(Raw);
+    reader::create(Raw, &mut image, b"/A", &build::usual_time(), b"a save\n").expect("room");
+    reader::make_dir(Raw, &mut image, b"/D", &build::usual_time()).expect("room");
     folder.write("card", &image);
     folder.run(&["get", "card", "/A", "out"]).done();
     assert_eq!(folder.read("out"), b"a save\n");
@@ -77,9 +85,13 @@ fn get_one_file() {
 /// A save goes in as the reader's own creations in the order of the names, and comes out the same.
 #[test]
 fn put_and_get_back() {
-    let folder = Folder::new();
-    folder.write("card", &build::standard());
-    let mut image = build::standard();
+    Format::BOTH.into_iter().for_each(put_and_get_back_of);
+}
+
+fn put_and_get_back_of(format: Format) {
+    let folder = Folder::of(format);
+    folder.write("card", &build::standard(format));
+    let mut image = build::standard(format);
     let time = build::usual_time();
     fs::create_dir_all(folder.path("SAVE/deep/er")).expect("folders");
     let files: [(&str, Vec<u8>); 5] = [
@@ -98,8 +110,8 @@ fn put_and_get_back() {
     {
         let on_card = format!("/{path}");
         match files.iter().find(|(name, _)| *name == path) {
-            Some((_, bytes)) => reader::create(&mut image, on_card.as_bytes(), &time, bytes).expect("room"),
-            None => reader::make_dir(&mut image, on_card.as_bytes(), &time).expect("room"),
+            Some((_, bytes)) => reader::create(format, &mut image, on_card.as_bytes(), &time, bytes).expect("room"),
+            None => reader::make_dir(format, &mut image, on_card.as_bytes(), &time).expect("room"),
         }
     }
     assert!(folder.read("card") == image);
@@ -113,8 +125,12 @@ fn put_and_get_back() {
 /// A save that does not go in whole does not go in at all.
 #[test]
 fn put_all_or_nothing() {
-    let folder = Folder::new();
-    let image = build::bench();
+    Format::BOTH.into_iter().for_each(put_all_or_nothing_of);
+}
+
+fn put_all_or_nothing_of(format: Format) {
+    let folder = Folder::of(format);
+    let image = build::bench(format);
     folder.write("card", &image);
     fs::create_dir_all(folder.path("SAVE/1/2/3")).expect("folders");
     folder.write("SAVE/a", &[1; 10_000]);
@@ -149,10 +165,10 @@ fn put_all_or_nothing() {
 #[test]
 fn get_taken_back() {
     let folder = Folder::new();
-    let mut image = build::bench();
-    reader::create(&mut image, b"/A", &build::usual_time(), b"a save").expect("room");
+    let mut image = build::bench(Raw);
+    reader::create(Raw, &mut image, b"/A", &build::usual_time(), b"a save").expect("room");
     let long = format!("/{}", "B".repeat(31));
-    reader::create(&mut image, long.as_bytes(), &build::usual_time(), b"another").expect("room");
+    reader::create(Raw, &mut image, long.as_bytes(), &build::usual_time(), b"another").expect("room");
     folder.write("card", &image);
     let above = format!("{}/", "x".repeat(200)).repeat(20);
     let deep = format!("{above}{}/", "z".repeat(40));
@@ -168,7 +184,7 @@ fn get_taken_back() {
 #[test]
 fn put_as() {
     let folder = Folder::new();
-    let (mut image, time) = (build::bench(), build::usual_time());
+    let (mut image, time) = (build::bench(Raw), build::usual_time());
     folder.write("card", &image);
     folder.write("note.txt", b"a note");
     fs::create_dir(folder.path("SAVE")).expect("a folder");
@@ -176,11 +192,11 @@ fn put_as() {
     for words in [&["note.txt"][..], &["note.txt", "--as", "N OTE"], &["SAVE", "--as=S2"], &["./SAVE/."]] {
         folder.run(&[&["put", "card", "--stamp", USUAL], words].concat()).done();
     }
-    reader::create(&mut image, b"/note.txt", &time, b"a note").expect("room");
-    reader::create(&mut image, b"/N OTE", &time, b"a note").expect("room");
+    reader::create(Raw, &mut image, b"/note.txt", &time, b"a note").expect("room");
+    reader::create(Raw, &mut image, b"/N OTE", &time, b"a note").expect("room");
     for save in ["/S2", "/SAVE"] {
-        reader::make_dir(&mut image, save.as_bytes(), &time).expect("room");
-        reader::create(&mut image, format!("{save}/a").as_bytes(), &time, b"in it").expect("room");
+        reader::make_dir(Raw, &mut image, save.as_bytes(), &time).expect("room");
+        reader::create(Raw, &mut image, format!("{save}/a").as_bytes(), &time, b"in it").expect("room");
     }
     assert!(folder.read("card") == image);
     folder.run(&["put", "card", "note.txt"]).refused(Refusal::number(11));
@@ -195,7 +211,7 @@ fn put_as() {
 #[test]
 fn put_reads_no_more_than_a_card_holds() {
     let folder = Folder::new();
-    let image = build::standard();
+    let image = build::standard(Raw);
     folder.write("card", &image);
     let sparse = |name: &str, length: u64| File::create(folder.path(name)).and_then(|file| file.set_len(length));
     sparse("huge", 1 << 40).expect("a sparse file");

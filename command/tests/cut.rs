@@ -1,4 +1,4 @@
-//! get and new under a cut or an error of the host: what they make is whole, or it is not there.
+//! get, new and convert under a cut or an error of the host: what they make is whole, or it is not there.
 
 mod common;
 
@@ -8,9 +8,10 @@ use std::process::Command;
 use std::thread::sleep;
 use std::time::{Duration, Instant, UNIX_EPOCH};
 
-use common::{Folder, USUAL};
+use common::{converted, Folder, USUAL};
 use reader::build;
 use reader::rng::Rng;
+use reader::Format::{Plain, Raw};
 
 /// What the runs of a kill test left.
 #[derive(Debug, Default)]
@@ -54,12 +55,12 @@ fn hidden(folder: &Folder) -> Vec<String> {
 
 /// A card with a save of three large files and a directory.
 fn large() -> (Vec<u8>, Vec<(&'static str, Vec<u8>)>) {
-    let (mut image, time) = (build::standard(), build::usual_time());
+    let (mut image, time) = (build::standard(Raw), build::usual_time());
     let files = vec![("one", vec![1; 1_500_000]), ("two", vec![2; 1_500_000]), ("deep/three", vec![3; 1_500_000])];
-    reader::make_dir(&mut image, b"/SAVE", &time).expect("room");
-    reader::make_dir(&mut image, b"/SAVE/deep", &time).expect("room");
+    reader::make_dir(Raw, &mut image, b"/SAVE", &time).expect("room");
+    reader::make_dir(Raw, &mut image, b"/SAVE/deep", &time).expect("room");
     for (name, bytes) in &files {
-        reader::create(&mut image, format!("/SAVE/{name}").as_bytes(), &time, bytes).expect("room");
+        reader::create(Raw, &mut image, format!("/SAVE/{name}").as_bytes(), &time, bytes).expect("room");
     }
     (image, files)
 }
@@ -94,11 +95,24 @@ fn killed_get_of_a_file() {
 #[test]
 fn killed_new() {
     let folder = Folder::new();
-    let (made, card) = (folder.path("made"), build::standard());
+    let (made, card) = (folder.path("made"), build::standard(Raw));
     let whole = || fs::read(&made).is_ok_and(|read| read == card);
     let remove = || drop(fs::remove_file(&made));
     let seen = kill(&folder, &[b"new", b"made", b"--stamp", USUAL.as_bytes()], 60, &whole, &remove);
     assert!(seen.absent > 10 && seen.whole > 10 && seen.hidden > 1, "{seen:?}");
+}
+
+#[test]
+fn killed_convert() {
+    let folder = Folder::new();
+    let (image, _) = large();
+    let (made, plain) = (folder.path("made"), converted(Plain, &image));
+    folder.write("card", &image);
+    let whole = || fs::read(&made).is_ok_and(|read| read == plain);
+    let remove = || drop(fs::remove_file(&made));
+    let seen = kill(&folder, &[b"convert", b"card", b"made", b"--to-plain"], 60, &whole, &remove);
+    assert!(seen.absent > 10 && seen.whole > 10 && seen.hidden > 1, "{seen:?}");
+    assert!(folder.read("card") == image);
 }
 
 fn entries(folder: &Path) -> usize {
@@ -122,10 +136,11 @@ fn size_limit() {
     folder.write("card", &image);
     folder.write("file", &[1; 3000]);
     let before = fs::metadata(folder.path("card")).expect("there").modified().expect("a time");
-    let runs: [&[&str]; 5] = [
+    let runs: [&[&str]; 6] = [
         &["get", "card", "/SAVE", "made"],
         &["get", "card", "/SAVE/one", "made"],
         &["new", "made"],
+        &["convert", "card", "made", "--to-plain"],
         &["mkdir", "card", "/X"],
         &["create", "card", "/X", "file"],
     ];
@@ -174,12 +189,12 @@ fn many_at_once() {
 #[test]
 fn times_kept() {
     let folder = Folder::new();
-    let mut image = build::bench();
+    let mut image = build::bench(Raw);
     let time = |hour| reader::time::stamp(2001, 9, 9, hour, 46, 40);
-    reader::make_dir(&mut image, b"/D", &time(10)).expect("room");
-    reader::create(&mut image, b"/D/A", &time(11), b"a").expect("room");
-    reader::make_dir(&mut image, b"/D/E", &time(12)).expect("room");
-    reader::create(&mut image, b"/D/E/B", &time(8), b"b").expect("room");
+    reader::make_dir(Raw, &mut image, b"/D", &time(10)).expect("room");
+    reader::create(Raw, &mut image, b"/D/A", &time(11), b"a").expect("room");
+    reader::make_dir(Raw, &mut image, b"/D/E", &time(12)).expect("room");
+    reader::create(Raw, &mut image, b"/D/E/B", &time(8), b"b").expect("room");
     folder.write("card", &image);
     folder.run(&["get", "card", "/D", "out"]).done();
     let modified = |name: &str| fs::metadata(folder.path(name)).expect("there").modified().expect("a time");
@@ -192,11 +207,11 @@ fn times_kept() {
     folder.run(&["get", "card", "/D/E/B", "file"]).done();
     assert_eq!(seconds("file"), 1_000_000_000 - 2 * hour);
 
-    let checked = reader::tree::Checked::of(&image).expect("accepted");
+    let checked = reader::tree::Checked::of(Raw, &image).expect("accepted");
     let entry = checked.root.inside.as_ref().and_then(|inside| inside.child(b"D")).expect("/D").page;
-    let mut data = reader::page::read(&image, entry).expect("readable");
+    let mut data = reader::page::read(Raw, &image, entry).expect("readable");
     data[0x18 + 5] = 13;
-    reader::page::write(&mut image, entry, &data);
+    reader::page::write(Raw, &mut image, entry, &data);
     folder.write("card", &image);
     folder.run(&["get", "card", "/D", "again"]).done();
     assert!(modified("again").elapsed().expect("earlier") < Duration::from_secs(60));

@@ -9,19 +9,27 @@ use std::process::{Command, Output};
 
 use c::{Done, Program, Way};
 use common::Folder;
-use ps2card::{Card, Stamp};
+use ps2card::{Card, Format, Stamp};
 use reader::build;
 
-/// Runs the example on the sample card of document 01 and holds what it does to what the wrapper does.
+/// Runs the example on the sample card of document 01, raw and plain, and holds what it does to what the wrapper does.
 fn example_is_right(folder: &Folder, program: &Program) {
+    Format::ALL.into_iter().for_each(|format| example_is_right_in(format, folder, program));
+}
+
+fn example_is_right_in(format: Format, folder: &Folder, program: &Program) {
     let time = Stamp(build::usual_time());
-    let mut card = Card::new(build::bench());
+    let run = |names: &[&str]| match format {
+        Format::Raw => program.run(folder, names),
+        Format::Plain => program.run(folder, &[&["--plain"], names].concat()),
+    };
+    let mut card = Card::fresh(format, 56, &time).expect("a fresh card");
     card.make_dir(b"/SAVE", &time).expect("room");
     card.create(b"/SAVE/A", &time, &[1; 1500]).expect("room");
     folder.write("card", card.image());
     let before = Stamp::now().0;
-    let text = program.run(folder, &["card", "changed"]).text();
-    let changed = Card::new(folder.read("changed"));
+    let text = run(&["card", "changed"]).text();
+    let changed = Card::new(format, folder.read("changed"));
     let listing = String::from_utf8(changed.list().expect("a card")).expect("text");
     assert_eq!(text, format!("56 clusters, 24 free\ndirectory 3 SAVE\nnote kept\n{listing}"));
     assert!(listing.ends_with("d 3 /EXAMPLE\nf 37 /EXAMPLE/NOTE\n"), "{listing}");
@@ -36,13 +44,15 @@ fn example_is_right(folder: &Folder, program: &Program) {
     let mut damaged = card.into_image();
     damaged[0] ^= 3;
     folder.write("damaged", &damaged);
+    // In the plain format it is another text.
+    let told = if format == Format::Raw { "check: refused 2, page 0\n" } else { "check: refused 3\n" };
     for (names, status, words) in [
         (&["changed", "again"][..], 1, "make /EXAMPLE: refused 11\n"),
         (&["short", "again"], 1, "check: refused 1\n"),
-        (&["damaged", "again"], 1, "check: refused 2, page 0\n"),
-        (&["card"], 2, concat!("usage: example IMAGE NEW-IMAGE (ps2card ", env!("CARGO_PKG_VERSION"), ")\n")),
+        (&["damaged", "again"], 1, told),
+        (&["card"], 2, concat!("usage: example [--plain] IMAGE NEW-IMAGE (ps2card ", env!("CARGO_PKG_VERSION"), ")\n")),
     ] {
-        let Done(output) = program.run(folder, names);
+        let Done(output) = run(names);
         let told = (output.status.code(), String::from_utf8_lossy(&output.stderr).into_owned());
         assert_eq!(told, (Some(status), words.to_string()));
     }
@@ -109,16 +119,25 @@ fn not_installed() {
     }
 }
 
-/// NULL with the length 0 is taken as any other pointer with the length 0 is.
+/// NULL with the length 0 is taken as any other pointer with the length 0 is; a number that is no format is refused with
+/// 1 by every call.
 #[test]
 fn null_with_length_zero() {
     for way in c::WAYS {
         let folder = Folder::new();
-        folder.write("card", &build::bench());
+        folder.write("card", &build::bench(reader::Format::Raw));
         let text = c::compiled(&folder, c::test("lent"), way).run(&folder, &["card"]).text();
         let count = |start: &str| text.lines().filter(|line| line.split(' ').next() == Some(start)).count();
         assert_eq!(["image", "changed_image", "path", "changed_path"].map(count), [5; 4], "{text}");
+        assert_eq!(["plain_image", "changed_plain_image"].map(count), [5; 2], "{text}");
+        // The fifth look is the listing, whose answer is the length of its line.
+        let lines = |line: &str| text.lines().filter(|told| *told == line).count();
+        let answers = ["no_format 1 1", "no_format 10 10", "changed_no_format 1 1"].map(lines);
+        assert_eq!((answers, ["no_format", "changed_no_format"].map(count)), ([8, 2, 10], [10; 2]), "{text}");
         for line in ["image 1 1", "changed_image 1 1", "path 8 8", "changed_path 8 8", "create 0 0", "replace 0 0"] {
+            assert!(text.lines().any(|told| told == line), "{line}: {text}");
+        }
+        for line in ["to_plain 1 1", "to_raw 1 1", "to_plain_out 23 23", "to_raw_out 23 23"] {
             assert!(text.lines().any(|told| told == line), "{line}: {text}");
         }
         for line in ["read 0 0", "count 0 0", "read_directory 10 10"] {

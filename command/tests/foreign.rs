@@ -14,6 +14,7 @@ use std::time::{Duration, Instant};
 
 use common::{Folder, Outcome, USUAL};
 use reader::build;
+use reader::Format::Raw;
 
 /// A change that takes a while: a save of many files for a card of many entries.
 fn slow(folder: &Folder) -> Vec<&'static [u8]> {
@@ -45,8 +46,8 @@ fn end(child: Child) -> Outcome {
 fn seen_and_left_alone() {
     let folder = Folder::new();
     let card = folder.path("card");
-    let other = build::standard();
-    let old = build::crowded();
+    let other = build::standard(Raw);
+    let old = build::crowded(Raw);
     type Deed<'a> = (&'a str, &'a dyn Fn());
     let in_place = || {
         let mut file = fs::OpenOptions::new().write(true).open(&card).expect("open");
@@ -101,7 +102,7 @@ fn seen_and_left_alone() {
 #[test]
 fn written_while_read() {
     let folder = Folder::new();
-    let image = build::standard();
+    let image = build::standard(Raw);
     let card = folder.write("card", &image);
     let over = AtomicBool::new(false);
     let (mut done, mut told) = (0, 0);
@@ -136,7 +137,7 @@ fn written_while_read() {
 #[test]
 fn lookers_do_not_count() {
     let folder = Folder::new();
-    folder.write("card", &build::crowded());
+    folder.write("card", &build::crowded(Raw));
     let child = folder.start(&slow(&folder));
     wait_for_lock(&folder.path("card"));
     for _ in 0..5 {
@@ -148,7 +149,7 @@ fn lookers_do_not_count() {
 #[test]
 fn other_names_are_told() {
     let folder = Folder::new();
-    let old = build::bench();
+    let old = build::bench(Raw);
     folder.write("card", &old);
     fs::hard_link(folder.path("card"), folder.path("second")).expect("a link");
     let given = folder.run(&["mkdir", "card", "/A"]);
@@ -167,7 +168,7 @@ fn other_names_are_told() {
 #[test]
 fn waits_for_whom() {
     let folder = Folder::new();
-    folder.write("card", &build::bench());
+    folder.write("card", &build::bench(Raw));
     let held = File::open(folder.path("card")).expect("the image");
     held.lock().expect("the lock");
     let child = folder.start(&[b"mkdir", b"card", b"/late"]);
@@ -191,7 +192,7 @@ fn waits_for_whom() {
 #[test]
 fn folder_cannot_be_synced() {
     let folder = Folder::new();
-    folder.write("card", &build::bench());
+    folder.write("card", &build::bench(Raw));
     folder.write("file", b"a file");
     let runs: [&[&str]; 5] = [
         &["mkdir", "card", "/D"],

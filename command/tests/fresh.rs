@@ -2,42 +2,52 @@
 
 mod common;
 
-use common::{Folder, USUAL};
+use common::{in_wrapper, Folder, USUAL};
 use reader::build::{self, Assembly, Layout};
-use reader::page::{self, CLUSTER};
-use reader::Refusal;
+use reader::{page, Format, Refusal};
 
 #[test]
 fn standard_card() {
-    let folder = Folder::new();
-    folder.run(&["new", "card", "--stamp", USUAL]).done();
-    assert!(folder.read("card") == build::standard());
-    let counts = "card: OK, 8134 KB free\ncard 8192\nfree 8134\nreached 1\norphaned 0\n";
-    assert_eq!(folder.run(&["check", "card"]).text(), counts);
-    assert_eq!(folder.names(), ["card"]);
+    for format in Format::BOTH {
+        let folder = Folder::of(format);
+        folder.run(&["new", "card", "--stamp", USUAL]).done();
+        assert!(folder.read("card") == build::standard(format));
+        let counts = "card: OK, 8134 KB free\ncard 8192\nfree 8134\nreached 1\norphaned 0\n";
+        assert_eq!(folder.run(&["check", "card"]).text(), counts);
+        assert_eq!(folder.names(), ["card"]);
+    }
 }
 
 #[test]
 fn bench_card() {
-    let folder = Folder::new();
-    folder.run(&["new", "card", "56", "--stamp", USUAL]).done();
-    assert_eq!(folder.read("card"), build::bench());
+    for format in Format::BOTH {
+        let folder = Folder::of(format);
+        folder.run(&["new", "card", "56", "--stamp", USUAL]).done();
+        assert_eq!(folder.read("card"), build::bench(format));
+    }
 }
 
 /// Every size: accepted, no bad block listed, both backup blocks erased, every cluster before them in use, and the
 /// independent builder's bytes.
 #[test]
 fn every_size() {
+    Format::BOTH.into_iter().for_each(every_size_of);
+}
+
+fn every_size_of(format: Format) {
     let time = ps2card::Stamp(build::usual_time());
     for clusters in (32..=8192).step_by(8) {
-        let image = ps2card::Card::fresh(clusters, &time).expect("an allowed size").into_image();
-        let counts = reader::check(&image).expect("accepted");
+        let card = ps2card::Card::fresh(in_wrapper(format), clusters, &time).expect("an allowed size");
+        assert_eq!(card.format(), in_wrapper(format));
+        let image = card.into_image();
+        let counts = reader::check(format, &image).expect("accepted");
         assert_eq!((counts.clusters, counts.reached, counts.orphaned), (clusters, 1, 0));
-        let first = page::read(&image, 0).expect("readable");
+        let first = page::read(format, &image, 0).expect("readable");
         assert!(first[0xD0..0x150].iter().all(|&byte| byte == 0xFF));
         let backups = [0x40, 0x44].map(|at| page::word(&first, at));
         for block in backups {
-            assert!(image[8 * CLUSTER * block as usize..][..8 * CLUSTER].iter().all(|&byte| byte == 0xFF));
+            let bytes = 8 * format.cluster_bytes();
+            assert!(image[bytes * block as usize..][..bytes].iter().all(|&byte| byte == 0xFF));
         }
         let [alloc_offset, alloc_end] = [0x34, 0x38].map(|at| page::word(&first, at) as usize);
         assert_eq!(alloc_offset + alloc_end, clusters - 16);
@@ -46,7 +56,7 @@ fn every_size() {
             let table = (9..alloc_offset).collect::<Vec<usize>>();
             assert_eq!(table.len(), alloc_end.div_ceil(256));
             let layout = Layout { clusters, alloc_offset, alloc_end, indirect: 8, table, backups, version: "1.2.0.0" };
-            assert!(Assembly::with_root(layout).finish() == image, "{clusters}");
+            assert!(Assembly::with_root(format, layout).finish() == image, "{format:?} {clusters}");
         }
     }
 }

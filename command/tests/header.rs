@@ -1,14 +1,11 @@
-//! The header: a C program over it, its declarations beside the wrapper's, and the stack that it promises.
+//! The header: a C program over it beside the same calls through the wrapper.
 
 #[path = "c/mod.rs"]
 mod c;
 mod common;
 
-use std::fmt::Write;
-
-use c::Way;
-use common::Folder;
-use ps2card::{Card, Entry, Kind, Refusal, Stamp, MOST_BYTES};
+use common::{in_wrapper, Folder};
+use ps2card::{Card, Entry, Format, Kind, Refusal, Stamp};
 use reader::build;
 
 /// What stands in an output before a call of the C program.
@@ -98,6 +95,36 @@ impl Script {
         self.say(format!("{name} {}\n", told(&answer)));
     }
 
+    /// The first bytes of the image in the other format, into so many bytes.
+    fn convert(&mut self, length: usize, out_length: usize) {
+        let format = self.card.format();
+        let mut out = vec![UNTOUCHED as u8; out_length];
+        let answer = Card::new(format, &self.card.image()[..length]).convert_into(format.other(), &mut out);
+        let touched = out.iter().any(|&byte| byte != UNTOUCHED as u8);
+        self.say(format!("convert {} {}\n", told(&answer), i32::from(touched)));
+    }
+
+    fn damage(&mut self) {
+        let format = self.card.format();
+        let mut image = self.card.image().to_vec();
+        image[7 * format.page_bytes()] ^= 3;
+        self.card = Card::new(format, image);
+    }
+
+    fn conversions(&mut self) {
+        let (length, needed) = (self.card.image().len(), self.card.length_in(self.card.format().other()));
+        self.convert(0, 0);
+        self.convert(length - 1, needed);
+        self.convert(length, needed - 1);
+        self.convert(length, needed + 1);
+        self.convert(length, 0);
+        self.damage();
+        self.convert(length, needed - 1);
+        self.convert(length, needed);
+        self.damage();
+        self.convert(length, needed);
+    }
+
     fn run(&mut self) {
         let time = Stamp(build::usual_time());
         let no_time = Stamp([1, 0, 0, 0, 0, 0, 0, 0]);
@@ -128,176 +155,43 @@ impl Script {
         self.change("remove_dir", |card| card.remove_dir(b"/E"));
         self.check();
         self.list();
+        self.conversions();
     }
 }
 
-/// C through the header and Rust through the wrapper tell the same and leave the same image, however C is compiled.
+/// C through the header and Rust through the wrapper tell the same and leave the same image, in both formats and however
+/// C is compiled.
 #[test]
 fn c_program() {
-    let mut script = Script { card: Card::new(build::bench()), text: String::new() };
-    script.run();
-    let text = script.text;
-    for way in c::WAYS {
-        let folder = Folder::new();
-        folder.write("card", &build::bench());
-        let told = c::compiled(&folder, c::test("header"), way).run(&folder, &["card", "changed"]).text();
-        assert_eq!(told, text, "{way:?}");
-        assert!(folder.read("changed") == script.card.image() && folder.read("changed") != build::bench());
-    }
-    for number in [0, 8, 9, 10, 11, 13, 14, 15] {
-        let met = text.lines().any(|line| line.split(' ').nth(1) == Some(&number.to_string()));
-        assert_eq!(met, number != 8, "{number}: {text}");
-    }
-}
-
-/// A declaration as one line of C.
-fn as_c(rust: &str) -> String {
-    let kind = |rust: &str| match rust {
-        "*const u8" => "const uint8_t *",
-        "*mut u8" => "uint8_t *",
-        "*mut u16" => "uint16_t *",
-        "*mut u32" => "uint32_t *",
-        "*mut usize" => "size_t *",
-        "usize" => "size_t ",
-        "u32" => "uint32_t ",
-        other => panic!("no C type for {other}"),
-    };
-    let (name, rest) = rust.split_once('(').expect("arguments");
-    let (arguments, answer) = rest.rsplit_once(") -> ").expect("an answer");
-    let mut text = format!("{}{}(", kind(answer), name.trim());
-    for (place, argument) in arguments.split(',').filter(|argument| !argument.trim().is_empty()).enumerate() {
-        let (name, rust) = argument.split_once(": ").expect("a type");
-        write!(text, "{}{}{}", if place > 0 { ", " } else { "" }, kind(rust.trim()), name.trim()).expect("text");
-    }
-    text + ")"
-}
-
-/// The wrapper's declarations are the header's, names and order of the arguments included.
-#[test]
-fn declarations() {
-    let one_line = |text: &str| text.split_whitespace().collect::<Vec<&str>>().join(" ");
-    let calls = include_str!("../sys/src/lib.rs");
-    let wrapper: Vec<String> =
-        calls.split("pub fn ").skip(1).map(|text| as_c(text.split(';').next().expect("a declaration"))).collect();
-    let (exported, _) = header().split_once("/* The same with structs. */").expect("two parts");
-    let code = exported.split("*/").map(|part| part.split("/*").next().expect("code")).collect::<String>();
-    let declared: Vec<String> = code
-        .split(';')
-        .filter_map(|part| {
-            part.rfind("uint32_t ps2card_").or(part.rfind("size_t ps2card_")).map(|at| one_line(&part[at..]))
-        })
-        .collect();
-    assert_eq!(declared, wrapper);
-    assert_eq!(declared.len(), 10);
-}
-
-fn header() -> &'static str {
-    include_str!("../../include/ps2card.h")
-}
-
-/// A name of the header as Rust spells it: `BAD_LENGTH` is `BadLength`.
-fn in_rust(name: &str) -> String {
-    let capital = |word: &str| word[..1].to_string() + &word[1..].to_lowercase();
-    name.split('_').map(capital).collect()
-}
-
-/// The header's refusals are the wrapper's, by number and name, in the order in which they are told; its version is the
-/// package's, and its largest card the wrapper's.
-#[test]
-fn constants() {
-    let body =
-        header().split("enum ps2card_refusal {").nth(1).and_then(|rest| rest.split("};").next()).expect("an enum");
-    let lines = body.lines().filter_map(|line| line.trim().strip_prefix("PS2CARD_")?.split_once(" = "));
-    let refusals: Vec<(&str, u32)> = lines
-        .map(|(name, rest)| (name, rest.split([',', ' ']).next().expect("a number").parse().expect("a number")))
-        .collect();
-    let order: Vec<u32> = refusals.iter().map(|refusal| refusal.1).collect();
-    assert_eq!(order, [0, 1, 2, 3, 4, 5, 6, 7, 8, 14, 9, 10, 11, 13, 15, 12]);
-    for (name, number) in &refusals[1..] {
-        let known = KNOWN.iter().find(|refusal| refusal.number() == *number).expect("a refusal of the wrapper");
-        assert_eq!(in_rust(name), format!("{known:?}").split('(').next().expect("a name"));
-    }
-    let defined = |name: &str| {
-        let rest = header().split_once(&format!("#define {name} ")).expect("a definition").1;
-        rest.lines().next().expect("a value").to_string()
-    };
-    assert_eq!(defined("PS2CARD_VERSION"), format!("\"{}\"", env!("CARGO_PKG_VERSION")));
-    let parts = env!("CARGO_PKG_VERSION").split('.').map(|part| part.parse::<usize>().expect("a number"));
-    assert_eq!(defined("PS2CARD_VERSION_NUMBER"), parts.fold(0, |number, part| 100 * number + part).to_string());
-    let cluster: usize = defined("PS2CARD_CLUSTER_BYTES").parse().expect("a number");
-    assert_eq!(defined("PS2CARD_MOST_BYTES"), format!("({} * PS2CARD_CLUSTER_BYTES)", MOST_BYTES / cluster));
-}
-
-/// The mode bits of what a change makes, as the header gives them.
-#[test]
-fn modes() {
-    let time = Stamp(build::usual_time());
-    let mut card = Card::new(build::bench());
-    card.make_dir(b"/D", &time).expect("room");
-    card.create(b"/F", &time, b"").expect("room");
-    let bit = |name: &str| {
-        let rest = header().split_once(&format!("PS2CARD_MODE_{name} = 0x")).expect("a bit").1;
-        u16::from_str_radix(&rest[..4], 16).expect("four digits")
-    };
-    let kinds = bit("EXISTS") | bit("FILE") | bit("DIRECTORY");
-    for (path, kind, told) in
-        [(b"/F", "FILE", "new\n * file has the mode 0x"), (b"/D", "DIRECTORY", "a new directory 0x")]
-    {
-        let mode = card.find(path).expect("an entry").mode;
-        assert_eq!(mode & kinds, bit("EXISTS") | bit(kind));
-        assert!(header().contains(&format!("{told}{mode:x}")), "{mode:x}");
-    }
-}
-
-const KNOWN: [Refusal; 15] = [
-    Refusal::BadLength,
-    Refusal::UnreadablePage(0),
-    Refusal::BadText,
-    Refusal::BadSuperblock,
-    Refusal::BadTableName,
-    Refusal::BadChain,
-    Refusal::BadEntry,
-    Refusal::BadPath,
-    Refusal::Absent,
-    Refusal::WrongKind,
-    Refusal::Exists,
-    Refusal::NoRoom,
-    Refusal::NotEmpty,
-    Refusal::BadTime,
-    Refusal::BadOffset,
-];
-
-/// The bytes of stack that the header gives for a function.
-fn promised(name: &str) -> usize {
-    let (before, _) = header().split_once(&format!(" ps2card_{name}(")).expect("a declaration");
-    let figure = before.rsplit("Stack: at most ").next().expect("a figure");
-    let kibibytes: usize = figure.split(" KiB.").next().expect("a figure").parse().expect("a number");
-    1024 * kibibytes
-}
-
-/// No function uses more stack than the header says, on full and on deep cards.
-#[test]
-fn stack() {
-    let folder = Folder::new();
-    let program = c::compiled(&folder, c::test("stack"), Way::C99);
-    let time = build::usual_time();
-    for image in [build::standard(), build::crowded(), build::bench()] {
-        let mut image = image;
-        for path in [&b"/a"[..], b"/a/b", b"/a/b/c", b"/a/b/empty"] {
-            reader::make_dir(&mut image, path, &time).expect("room");
+    for (format, option) in [(reader::Format::Raw, None), (reader::Format::Plain, Some("--plain"))] {
+        let bench = build::bench(format);
+        let mut script = Script { card: Card::new(in_wrapper(format), bench.clone()), text: String::new() };
+        script.run();
+        let Script { card, text } = script;
+        let other = match card.format() {
+            Format::Raw => card.to_plain(),
+            Format::Plain => card.to_raw(),
+        };
+        for way in c::WAYS {
+            let folder = Folder::new();
+            folder.write("card", &bench);
+            let words: Vec<&str> = option.into_iter().chain(["card", "changed", "converted"]).collect();
+            let told = c::compiled(&folder, c::test("header"), way).run(&folder, &words).text();
+            assert_eq!(told, text, "{way:?}");
+            assert!(folder.read("changed") == card.image() && folder.read("changed") != bench);
+            assert!(folder.read("converted") == other.as_ref().expect("it is readable").image());
         }
-        reader::create(&mut image, b"/a/b/c/file", &time, &[1; 5000]).expect("room");
-        let small = image.len() < 100_000;
-        folder.write("card", &image);
-        let text = program.run(&folder, &["card"]).text();
-        print!("{text}");
-        assert_eq!(text.lines().count(), 10);
-        for line in text.lines() {
-            let words: Vec<&str> = line.split(' ').collect();
-            let (name, number, used) = (words[0], words[1], words[2].parse::<usize>().expect("a number"));
-            let no_room = small && ["create", "replace"].contains(&name);
-            assert_eq!(number, if no_room { "12" } else { "0" }, "{line}");
-            assert!(used <= promised(name), "{line}, promised {}", promised(name));
+        let calls = |line: &&str| !["list", "card", "free", "reached", "orphaned", "d", "f"].contains(&word(line, 0));
+        let numbers: Vec<u32> =
+            text.lines().filter(calls).map(|line| word(line, 1).parse().expect("a number")).collect();
+        for number in [0, 1, 9, 10, 11, 13, 14, 15, 23] {
+            assert!(numbers.contains(&number), "{number}: {text}");
         }
+        assert_eq!(numbers.contains(&2), format == reader::Format::Raw, "{text}");
+        assert_eq!(text.contains("\nconvert 2 7 0\n"), format == reader::Format::Raw, "{text}");
     }
+}
+
+fn word(line: &str, place: usize) -> &str {
+    line.split(' ').nth(place).expect("a word")
 }

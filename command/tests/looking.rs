@@ -5,31 +5,38 @@ mod common;
 use common::Folder;
 use reader::build::{self, bad, good, random};
 use reader::content::lines;
-use reader::{Counts, Entry, Refusal};
+use reader::Format::{Plain, Raw};
+use reader::{Counts, Entry, Format, Refusal};
 
-fn counts(image: &[u8]) -> String {
-    let Counts { clusters, free, reached, orphaned } = reader::check(image).expect("an accepted card");
+fn counts(format: Format, image: &[u8]) -> String {
+    let Counts { clusters, free, reached, orphaned } = reader::check(format, image).expect("an accepted card");
     format!("card: OK, {free} KB free\ncard {clusters}\nfree {free}\nreached {reached}\norphaned {orphaned}\n")
 }
 
 #[test]
 fn check_and_list_accepted_cards() {
-    let folder = Folder::new();
-    let named = good::all().into_iter().map(|card| card.image);
-    let drawn = (0..40).map(|seed| random::random(seed).image);
-    for image in named.chain(drawn).chain([build::standard(), build::crowded()]) {
-        folder.write("card", &image);
-        assert_eq!(folder.run(&["check", "card"]).text(), counts(&image));
-        assert_eq!(folder.run(&["list", "card"]).text(), reader::list(&image));
+    for format in Format::BOTH {
+        let folder = Folder::of(format);
+        let named = good::all(format).into_iter().map(|card| card.image);
+        let drawn = (0..40).map(|seed| random::random(format, seed).image);
+        for image in named.chain(drawn).chain([build::standard(format), build::crowded(format)]) {
+            folder.write("card", &image);
+            assert_eq!(folder.run(&["check", "card"]).text(), counts(format, &image));
+            assert_eq!(folder.run(&["list", "card"]).text(), reader::list(format, &image));
+        }
     }
 }
 
 /// Every command gives a bad card's refusal before its own.
 #[test]
 fn bad_cards() {
-    let folder = Folder::new();
+    Format::BOTH.into_iter().for_each(bad_cards_of);
+}
+
+fn bad_cards_of(format: Format) {
+    let folder = Folder::of(format);
     folder.write("file", b"bytes");
-    for card in bad::all() {
+    for card in bad::all(format) {
         folder.write("card", &card.image);
         folder.run(&["check", "card"]).refused(card.refusal);
         folder.run(&["list", "card"]).refused(card.refusal);
@@ -48,13 +55,63 @@ fn bad_cards() {
 /// Lengths around the largest card's, and no bytes at all.
 #[test]
 fn lengths() {
-    let folder = Folder::new();
-    let most = 8192 * 1056;
-    for length in [0, 1, 1056, most - 1, most + 1, most + 1056, 3 * most] {
-        let mut image = build::standard();
-        image.resize(length, 0xFF);
+    for (format, cluster) in [(Raw, 1056), (Plain, 1024)] {
+        let folder = Folder::of(format);
+        let most = 8192 * cluster;
+        for length in [0, 1, cluster, most - 1, most + 1, most + cluster, 3 * most] {
+            let mut image = build::standard(format);
+            image.resize(length, 0xFF);
+            folder.write("card", &image);
+            folder.run(&["check", "card"]).refused(Refusal::number(1));
+        }
+    }
+}
+
+/// A card of the other format is refused with 1, and the line says what its size is; nothing is guessed. Sizes of
+/// neither format, or of both, are not said to be anything.
+#[test]
+fn the_other_format() {
+    let ends = [
+        (Raw, "; its size is that of a plain card: say --plain (card)\n"),
+        (Plain, "; its size is that of a raw card: leave out --plain (card)\n"),
+    ];
+    for (format, end) in ends {
+        let folder = Folder::of(format);
+        let image = build::bench(format.other());
         folder.write("card", &image);
-        folder.run(&["check", "card"]).refused(Refusal::number(1));
+        folder.write("file", b"bytes");
+        let runs: [&[&str]; 14] = [
+            &["check", "card"],
+            &["verify", "card"],
+            &["list", "card"],
+            &["ls", "card"],
+            &["find", "card", "/"],
+            &["step", "card", "/", "0"],
+            &["read", "card", "/A"],
+            &["get", "card", "/", "out"],
+            &["put", "card", "file"],
+            &["create", "card", "/A", "file"],
+            &["replace", "card", "/A", "file"],
+            &["delete", "card", "/A"],
+            &["mkdir", "card", "/A"],
+            &["rmdir", "card", "/A"],
+        ];
+        for words in runs {
+            let given = folder.run(words);
+            assert!(given.err.ends_with(end), "{words:?}: {given:?}");
+            given.refused(Refusal::number(1));
+        }
+        assert_eq!((folder.read("card"), folder.names()), (image, vec!["card".to_string(), "file".to_string()]));
+        // Of neither format.
+        folder.write("card", &[0; 1_000]);
+        assert!(folder.run(&["check", "card"]).err.ends_with(", 1,024 (card)\n"));
+        // Of both: 256 clusters with spare bytes, 264 without.
+        let mut image = build::bench(format.other());
+        image.resize(270_336, 0xFF);
+        folder.write("card", &image);
+        let given = folder.run(&["check", "card"]);
+        assert!(!given.err.contains("its size"), "{given:?}");
+        given.refused(reader::check(format, &image).expect_err("no sound card"));
     }
 }
 
@@ -82,34 +139,42 @@ fn fields(entry: &Entry) -> String {
 
 #[test]
 fn find_step_and_read_everything() {
-    let folder = Folder::new();
+    let (invalid, broken) = everything(Raw, 6);
+    assert!(invalid > 2 && broken > 0, "{invalid} invalid times, {broken} broken files");
+    let (invalid, broken) = everything(Plain, 3);
+    assert!(invalid > 0 && broken == 0, "{invalid} invalid times, {broken} broken files");
+}
+
+/// All that is on random cards; how many times are invalid, and how many files have an unreadable page.
+fn everything(format: Format, cards: u64) -> (usize, usize) {
+    let folder = Folder::of(format);
     let (mut invalid, mut broken) = (0, 0);
-    for seed in 0..6 {
-        let image = random::random(seed).image;
+    for seed in 0..cards {
+        let image = random::random(format, seed).image;
         folder.write("card", &image);
-        for line in lines(&image).expect("an accepted card") {
+        for line in lines(format, &image).expect("an accepted card") {
             let path = std::str::from_utf8(&line.path).expect("names are ASCII");
             let text = folder.run(&["find", "card", path]).text();
             assert_eq!(text, fields(&line.entry));
             invalid += usize::from(text.contains("created 0x"));
             if line.item.is_directory {
-                steps(&folder, &image, path);
+                steps(format, &folder, &image, path);
                 folder.run(&["read", "card", path]).refused(Refusal::number(10));
             } else {
-                broken += usize::from(!reads(&folder, &image, path, line.entry.length as usize));
+                broken += usize::from(!reads(format, &folder, &image, path, line.entry.length as usize));
                 folder.run(&["step", "card", path, "0"]).refused(Refusal::number(10));
             }
         }
     }
-    assert!(invalid > 2 && broken > 0, "{invalid} invalid times, {broken} broken files");
+    (invalid, broken)
 }
 
 /// Every step through a directory.
-fn steps(folder: &Folder, image: &[u8], path: &str) {
+fn steps(format: Format, folder: &Folder, image: &[u8], path: &str) {
     let mut slot = 0;
     loop {
         let text = folder.run(&["step", "card", path, &slot.to_string()]).text();
-        match reader::step(image, path.as_bytes(), slot).expect("a directory") {
+        match reader::step(format, image, path.as_bytes(), slot).expect("a directory") {
             Some((at, entry)) => {
                 let name = String::from_utf8_lossy(entry.name().expect("a name")).into_owned();
                 assert_eq!(text, format!("slot {at} {name}\n"));
@@ -121,13 +186,13 @@ fn steps(folder: &Folder, image: &[u8], path: &str) {
 }
 
 /// A file whole, in part, from its end and from beyond it; false where a page of it is unreadable.
-fn reads(folder: &Folder, image: &[u8], path: &str, length: usize) -> bool {
+fn reads(format: Format, folder: &Folder, image: &[u8], path: &str, length: usize) -> bool {
     let mut readable = true;
     for (offset, count) in [(0, length), (length / 2, 7), (length, 5), (length + 1, 1)] {
         let mut bytes = vec![0; count];
         let (from, most) = (offset.to_string(), count.to_string());
         let given = folder.run(&["read", "card", path, &from, &most]);
-        match reader::read(image, path.as_bytes(), offset, &mut bytes) {
+        match reader::read(format, image, path.as_bytes(), offset, &mut bytes) {
             Ok(count) => assert_eq!(given.done(), &bytes[..count]),
             Err(refusal) => {
                 readable &= refusal.number != 2;
@@ -136,7 +201,7 @@ fn reads(folder: &Folder, image: &[u8], path: &str, length: usize) -> bool {
         }
     }
     let mut bytes = vec![0; length];
-    match reader::read(image, path.as_bytes(), 0, &mut bytes) {
+    match reader::read(format, image, path.as_bytes(), 0, &mut bytes) {
         Ok(_) => assert_eq!(folder.run(&["read", "card", path]).done(), bytes),
         Err(refusal) => folder.run(&["read", "card", path]).refused(refusal),
     }
@@ -145,12 +210,16 @@ fn reads(folder: &Folder, image: &[u8], path: &str, length: usize) -> bool {
 
 #[test]
 fn ls_for_people() {
-    let folder = Folder::new();
-    let mut image = build::bench();
+    Format::BOTH.into_iter().for_each(ls_of);
+}
+
+fn ls_of(format: Format) {
+    let folder = Folder::of(format);
+    let mut image = build::bench(format);
     let time = reader::time::stamp(2024, 12, 31, 23, 59, 58);
-    reader::make_dir(&mut image, b"/SAVE", &time).expect("room");
-    reader::create(&mut image, b"/SAVE/A B", &build::usual_time(), &[7; 1500]).expect("room");
-    reader::create(&mut image, b"/note", &build::usual_time(), b"").expect("room");
+    reader::make_dir(format, &mut image, b"/SAVE", &time).expect("room");
+    reader::create(format, &mut image, b"/SAVE/A B", &build::usual_time(), &[7; 1500]).expect("room");
+    reader::create(format, &mut image, b"/note", &build::usual_time(), b"").expect("room");
     folder.write("card", &image);
     let all = "dir   1 entry  SAVE\nfile  0 bytes  note\n";
     assert_eq!(folder.run(&["ls", "card"]).text(), all);
@@ -167,6 +236,6 @@ fn ls_for_people() {
     folder.run(&["ls", "card", "/note/x"]).refused(Refusal::number(10));
     folder.run(&["delete", "card", "/SAVE/A B"]).done();
     assert_eq!(folder.run(&["ls", "card", "/SAVE"]).text(), "/SAVE is empty\n");
-    folder.write("card", &build::bench());
+    folder.write("card", &build::bench(format));
     assert_eq!(folder.run(&["ls", "card", "-l"]).text(), "/ is empty\n");
 }

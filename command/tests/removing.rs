@@ -9,14 +9,18 @@ use std::time::Instant;
 use common::Folder;
 use reader::build::{self, bad, random};
 use reader::rng::Rng;
-use reader::{paths, Refusal, Tree};
+use reader::Format::Raw;
+use reader::{paths, Format, Refusal, Tree};
 
 /// Removes a path and all below it by the reader's own single changes, the deepest last name first.
-fn remove_all(image: &mut [u8], path: &[u8]) -> usize {
-    let tree = reader::tree(image).expect("accepted");
+fn remove_all(format: Format, image: &mut [u8], path: &[u8]) -> usize {
+    let tree = reader::tree(format, image).expect("accepted");
     let below: Vec<_> = tree.iter().filter(|(other, _)| paths::is_beginning(path, other)).collect();
     for (path, item) in below.iter().rev() {
-        let done = if item.is_directory { reader::remove_dir(image, path) } else { reader::delete(image, path) };
+        let done = match item.is_directory {
+            true => reader::remove_dir(format, image, path),
+            false => reader::delete(format, image, path),
+        };
         done.expect("it is there");
     }
     below.len()
@@ -26,35 +30,43 @@ fn remove_all(image: &mut [u8], path: &[u8]) -> usize {
 /// image is the one that single changes leave.
 #[test]
 fn random_cards() {
-    let folder = Folder::new();
+    Format::BOTH.into_iter().for_each(random_cards_of);
+}
+
+fn random_cards_of(format: Format) {
+    let folder = Folder::of(format);
     let (mut files, mut directories, mut most) = (0, 0, 0);
     for seed in 0..30 {
         let mut rng = Rng::new(seed);
-        let image = random::sized(seed, 8 * rng.between(4, 40)).image;
-        let tree = reader::tree(&image).expect("accepted");
+        let image = random::sized(format, seed, 8 * rng.between(4, 40)).image;
+        let tree = reader::tree(format, &image).expect("accepted");
         for path in tree.keys().filter(|path| *path != b"/" && rng.chance(1, 3)) {
             folder.write("card", &image);
             folder.feed(&[b"rm", b"-r", b"card", path], b"").done();
             let mut expected = image.clone();
-            let removed = remove_all(&mut expected, path);
-            assert!(folder.read("card") == expected, "seed {seed} {}", path.escape_ascii());
+            let removed = remove_all(format, &mut expected, path);
+            assert!(folder.read("card") == expected, "{format:?}, seed {seed} {}", path.escape_ascii());
             let rest: Tree = tree.clone().into_iter().filter(|(other, _)| !paths::is_beginning(path, other)).collect();
-            assert_eq!(reader::tree(&expected).expect("accepted"), rest);
+            assert_eq!(reader::tree(format, &expected).expect("accepted"), rest);
             *(if tree[path].is_directory { &mut directories } else { &mut files }) += 1;
             most = most.max(removed);
         }
     }
-    println!("{files} files, {directories} directories, up to {most} entries");
+    println!("{format:?}: {files} files, {directories} directories, up to {most} entries");
     assert!(files > 50 && directories > 20 && most > 8, "{files} {directories} {most}");
 }
 
 #[test]
 fn refusals() {
-    let folder = Folder::new();
-    let mut image = build::bench();
+    Format::BOTH.into_iter().for_each(refusals_of);
+}
+
+fn refusals_of(format: Format) {
+    let folder = Folder::of(format);
+    let mut image = build::bench(format);
     let time = build::usual_time();
-    reader::make_dir(&mut image, b"/d", &time).expect("room");
-    reader::create(&mut image, b"/d/f", &time, b"bytes").expect("room");
+    reader::make_dir(format, &mut image, b"/d", &time).expect("room");
+    reader::create(format, &mut image, b"/d/f", &time, b"bytes").expect("room");
     let card = folder.write("card", &image);
     let was = fs::metadata(&card).expect("there").modified().expect("a time");
     for (path, number) in [("/", 8), ("d", 8), ("/x", 9), ("/d/f/x", 10), ("/d/x", 9)] {
@@ -64,7 +76,7 @@ fn refusals() {
     }
     folder.run(&["rm", "card", "/d"]).refused(Refusal::number(10));
     assert_eq!((folder.read("card"), fs::metadata(&card).expect("there").modified().expect("a time")), (image, was));
-    for bad in bad::all() {
+    for bad in bad::all(format) {
         folder.write("card", &bad.image);
         folder.run(&["rm", "-r", "card", "/d"]).refused(bad.refusal);
         assert_eq!(folder.read("card"), bad.image);
@@ -75,9 +87,9 @@ fn refusals() {
 #[test]
 fn killed() {
     let folder = Folder::new();
-    let old = build::crowded();
+    let old = build::crowded(Raw);
     let mut new = old.clone();
-    remove_all(&mut new, b"/SAVE07");
+    remove_all(Raw, &mut new, b"/SAVE07");
     let words: [&[u8]; 4] = [b"rm", b"-r", b"card", b"/SAVE07"];
     folder.write("card", &old);
     let start = Instant::now();

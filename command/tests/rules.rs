@@ -4,7 +4,7 @@ use std::fs::{self, File, OpenOptions};
 use std::path::{Path, PathBuf};
 use std::process::{Command, Output, Stdio};
 
-use ps2card::{Card, Refusal, Stamp};
+use ps2card::{Card, Format, Refusal, Stamp, MOST_BYTES};
 use reader::build;
 
 /// The repository.
@@ -17,7 +17,7 @@ fn time() -> Stamp {
 }
 
 fn fresh() -> Card {
-    Card::fresh(56, &time()).expect("a fresh card")
+    Card::fresh(Format::Raw, 56, &time()).expect("a fresh card")
 }
 
 /// The words stand in a text, wherever its lines are broken.
@@ -34,15 +34,36 @@ const HEADER: &str = "include/ps2card.h";
 fn lengths() {
     says(
         HEADER,
-        "A card has 32 to 8,192 clusters, in steps of 8: an image of any other length than 1,056 bytes for each",
+        "A card has 32 to 8,192 clusters, in steps of 8: an image of any other length than 1,056 bytes for each of them, or 1,024 where it is plain, is refused.",
     );
     let image = vec![0; 8_208 * 1_056 + 1];
-    let length_is_bad = |bytes: usize| Card::new(&image[..bytes]).check() == Err(Refusal::BadLength);
-    for clusters in 0..=8_208 {
-        let allowed = clusters % 8 == 0 && (32..=8_192).contains(&clusters);
-        assert_eq!(length_is_bad(clusters * 1_056), !allowed, "{clusters} clusters");
-        assert!(length_is_bad(clusters * 1_056 + 1), "{clusters} clusters and a byte");
+    for (format, bytes) in [(Format::Raw, 1_056), (Format::Plain, 1_024)] {
+        let length_is_bad = |bytes: usize| {
+            let refused = Card::new(format, &image[..bytes]).check() == Err(Refusal::BadLength);
+            assert_eq!(refused, !format.is_length(bytes), "{format} {bytes}");
+            refused
+        };
+        for clusters in 0..=8_208 {
+            let allowed = clusters % 8 == 0 && (32..=8_192).contains(&clusters);
+            assert_eq!(length_is_bad(clusters * bytes), !allowed, "{clusters} clusters");
+            assert!(length_is_bad(clusters * bytes + 1), "{clusters} clusters and a byte");
+        }
     }
+}
+
+/// Some lengths are a card's in both formats, as the header says; the call goes by what it is told.
+#[test]
+fn lengths_of_both() {
+    says(HEADER, "It is never guessed: some lengths are a card's in both.");
+    let both = (0..=MOST_BYTES).step_by(512).filter(|&bytes| Format::ALL.iter().all(|format| format.is_length(bytes)));
+    let both: Vec<usize> = both.collect();
+    assert_eq!((both.len(), both[0], both[0] / 1_056, both[0] / 1_024), (31, 270_336, 256, 264));
+    let plain = Card::fresh(Format::Plain, 264, &time()).expect("a fresh card");
+    let raw = Card::fresh(Format::Raw, 256, &time()).expect("a fresh card");
+    assert_eq!((plain.image().len(), raw.image().len()), (both[0], both[0]));
+    assert!(plain.check().is_ok() && raw.check().is_ok());
+    assert_eq!(Card::raw(plain.image()).check(), Err(Refusal::UnreadablePage(0)));
+    assert_eq!(Card::plain(raw.image()).check(), Err(Refusal::BadSuperblock));
 }
 
 #[test]
@@ -135,7 +156,7 @@ fn list_tells_nothing_by_its_status() {
     let of = |file: &Path| Stdio::from(File::open(file).expect("a file"));
 
     let whole = list(of(&sample), Stdio::piped());
-    assert_eq!((whole.status.code(), whole.stdout), (Some(0), Card::new(&image[..]).list().expect("a listing")));
+    assert_eq!((whole.status.code(), whole.stdout), (Some(0), Card::raw(&image[..]).list().expect("a listing")));
 
     // A folder can be opened but not read: what came before the failure is nothing, and no image.
     let unread = list(of(&home()), Stdio::piped());

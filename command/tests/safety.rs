@@ -10,16 +10,17 @@ use std::time::{Duration, Instant};
 use common::{Folder, USUAL};
 use reader::build;
 use reader::rng::Rng;
+use reader::Format::Raw;
 
 /// Killed at any moment of a change, the image is the old one or the new one, and the next change goes through.
 #[test]
 fn killed_at_random_moments() {
     let folder = Folder::new();
-    let old = build::crowded();
+    let old = build::crowded(Raw);
     let mut new = old.clone();
     let bytes = vec![0x5A; 2_000_000];
     folder.write("file", &bytes);
-    reader::create(&mut new, b"/BIG", &build::usual_time(), &bytes).expect("room");
+    reader::create(Raw, &mut new, b"/BIG", &build::usual_time(), &bytes).expect("room");
     let words: [&[u8]; 6] = [b"create", b"card", b"/BIG", b"file", b"--stamp", USUAL.as_bytes()];
     folder.write("card", &old);
     let start = Instant::now();
@@ -54,7 +55,7 @@ fn killed_at_random_moments() {
 #[test]
 fn two_stations() {
     let folder = Folder::new();
-    folder.write("card", &build::standard());
+    folder.write("card", &build::standard(Raw));
     let names: Vec<String> = (0..40).map(|number| format!("/S{number:02}")).collect();
     for pair in names.chunks(8) {
         let mut children: Vec<_> =
@@ -72,14 +73,14 @@ fn two_stations() {
 #[test]
 fn waits_for_the_lock() {
     let folder = Folder::new();
-    folder.write("card", &build::bench());
+    folder.write("card", &build::bench(Raw));
     let held = File::open(folder.path("card")).expect("the image");
     held.lock().expect("the lock");
     let mut child = folder.start(&[b"mkdir", b"card", b"/late"]);
     sleep(Duration::from_millis(300));
     assert!(child.try_wait().expect("a look").is_none(), "it went on without the lock");
-    let mut image = build::bench();
-    reader::make_dir(&mut image, b"/early", &build::usual_time()).expect("room");
+    let mut image = build::bench(Raw);
+    reader::make_dir(Raw, &mut image, b"/early", &build::usual_time()).expect("room");
     folder.write("other", &image);
     fs::rename(folder.path("other"), folder.path("card")).expect("renamed");
     drop(held);
@@ -92,7 +93,7 @@ fn waits_for_the_lock() {
 #[test]
 fn permissions_and_links() {
     let folder = Folder::new();
-    let card = folder.write("card", &build::bench());
+    let card = folder.write("card", &build::bench(Raw));
     symlink("card", folder.path("link")).expect("a link");
     for mode in [0o600, 0o640, 0o666, 0o755] {
         fs::set_permissions(&card, Permissions::from_mode(mode)).expect("permissions");
@@ -110,7 +111,7 @@ fn permissions_and_links() {
 #[test]
 fn leftovers() {
     let folder = Folder::new();
-    folder.write("card", &build::bench());
+    folder.write("card", &build::bench(Raw));
     folder.write("elsewhere", b"mine");
     symlink("elsewhere", folder.path(".ps2card-new-1-0")).expect("a link");
     folder.write(".ps2card-new-1-1", b"half an image");

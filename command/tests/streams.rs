@@ -10,9 +10,10 @@ use std::process::{Command, Stdio};
 use std::thread::sleep;
 use std::time::{Duration, Instant};
 
-use common::{crowd, Folder, Outcome};
+use common::{converted, crowd, Folder, Outcome};
 use reader::build::{self, samples};
-use reader::Refusal;
+use reader::Format::Raw;
+use reader::{Format, Refusal};
 
 fn full() -> File {
     OpenOptions::new().write(true).open("/dev/full").expect("/dev/full")
@@ -29,7 +30,7 @@ fn shell(folder: &Folder, script: &str, words: &[&str]) -> Outcome {
 #[test]
 fn standard_error_full_or_closed() {
     let folder = Folder::new();
-    folder.write("card", &build::bench());
+    folder.write("card", &build::bench(Raw));
     std::fs::hard_link(folder.path("card"), folder.path("second")).expect("a link");
     let runs: [(&[&str], i32); 6] = [
         (&["find", "card", "/x"], 1),
@@ -56,7 +57,7 @@ fn standard_error_full_or_closed() {
 #[test]
 fn standard_output_full_or_closed() {
     let folder = Folder::new();
-    folder.write("card", &build::crowded());
+    folder.write("card", &build::crowded(Raw));
     let runs: [&[&[u8]]; 6] = [
         &[b"list", b"card"],
         &[b"ls", b"card"],
@@ -82,8 +83,12 @@ fn standard_output_full_or_closed() {
 /// Every command that only looks takes its image from standard input.
 #[test]
 fn image_from_standard_input() {
-    let folder = Folder::new();
-    let image = samples::shop();
+    Format::BOTH.into_iter().for_each(image_from_standard_input_of);
+}
+
+fn image_from_standard_input_of(format: Format) {
+    let folder = Folder::of(format);
+    let image = converted(format, &samples::shop());
     folder.write("card", &image);
     let runs: [&[&[u8]]; 9] = [
         &[b"list", b"-"],
@@ -115,8 +120,8 @@ fn image_from_standard_input() {
 #[test]
 fn refusals_name_their_image() {
     let folder = Folder::new();
-    folder.write("card", &build::bench());
-    folder.write("cut", &build::bench()[..100]);
+    folder.write("card", &build::bench(Raw));
+    folder.write("cut", &build::bench(Raw)[..100]);
     for (words, end) in [
         (&["check", "cut"][..], " (cut)\n"),
         (&["find", "cut", "/A"], " (cut)\n"),
@@ -178,7 +183,7 @@ fn on_terminal(folder: &Folder, words: &[&[u8]], output: Option<Stdio>) -> (Stri
 #[test]
 fn no_progress_while_typing() {
     let folder = Folder::new();
-    folder.write("card", &build::bench());
+    folder.write("card", &build::bench(Raw));
     let (mut master, slave) = terminal();
     let mut command = folder.command(&[b"create", b"card", b"/A", b"-"]);
     command.stdout(slave.try_clone().expect("another")).stderr(slave);

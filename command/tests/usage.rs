@@ -4,9 +4,10 @@ mod common;
 
 use common::Folder;
 use reader::build;
+use reader::Format::Raw;
 
 /// The commands, and what people of other systems call them.
-const COMMANDS: [(&str, Option<&str>); 16] = [
+const COMMANDS: [(&str, Option<&str>); 17] = [
     ("check", Some("df")),
     ("verify", None),
     ("compare", None),
@@ -23,6 +24,7 @@ const COMMANDS: [(&str, Option<&str>); 16] = [
     ("mkdir", None),
     ("rmdir", None),
     ("new", Some("format")),
+    ("convert", None),
 ];
 
 #[test]
@@ -36,8 +38,9 @@ fn help() {
         let text = folder.run(&[command, "--help"]).text();
         let usage = format!("usage: ps2card {command} ");
         let form = text.lines().next().and_then(|line| line.strip_prefix(&usage)).expect("a usage line");
-        // The list of all commands has the same form, but for the time.
-        let listed = format!("\n  {command:8} {} ", form.trim_end_matches(" [--stamp TIME]"));
+        // The list of all commands has the same form, but for the time and the format.
+        let listed = form.split(" [--plain").next().expect("a form");
+        let listed = format!("\n  {command:8} {listed} ");
         assert!(all.contains(&listed), "{listed:?}");
         assert_eq!(folder.run(&[command, "a", "b", "c", "d", "e", "f", "--help"]).text(), text);
         assert_eq!(folder.run(&["help", command]).text(), text);
@@ -47,6 +50,14 @@ fn help() {
         }
         let timed = ["create", "replace", "put", "mkdir", "new"].contains(&command);
         assert_eq!((text.contains("--stamp"), form.contains("[--stamp TIME]")), (timed, timed), "{text}");
+        let formats = match command {
+            "convert" => "--to-plain|--to-raw",
+            "compare" => "[--plain | --plain-a | --plain-b]",
+            _ => "[--plain]",
+        };
+        assert!(
+            form.contains(formats) && text.lines().any(|line| line.starts_with("--plain ")) != (command == "convert")
+        );
         assert!(!text.contains("valid or not") && width(&text) <= 120, "{text}");
     }
     assert!(width(&all) <= 120 && !all.contains("valid or not"));
@@ -62,7 +73,7 @@ fn help() {
 fn other_names() {
     let folder = Folder::new();
     folder.run(&["format", "card", "56", "--stamp", common::USUAL]).done();
-    assert_eq!(folder.read("card"), build::bench());
+    assert_eq!(folder.read("card"), build::bench(Raw));
     folder.feed(&[b"create", b"card", b"/A", b"-"], b"a save").done();
     assert_eq!(folder.run(&["cat", "card", "/A"]).done(), b"a save");
     assert_eq!(folder.run(&["stat", "card", "/A"]), folder.run(&["find", "card", "/A"]));
@@ -74,9 +85,9 @@ fn other_names() {
 #[test]
 fn wrong_usage() {
     let folder = Folder::new();
-    let image = build::bench();
+    let image = build::bench(Raw);
     folder.write("card", &image);
-    let wrong: [&[&str]; 40] = [
+    let wrong: [&[&str]; 51] = [
         &[],
         &["frob"],
         &["frob", "card"],
@@ -117,6 +128,17 @@ fn wrong_usage() {
         &["delete", "card", "/A", "--stamp", common::USUAL],
         &["rmdir", "card"],
         &["put", "card"],
+        &["check", "--plain=yes", "card"],
+        &["check", "--plain-a", "card"],
+        &["check", "--to-plain", "card"],
+        &["convert", "card", "made"],
+        &["convert", "card", "made", "--plain"],
+        &["convert", "card", "made", "--to-plain", "--to-raw"],
+        &["convert", "card", "made", "--to-plain", "--plain"],
+        &["convert", "card", "--to-plain"],
+        &["convert", "card", "made", "more", "--to-plain"],
+        &["convert", "card", "-", "--to-plain"],
+        &["convert", "card", "made", "--to-plain=yes"],
     ];
     for words in wrong {
         let given = folder.run(words);

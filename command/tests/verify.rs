@@ -4,16 +4,17 @@ mod common;
 
 use std::fs;
 
-use common::{unreadable_pages, Folder};
+use common::{converted, unreadable_pages, Folder};
 use reader::build::{self, bad, random, scribble};
 use reader::rng::Rng;
-use reader::{page, sha256};
+use reader::Format::{Plain, Raw};
+use reader::{page, sha256, Format};
 
 /// What verify must print of a card in the file `card`: its lines, and the pages that it names.
-fn expected(image: &[u8], prefix: &[u8]) -> (Vec<u8>, Vec<String>) {
+fn expected(format: Format, image: &[u8], prefix: &[u8]) -> (Vec<u8>, Vec<String>) {
     let (mut lines, mut pages) = (Vec::new(), Vec::new());
-    let tree = reader::tree(image).expect("an accepted card");
-    for (path, unreadable) in unreadable_pages(image) {
+    let tree = reader::tree(format, image).expect("an accepted card");
+    for (path, unreadable) in unreadable_pages(format, image) {
         match tree[&path].bytes() {
             Some(bytes) => {
                 let name = [prefix, &path[1..]].concat();
@@ -43,23 +44,30 @@ fn named(err: &str, image: &str) -> Vec<String> {
 /// Random cards, with more damage in their files: lines, pages and status are the independent reader's.
 #[test]
 fn random_cards() {
-    let folder = Folder::new();
+    let [whole, broken, sums, pages] = random_cards_of(Raw, 40);
+    assert!(whole > 3 && broken > 10 && sums > 100 && pages > 100, "{whole} {broken} {sums} {pages}");
+    let [whole, broken, sums, pages] = random_cards_of(Plain, 20);
+    assert!((whole, broken, pages) == (20, 0, 0) && sums > 50, "{whole} {broken} {sums} {pages}");
+}
+
+fn random_cards_of(format: Format, cards: u64) -> [usize; 4] {
+    let folder = Folder::of(format);
     let (mut whole, mut broken, mut sums, mut pages) = (0, 0, 0, 0);
-    for seed in 0..40 {
+    for seed in 0..cards {
         let mut rng = Rng::new(seed);
-        let mut image = random::sized(seed, 8 * rng.between(4, 30)).image;
-        let files = reader::tree::Checked::of(&image).expect("an accepted card");
+        let mut image = random::sized(format, seed, 8 * rng.between(4, 30)).image;
+        let files = reader::tree::Checked::of(format, &image).expect("an accepted card");
         reader::content::visit(&files.root, b"/", &mut |_, node| {
             if node.inside.is_none() && rng.chance(1, 4) {
                 for index in 0..(node.entry.length as usize).div_ceil(page::DATA) {
                     if rng.chance(1, 3) {
-                        scribble::ruin(&mut image, files.card.slot_page(&node.chain, index), 1, &mut rng);
+                        scribble::ruin(format, &mut image, files.card.slot_page(&node.chain, index), 1, &mut rng);
                     }
                 }
             }
         });
         folder.write("card", &image);
-        let (lines, unreadable) = expected(&image, b"");
+        let (lines, unreadable) = expected(format, &image, b"");
         let given = folder.run(&["verify", "card"]);
         assert_eq!(given.out.escape_ascii().to_string(), lines.escape_ascii().to_string(), "seed {seed}");
         assert_eq!(named(&given.err, "card"), unreadable, "seed {seed}");
@@ -68,25 +76,25 @@ fn random_cards() {
         sums += lines.iter().filter(|&&byte| byte == b'\n').count();
         pages += unreadable.len();
     }
-    println!("{whole} whole cards, {broken} broken ones, {sums} sums, {pages} unreadable pages");
-    assert!(whole > 3 && broken > 10 && sums > 100 && pages > 100, "{whole} {broken} {sums} {pages}");
+    println!("{format:?}: {whole} whole cards, {broken} broken ones, {sums} sums, {pages} unreadable pages");
+    [whole, broken, sums, pages]
 }
 
 /// The host's own sha256sum says the same of the copy, in the same lines; a changed copy is found.
 #[test]
 fn as_sha256sum() {
     let folder = Folder::new();
-    let mut image = build::standard();
+    let mut image = build::standard(Raw);
     let (time, mut rng) = (build::usual_time(), Rng::new(5));
-    reader::make_dir(&mut image, b"/a b", &time).expect("room");
+    reader::make_dir(Raw, &mut image, b"/a b", &time).expect("room");
     for length in [0, 1, 55, 56, 57, 63, 64, 65, 119, 120, 128, 511, 512, 513, 1024, 4097, 100_000] {
-        reader::create(&mut image, format!("/a b/{length}").as_bytes(), &time, &rng.bytes(length)).expect("room");
+        reader::create(Raw, &mut image, format!("/a b/{length}").as_bytes(), &time, &rng.bytes(length)).expect("room");
     }
-    reader::create(&mut image, b"/back\\slash \\n", &time, b"odd").expect("room");
+    reader::create(Raw, &mut image, b"/back\\slash \\n", &time, b"odd").expect("room");
     folder.write("card", &image);
     folder.run(&["get", "card", "/", "out"]).done();
     let lines = folder.run(&["verify", "card"]).done();
-    let mut paths: Vec<String> = reader::list(&image)
+    let mut paths: Vec<String> = reader::list(Raw, &image)
         .lines()
         .filter_map(|line| line.strip_prefix("f "))
         .map(|line| line.split_once(" /").expect("a path").1.to_string())
@@ -117,17 +125,17 @@ fn as_sha256sum() {
 fn several_images() {
     let folder = Folder::new();
     let good = reader::build::samples::save();
-    let bad = bad::all().into_iter().find(|card| card.refusal.number == 6).expect("a bad chain").image;
+    let bad = bad::all(Raw).into_iter().find(|card| card.refusal.number == 6).expect("a bad chain").image;
     let mut torn = good.clone();
     let page = 2 * (10 + 4);
-    scribble::break_page(&mut torn, page);
-    let (path, pages) = unreadable_pages(&torn).remove(0);
+    scribble::break_page(Raw, &mut torn, page);
+    let (path, pages) = unreadable_pages(Raw, &torn).remove(0);
     assert_eq!((path.as_slice(), pages.as_slice()), (&b"/SAVE/A"[..], &[page][..]));
     for (name, image) in [("good", &good), ("bad", &bad), ("torn", &torn)] {
         folder.write(name, image);
     }
     let given = folder.feed(&[b"verify", b"good", b"bad", b"torn", b"-"], &good);
-    let lines = [expected(&good, b"good/").0, expected(&good, b"-/").0].concat();
+    let lines = [expected(Raw, &good, b"good/").0, expected(Raw, &good, b"-/").0].concat();
     assert_eq!((given.status, given.out), (1, lines));
     let errors: Vec<&str> = given.err.lines().collect();
     assert!(errors.len() == 2 && errors[0].starts_with("refused 6: ") && errors[0].ends_with(" (bad)"), "{errors:?}");
@@ -137,11 +145,27 @@ fn several_images() {
     );
     let given = folder.run(&["verify", "good", "none", "bad"]);
     assert!(given.status == 3 && given.err.contains("cannot read none") && given.err.contains("(bad)"), "{given:?}");
-    assert_eq!(given.out, expected(&good, b"good/").0);
+    assert_eq!(given.out, expected(Raw, &good, b"good/").0);
 
     let given = folder.feed(&[b"check", b"-", b"bad", b"good"], &torn);
     let counts = "card 56\nfree 24\nreached 6\norphaned 0\n";
     let text = format!("standard input: OK, 24 KB free\n{counts}good: OK, 24 KB free\n{counts}");
     assert_eq!((given.status, String::from_utf8(given.out).expect("text")), (1, text));
     assert!(given.err.starts_with("refused 6: ") && given.err.ends_with(" (bad)\n"), "{}", given.err);
+}
+
+/// With --plain every image is plain: a raw one among them is refused, and does not hide the others.
+#[test]
+fn several_plain_images() {
+    let folder = Folder::of(Plain);
+    let raw = reader::build::samples::save();
+    let plain = converted(Plain, &raw);
+    folder.write("raw", &raw);
+    folder.write("plain", &plain);
+    let given = folder.feed(&[b"verify", b"raw", b"plain", b"-"], &plain);
+    let lines = [expected(Plain, &plain, b"plain/").0, expected(Plain, &plain, b"-/").0].concat();
+    assert_eq!((given.status, given.out), (1, lines));
+    assert!(given.err.starts_with("refused 1: ") && given.err.ends_with(" (raw)\n"), "{}", given.err);
+    let given = folder.run(&["check", "raw", "plain"]);
+    assert!(given.status == 1 && given.out.starts_with(b"plain: OK, 24 KB free\n"), "{given:?}");
 }

@@ -1,4 +1,4 @@
-//! The wrapper: owned and borrowed cards, errors, threads and stack, and how its sources treat `unsafe`.
+//! The wrapper: owned and borrowed cards of both formats, errors, threads and stack, and how its sources treat `unsafe`.
 
 use std::error::Error;
 use std::fs;
@@ -6,8 +6,9 @@ use std::path::{Path, PathBuf};
 use std::thread;
 
 use ps2card::image_file;
-use ps2card::{Card, CardMut, CardRef, Refusal, Stamp, STACK};
+use ps2card::{Card, CardMut, CardRef, Format, Refusal, Stamp, STACK};
 use reader::build;
+use reader::Format::{Plain, Raw};
 
 fn time() -> Stamp {
     Stamp(build::usual_time())
@@ -30,29 +31,57 @@ fn work<B: AsRef<[u8]> + AsMut<[u8]>>(card: &mut Card<B>) -> Result<Vec<u8>, Ref
 /// A borrowed card works in the caller's buffer and does what an owned one does.
 #[test]
 fn owned_and_borrowed() {
-    let mut owned = Card::new(build::bench());
-    let text = work(&mut owned).expect("room");
-    let mut buffer = build::bench();
-    let mut changing: CardMut = Card::new(&mut buffer[..]);
-    assert_eq!(work(&mut changing), Ok(text.clone()));
-    assert!(buffer == owned.image() && buffer != build::bench());
-    let looking: CardRef = Card::new(&buffer[..]);
-    assert_eq!((looking.list(), looking.check()), (Ok(text), owned.check()));
-    // The buffer may be an array or a box as well.
-    let boxed = Card::new(buffer.clone().into_boxed_slice());
-    assert_eq!(boxed.find(b"/D/F"), owned.find(b"/D/F"));
-    assert!(boxed.into_image()[..] == buffer[..]);
+    for (format, image) in [(Format::Raw, build::bench(Raw)), (Format::Plain, build::bench(Plain))] {
+        let mut owned = Card::new(format, image.clone());
+        let text = work(&mut owned).expect("room");
+        let mut buffer = image.clone();
+        let mut changing: CardMut = Card::new(format, &mut buffer[..]);
+        assert_eq!((work(&mut changing), changing.format()), (Ok(text.clone()), format));
+        assert!(buffer == owned.image() && buffer != image);
+        let looking: CardRef = Card::new(format, &buffer[..]);
+        assert_eq!((looking.list(), looking.check()), (Ok(text), owned.check()));
+        // The buffer may be an array or a box as well.
+        let boxed = Card::new(format, buffer.clone().into_boxed_slice());
+        assert_eq!(boxed.find(b"/D/F"), owned.find(b"/D/F"));
+        assert!(boxed.into_image()[..] == buffer[..]);
+    }
+}
+
+/// The format is part of a card: raw by default, as said by its two shorter names, and told apart by equality.
+#[test]
+fn formats() {
+    assert_eq!(Format::default(), Format::Raw);
+    assert_eq!(Format::ALL.map(|format| format.to_string()), ["raw", "plain"]);
+    assert_eq!(Format::ALL.map(Format::other), [Format::Plain, Format::Raw]);
+    for (format, card) in [(Format::Raw, Card::raw(b"same")), (Format::Plain, Card::plain(b"same"))] {
+        assert_eq!((card.format(), card), (format, Card::new(format, b"same")));
+    }
+    assert_ne!(Card::raw(b"same"), Card::plain(b"same"));
+    for (format, page) in [(Format::Raw, 528), (Format::Plain, 512)] {
+        assert_eq!((format.page_bytes(), format.cluster_bytes()), (page, 2 * page));
+        assert_eq!(format.most_bytes(), 8192 * 2 * page);
+        assert!(format.is_length(32 * 2 * page) && !format.is_length(36 * 2 * page) && !format.is_length(0));
+    }
+    // A card is what its caller says: the same bytes are of the wrong length for the other format.
+    assert_eq!(Card::plain(build::bench(Raw)).check(), Err(Refusal::BadLength));
+    assert_eq!(Card::raw(build::bench(Plain)).list(), Err(Refusal::BadLength));
 }
 
 /// The listing, which tells a refusal in its text, gives the refusal that the check gives.
 #[test]
 fn refused_listings() {
-    let mut unreadable = build::bench();
+    let [mut unreadable, mut other_text] = [build::bench(Raw), build::bench(Plain)];
     unreadable[0] ^= 3;
-    let mut other_text = build::bench();
-    reader::page::write(&mut other_text, 0, &[0; 512]);
-    for (image, number) in [(vec![], 1), (unreadable, 2), (other_text, 3)] {
-        let card = Card::new(image);
+    other_text[0] ^= 3;
+    let mut no_text = build::bench(Raw);
+    reader::page::write(Raw, &mut no_text, 0, &[0; 512]);
+    for (card, number) in [
+        (Card::raw(vec![]), 1),
+        (Card::plain(vec![]), 1),
+        (Card::raw(unreadable), 2),
+        (Card::plain(other_text), 3),
+        (Card::raw(no_text), 3),
+    ] {
         let refusal = card.list().expect_err("a refusal");
         assert_eq!((refusal.number(), refusal.page()), (number, (number == 2).then_some(0)));
         assert_eq!((Err(refusal), card.tree()), (card.check(), Err(refusal)));
@@ -62,14 +91,14 @@ fn refused_listings() {
 /// The check reads no file data, as the header says: a card with a damaged file passes, and a read of it does not.
 #[test]
 fn check_reads_no_file_data() {
-    let mut card = Card::new(build::bench());
+    let mut card = Card::raw(build::bench(Raw));
     card.create(b"/F", &time(), &[7; 3000]).expect("room");
     let (sound, first) = (card.check(), card.find(b"/F").expect("a file").first as usize);
     // The allocatable clusters of this card start at 10; its second page has bytes 512 to 1023.
     let page = 2 * (10 + first) + 1;
     let mut image = card.into_image();
     image[page * 528] ^= 3;
-    let card = Card::new(image);
+    let card = Card::raw(image);
     assert!(sound.is_ok() && card.check() == sound && card.list().is_ok());
     assert_eq!(card.bytes(b"/F", 0, 3000), Err(Refusal::UnreadablePage(page)));
     assert_eq!(card.bytes(b"/F", 0, 512).map(|bytes| bytes.len()), Ok(512));
@@ -81,10 +110,10 @@ fn errors() {
     fn any(error: impl Error + Send + Sync + 'static) -> Box<dyn Error + Send + Sync> {
         Box::new(error)
     }
-    let refusal = Card::new(Vec::new()).check().expect_err("no card");
+    let refusal = Card::raw(Vec::new()).check().expect_err("no card");
     assert!(any(refusal).to_string().starts_with("refused 1: "));
     assert_eq!(any(image_file::Error::from(refusal)).to_string(), refusal.to_string());
-    let absent = image_file::load(Path::new("no/such/image")).expect_err("no file");
+    let absent = image_file::load(Format::Raw, Path::new("no/such/image")).expect_err("no file");
     let words = absent.to_string();
     assert_eq!(any(image_file::Error::from(absent)).to_string(), words);
 }
@@ -92,10 +121,13 @@ fn errors() {
 /// Threads that have the promised stack and little more, at once, on images of their own: no state, no overflow.
 #[test]
 fn threads_and_stack() {
-    let text = work(&mut Card::new(build::standard())).expect("room");
+    let text = work(&mut Card::raw(build::standard(Raw))).expect("room");
     let threads: Vec<thread::JoinHandle<Vec<u8>>> = (0..8)
-        .map(|_| {
-            let mut card = Card::new(build::standard());
+        .map(|number| {
+            let mut card = Card::raw(build::standard(Raw));
+            if number % 2 == 1 {
+                card = card.to_plain().expect("a sound card");
+            }
             let small = thread::Builder::new().stack_size(STACK + 64 * 1024);
             small.spawn(move || work(&mut card).expect("room"))
         })

@@ -5,22 +5,31 @@ use std::process::Command;
 use reader::build::{directory, file, Assembly, Layout};
 use reader::card::END_MARK;
 use reader::rng::Rng;
-use reader::Counts;
+use reader::{to_plain, Counts, Format};
 
 fn testdata(name: &str) -> String {
     format!("{}/../reader/testdata/{name}", env!("CARGO_MANIFEST_DIR"))
 }
 
-/// The full card PCSX2 wrote, unpacked.
-pub fn full() -> Vec<u8> {
+/// The full card PCSX2 wrote, unpacked; it is raw, and made plain by the reader.
+pub fn full(format: Format) -> Vec<u8> {
     let xz = Command::new("xz").args(["-dc", &testdata("full-small.ps2.xz")]).output().expect("xz runs");
     assert!(xz.status.success(), "xz unpacks the full card");
-    xz.stdout
+    written_in(format, xz.stdout)
 }
 
-/// The small card PCSX2 wrote.
-pub fn bench_sample() -> Vec<u8> {
-    std::fs::read(testdata("bench-sample.ps2")).expect("the sample is there")
+/// The small card PCSX2 wrote, likewise.
+pub fn bench_sample(format: Format) -> Vec<u8> {
+    written_in(format, std::fs::read(testdata("bench-sample.ps2")).expect("the sample is there"))
+}
+
+fn written_in(format: Format, raw: Vec<u8>) -> Vec<u8> {
+    if format == Format::Raw {
+        return raw;
+    }
+    let mut plain = vec![0; raw.len() / Format::Raw.page_bytes() * Format::Plain.page_bytes()];
+    to_plain(&raw, &mut plain).expect("PCSX2 wrote readable pages");
+    plain
 }
 
 /// What PCSX2 read at one path of a card.
@@ -108,8 +117,8 @@ pub struct Crowd {
 }
 
 /// Only entries cost on such a card: no file has a cluster.
-pub fn crowd(directories: usize, files: usize, names: Names) -> Crowd {
-    let mut card = Assembly::new(Layout::standard());
+pub fn crowd(format: Format, directories: usize, files: usize, names: Names) -> Crowd {
+    let mut card = Assembly::new(format, Layout::standard());
     let root: Vec<usize> = (0..(2 + directories).div_ceil(2)).collect();
     card.directory(&root, 2 + directories as u32);
     let length = 2 + files;
@@ -134,19 +143,19 @@ pub fn crowd(directories: usize, files: usize, names: Names) -> Crowd {
 }
 
 /// 4,000 files in one directory.
-pub fn one_directory(names: Names) -> Crowd {
-    crowd(1, 4000, names)
+pub fn one_directory(format: Format, names: Names) -> Crowd {
+    crowd(format, 1, 4000, names)
 }
 
 /// 40 directories of 50 files each.
-pub fn many_directories(names: Names) -> Crowd {
-    crowd(40, 50, names)
+pub fn many_directories(format: Format, names: Names) -> Crowd {
+    crowd(format, 40, 50, names)
 }
 
 /// A standard card with so many files of one cluster each, 50 to a directory.
-pub fn many_files(files: usize) -> Vec<u8> {
+pub fn many_files(format: Format, files: usize) -> Vec<u8> {
     let directories = files.div_ceil(50);
-    let mut card = Assembly::new(Layout::standard());
+    let mut card = Assembly::new(format, Layout::standard());
     let root: Vec<usize> = (0..(2 + directories).div_ceil(2)).collect();
     card.directory(&root, 2 + directories as u32);
     let mut next = root.len();

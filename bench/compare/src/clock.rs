@@ -4,7 +4,7 @@
 use std::hint::black_box;
 use std::time::Duration;
 
-use reader::{Counts, Refusal};
+use reader::{Counts, Format, Refusal};
 
 /// The C library's `struct timespec` on 64-bit Linux.
 #[repr(C)]
@@ -30,18 +30,21 @@ pub fn thread_time() -> Duration {
 }
 
 /// Either side's check.
-pub type Check = fn(&[u8]) -> Result<Counts, Refusal>;
+pub type Check = fn(Format, &[u8]) -> Result<Counts, Refusal>;
 
 /// The proved library's check first, the reader's second.
 pub const SIDES: [Check; 2] = [crate::check, reader::check];
 
+/// One side's check of an image in its format.
+pub type Job<'a> = (Check, Format, &'a [u8]);
+
 /// The times of each job, one of each in turn, after one run unmeasured; sorted.
-pub fn times(jobs: &[(Check, &[u8])], runs: usize) -> Vec<Vec<Duration>> {
+pub fn times(jobs: &[Job], runs: usize) -> Vec<Vec<Duration>> {
     let mut times = vec![Vec::with_capacity(runs); jobs.len()];
     for run in 0..=runs {
-        for (&(check, image), times) in jobs.iter().zip(&mut times) {
+        for (&(check, format, image), times) in jobs.iter().zip(&mut times) {
             let start = thread_time();
-            let answer = black_box(check(black_box(image)));
+            let answer = black_box(check(format, black_box(image)));
             let time = thread_time() - start;
             assert!(answer.is_ok(), "only accepted cards are timed");
             if run > 0 {

@@ -2,13 +2,17 @@
 
 use ps2card_sys::{ps2card_create, ps2card_read};
 use reader::time::Time;
+use reader::Format;
+
+use crate::format::Number;
 
 /// How many bytes were copied; nothing where the call is refused.
-pub fn read(image: &[u8], path: &[u8], offset: usize, out: &mut [u8]) -> Option<usize> {
+pub fn read(format: Format, image: &[u8], path: &[u8], offset: usize, out: &mut [u8]) -> Option<usize> {
     let (mut page, mut count) = (0, 0);
     // SAFETY: pointers and lengths are those of slices that do not overlap, and both numbers live here.
     let number = unsafe {
         ps2card_read(
+            Number::from(format).0,
             image.as_ptr(),
             image.len(),
             path.as_ptr(),
@@ -24,11 +28,12 @@ pub fn read(image: &[u8], path: &[u8], offset: usize, out: &mut [u8]) -> Option<
 }
 
 /// Whether the file was created.
-pub fn create(image: &mut [u8], path: &[u8], time: &Time, bytes: &[u8]) -> bool {
+pub fn create(format: Format, image: &mut [u8], path: &[u8], time: &Time, bytes: &[u8]) -> bool {
     let mut page = 0;
     // SAFETY: as in `read`; the image alone is written.
     let number = unsafe {
         ps2card_create(
+            Number::from(format).0,
             image.as_mut_ptr(),
             image.len(),
             path.as_ptr(),

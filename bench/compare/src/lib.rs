@@ -7,15 +7,20 @@ pub mod answer;
 pub mod cards;
 pub mod change;
 pub mod clock;
+pub mod convert;
+pub mod format;
 pub mod in_place;
+mod lent;
 pub mod listing;
 pub mod lookup;
 
 use answer::{verdict, Broken, NO_PAGE};
+use format::Number;
 use ps2card_sys::ps2card_check;
 use reader::{Counts, Refusal};
 
 pub use change::{create, delete, make_dir, remove_dir, replace};
+pub use convert::{to_plain, to_raw};
 pub use lookup::{find, read, step};
 
 /// The refusals of the check.
@@ -50,12 +55,13 @@ impl Outputs {
 }
 
 /// The check.
-pub fn check(image: &[u8]) -> Result<Counts, Refusal> {
+pub fn check(format: impl Into<Number>, image: &[u8]) -> Result<Counts, Refusal> {
     let mut out = UNTOUCHED;
     // SAFETY: pointer and length are those of one slice, which the library only reads; each output
     // is a separate place that lives until the call is over.
     let number = unsafe {
         ps2card_check(
+            format.into().0,
             image.as_ptr(),
             image.len(),
             &mut out.page,

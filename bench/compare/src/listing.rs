@@ -2,6 +2,8 @@
 
 use ps2card_sys::ps2card_list;
 
+use crate::format::Number;
+
 /// What the buffer holds before the call; no byte of a listing.
 const BLANK: u8 = 0xEE;
 
@@ -10,19 +12,21 @@ const GUARD: usize = 16;
 
 /// As many bytes of the listing as a buffer of `room` bytes takes, and the whole listing's length.
 /// Panics where a byte outside the text's place changes.
-pub fn list(image: &[u8], room: usize) -> (Vec<u8>, usize) {
+pub fn list(format: impl Into<Number>, image: &[u8], room: usize) -> (Vec<u8>, usize) {
     let mut buffer = vec![BLANK; room + 2 * GUARD];
     // SAFETY: pointers and lengths are those of slices that live until the call is over and do not overlap.
-    let length = unsafe { ps2card_list(image.as_ptr(), image.len(), buffer[GUARD..].as_mut_ptr(), room) };
+    let length =
+        unsafe { ps2card_list(format.into().0, image.as_ptr(), image.len(), buffer[GUARD..].as_mut_ptr(), room) };
     let end = GUARD + length.min(room);
     assert!(buffer[..GUARD].iter().chain(&buffer[end..]).all(|&byte| byte == BLANK), "a byte outside the text changed");
     (buffer[GUARD..end].to_vec(), length)
 }
 
 /// The whole listing.
-pub fn whole(image: &[u8]) -> String {
-    let length = list(image, 0).1;
-    let (text, again) = list(image, length + 7);
+pub fn whole(format: impl Into<Number>, image: &[u8]) -> String {
+    let format = format.into();
+    let length = list(format, image, 0).1;
+    let (text, again) = list(format, image, length + 7);
     assert_eq!(again, length);
     String::from_utf8(text).expect("a listing is ASCII")
 }

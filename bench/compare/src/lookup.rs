@@ -4,6 +4,7 @@ use ps2card_sys::{ps2card_find, ps2card_read, ps2card_step};
 use reader::{Entry, Refusal};
 
 use crate::answer::{verdict, Broken, NO_PAGE};
+use crate::format::Number;
 
 /// The refusals of find and step.
 const REFUSALS: [u32; 10] = [1, 2, 3, 4, 5, 6, 7, 8, 9, 10];
@@ -38,13 +39,14 @@ impl FindOutputs {
 }
 
 /// The entry at a path.
-pub fn find(image: &[u8], path: &[u8]) -> Result<Entry, Refusal> {
+pub fn find(format: impl Into<Number>, image: &[u8], path: &[u8]) -> Result<Entry, Refusal> {
     let mut out = FindOutputs::UNTOUCHED;
     let entry = &mut out.entry;
     // SAFETY: each pointer with a length is one slice, which the library only reads; each output is a
     // separate place that lives until the call is over.
     let number = unsafe {
         ps2card_find(
+            format.into().0,
             image.as_ptr(),
             image.len(),
             path.as_ptr(),
@@ -92,12 +94,13 @@ impl StepOutputs {
 }
 
 /// The first live entry of a directory from a slot on.
-pub fn step(image: &[u8], path: &[u8], slot: u32) -> Result<Next, Refusal> {
+pub fn step(format: impl Into<Number>, image: &[u8], path: &[u8], slot: u32) -> Result<Next, Refusal> {
     let mut out = StepOutputs::UNTOUCHED;
     let entry = &mut out.entry;
     // SAFETY: as in `find`.
     let number = unsafe {
         ps2card_step(
+            format.into().0,
             image.as_ptr(),
             image.len(),
             path.as_ptr(),
@@ -154,13 +157,20 @@ impl ReadOutputs {
 }
 
 /// Copies a file's bytes from an offset on into the buffer, and tells how many.
-pub fn read(image: &[u8], path: &[u8], offset: usize, buffer: &mut [u8]) -> Result<usize, Refusal> {
+pub fn read(
+    format: impl Into<Number>,
+    image: &[u8],
+    path: &[u8],
+    offset: usize,
+    buffer: &mut [u8],
+) -> Result<usize, Refusal> {
     let before = ReadOutputs::untouched(buffer);
     let mut out = before.clone();
     let lent = &mut out.lent[GUARD..][..buffer.len()];
     // SAFETY: as in `find`; the buffer is a slice of its own, which the library may write.
     let number = unsafe {
         ps2card_read(
+            format.into().0,
             image.as_ptr(),
             image.len(),
             path.as_ptr(),

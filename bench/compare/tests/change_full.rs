@@ -1,5 +1,5 @@
-//! The full card PCSX2 wrote, through the five changes: filled to the last cluster, emptied, filled again; random
-//! changes on it.
+//! The full card PCSX2 wrote, and its plain twin, through the five changes: filled to the last cluster, emptied, filled
+//! again; random changes on it.
 
 mod common;
 
@@ -11,7 +11,7 @@ use reader::content::visit;
 use reader::paths::join;
 use reader::rng::Rng;
 use reader::tree::Checked;
-use reader::{tree, Change, Counts, Refusal};
+use reader::{tree, Change, Counts, Format, Refusal};
 
 /// A card on each side; the two are compared every few changes.
 struct Both {
@@ -22,8 +22,13 @@ struct Both {
 }
 
 impl Both {
-    fn new(image: Vec<u8>) -> Both {
-        Both { readers: image.clone(), ours: image, changes: Changes::default(), made: 0 }
+    fn new(format: Format) -> Both {
+        let image = full(format);
+        Both { readers: image.clone(), ours: image, changes: Changes::new(format), made: 0 }
+    }
+
+    fn format(&self) -> Format {
+        self.changes.format
     }
 
     fn apply(&mut self, change: &Change) -> Result<(), Refusal> {
@@ -37,11 +42,11 @@ impl Both {
     }
 
     fn compare(&self) {
-        same_image(&self.ours, &self.readers, || format!("full card, after change {}", self.made));
+        same_image(self.format(), &self.ours, &self.readers, || format!("full card, after change {}", self.made));
     }
 
     fn counts(&self) -> Counts {
-        compare::check(&self.ours).expect("an accepted card")
+        compare::check(self.format(), &self.ours).expect("an accepted card")
     }
 
     /// Creates files in these directories, smaller ones where no greater one fits, until no cluster is free.
@@ -65,7 +70,7 @@ impl Both {
         self.compare();
         for (path, data) in &files {
             let mut buffer = vec![0; data.len() + 1];
-            assert_eq!(compare::read(&self.ours, path, 0, &mut buffer), Ok(data.len()));
+            assert_eq!(compare::read(self.format(), &self.ours, path, 0, &mut buffer), Ok(data.len()));
             assert!(buffer[..data.len()] == data[..], "{}", path.escape_ascii());
         }
         files.len()
@@ -74,21 +79,21 @@ impl Both {
     /// Deletes every file and removes every directory, from the last to the first in tree order.
     fn empty(&mut self) -> usize {
         let mut nodes = Vec::new();
-        let checked = Checked::of(&self.ours).expect("an accepted card");
+        let checked = Checked::of(self.format(), &self.ours).expect("an accepted card");
         visit(&checked.root, b"/", &mut |path, node| nodes.push((path.to_vec(), node.inside.is_some())));
         for (path, is_directory) in nodes.drain(1..).rev() {
             let change = if is_directory { Change::RemoveDir { path } } else { Change::Delete { path } };
             assert_eq!(self.apply(&change), Ok(()), "{change:?}");
         }
         self.compare();
-        assert_eq!(tree(&self.ours).map(|items| items.len()), Ok(1));
+        assert_eq!(tree(self.format(), &self.ours).map(|items| items.len()), Ok(1));
         self.changes.tallies[2].seen[0]
     }
 
     /// Random changes; a tree serves for a few of them.
     fn random(&mut self, rng: &mut Rng, count: usize) {
         for _ in 0..count / 5 {
-            let items = tree(&self.ours).expect("an accepted card");
+            let items = tree(self.format(), &self.ours).expect("an accepted card");
             for _ in 0..5 {
                 self.apply(&random_change(rng, &items)).ok();
             }
@@ -97,10 +102,9 @@ impl Both {
     }
 }
 
-#[test]
-fn filled_emptied_and_filled_again() {
+fn filled_emptied_and_filled_again(format: Format) {
     let mut rng = Rng::new(8135);
-    let mut both = Both::new(full());
+    let mut both = Both::new(format);
     let directories: Vec<Vec<u8>> = (0..40).map(|number| format!("/SAVE{number:02}").into_bytes()).collect();
     let first = both.fill(&mut rng, &directories);
     let deleted = both.empty();
@@ -112,11 +116,20 @@ fn filled_emptied_and_filled_again() {
     assert!(first >= 50 && second >= 100, "{first} {second}");
 }
 
-/// First with much room, then with hardly any.
 #[test]
-fn random_changes() {
+fn filled_emptied_and_filled_again_raw() {
+    filled_emptied_and_filled_again(Format::Raw);
+}
+
+#[test]
+fn filled_emptied_and_filled_again_plain() {
+    filled_emptied_and_filled_again(Format::Plain);
+}
+
+/// First with much room, then with hardly any.
+fn random_changes(format: Format) {
     let mut rng = Rng::new(3676);
-    let mut both = Both::new(full());
+    let mut both = Both::new(format);
     both.random(&mut rng, 200);
     let data = vec![0xA5; (both.counts().free - 4) * 1024];
     let path = b"/SAVE07/filler".to_vec();
@@ -124,4 +137,14 @@ fn random_changes() {
     both.random(&mut rng, 200);
     both.changes.met([0, 8, 9, 10, 11, 12, 13, 14], 3);
     both.changes.accepted(5);
+}
+
+#[test]
+fn random_changes_raw() {
+    random_changes(Format::Raw);
+}
+
+#[test]
+fn random_changes_plain() {
+    random_changes(Format::Plain);
 }

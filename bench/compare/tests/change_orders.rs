@@ -9,10 +9,9 @@ use reader::build::requests::random_change;
 use reader::build::usual_time;
 use reader::paths::{directory_of, is_beginning, parse};
 use reader::rng::Rng;
-use reader::{tree, Change, Tree};
+use reader::{tree, Change, Format, Tree};
 
 /// Pairs of random changes on random cards.
-#[derive(Default)]
 struct Run {
     changes: Changes,
     /// Pairs accepted to the end in both orders, by the kinds of the two, the lower one first.
@@ -26,12 +25,24 @@ struct Run {
 }
 
 impl Run {
+    fn new(format: Format) -> Run {
+        Run {
+            changes: Changes::new(format),
+            accepted: Default::default(),
+            one_order: 0,
+            neither: 0,
+            creations_refused: 0,
+            differed: 0,
+        }
+    }
+
     fn pairs(&mut self, seeds: std::ops::Range<u64>) {
+        let format = self.changes.format;
         for seed in seeds {
-            let mut image = random(seed).image;
+            let mut image = random(format, seed).image;
             let mut rng = Rng::new(seed ^ 0x0D0_0D3);
-            furnish(&mut image, &mut rng, seed % 2 == 0);
-            let items = tree(&image).expect("an accepted card");
+            furnish(format, &mut image, &mut rng, seed % 2 == 0);
+            let items = tree(format, &image).expect("an accepted card");
             for number in 0..if image.len() > 400_000 { 4 } else { 24 } {
                 if let Some(pair) = random_pair(&mut rng, &items) {
                     self.both_orders(&image, &pair, || format!("random card {seed}, pair {number}"));
@@ -41,6 +52,7 @@ impl Run {
     }
 
     fn both_orders(&mut self, image: &[u8], [one, other]: &[Change; 2], what: impl Fn() -> String) {
+        let format = self.changes.format;
         let (left, left_done) = self.in_turn(image, [one, other], &what);
         let (right, right_done) = self.in_turn(image, [other, one], &what);
         let about = || format!("{}: {one:?} {other:?}", what());
@@ -48,8 +60,8 @@ impl Run {
         assert!(!creations || left_done == right_done, "one order alone is accepted to its end, {}", about());
         match (left_done, right_done) {
             (true, true) => {
-                assert!(tree(&left) == tree(&right), "the trees differ, {}", about());
-                let free = |image: &[u8]| compare::check(image).expect("changes leave a sound card").free;
+                assert!(tree(format, &left) == tree(format, &right), "the trees differ, {}", about());
+                let free = |image: &[u8]| compare::check(format, image).expect("changes leave a sound card").free;
                 if free(&left) != free(&right) {
                     assert!(may_differ(one, other), "the free counts differ, {}", about());
                     self.differed += 1;
@@ -88,14 +100,14 @@ impl Run {
 
 /// Some empty directories, where there is room; on a tight card a file takes all but a few free clusters, so that
 /// room is what decides.
-fn furnish(image: &mut [u8], rng: &mut Rng, is_tight: bool) {
+fn furnish(format: Format, image: &mut [u8], rng: &mut Rng, is_tight: bool) {
     for path in [&b"/empty"[..], b"/empty/one", b"/empty/two", b"/hollow"] {
-        reader::make_dir(image, path, &usual_time()).ok();
+        reader::make_dir(format, image, path, &usual_time()).ok();
     }
     if is_tight {
-        let free = compare::check(image).expect("an accepted card").free;
+        let free = compare::check(format, image).expect("an accepted card").free;
         let data = vec![0; free.saturating_sub(rng.below(7) + 1) * 1024];
-        reader::create(image, b"/filler", &usual_time(), &data).ok();
+        reader::create(format, image, b"/filler", &usual_time(), &data).ok();
     }
 }
 
@@ -121,15 +133,22 @@ fn may_differ(one: &Change, other: &Change) -> bool {
 }
 
 #[test]
-fn pairs_first_half() {
-    let mut run = Run::default();
+fn raw_pairs_first_half() {
+    let mut run = Run::new(Format::Raw);
     run.pairs(0..200);
     run.met();
 }
 
 #[test]
-fn pairs_second_half() {
-    let mut run = Run::default();
+fn raw_pairs_second_half() {
+    let mut run = Run::new(Format::Raw);
     run.pairs(7_000_000..7_000_200);
+    run.met();
+}
+
+#[test]
+fn plain_pairs() {
+    let mut run = Run::new(Format::Plain);
+    run.pairs(0..200);
     run.met();
 }

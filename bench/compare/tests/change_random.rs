@@ -10,13 +10,11 @@ use reader::build::requests::random_change;
 use reader::build::scribble;
 use reader::build::usual_time;
 use reader::build::vandal::vandalised;
-use reader::page::PAGE;
 use reader::rng::Rng;
 use reader::tree::Checked;
-use reader::{lookup, tree, Change, Tree};
+use reader::{lookup, tree, Change, Format, Tree};
 
 /// Sequences of random changes on random cards.
-#[derive(Default)]
 struct Run {
     changes: Changes,
     /// Changes that left no free cluster, no entry, a new chain with gaps.
@@ -26,17 +24,22 @@ struct Run {
 }
 
 impl Run {
+    fn new(format: Format) -> Run {
+        Run { changes: Changes::new(format), filled: 0, emptied: 0, scattered: 0 }
+    }
+
     fn sequences(&mut self, seeds: std::ops::Range<u64>) {
+        let format = self.changes.format;
         for seed in seeds {
-            let card = random(seed);
+            let card = random(format, seed);
             let mut rng = Rng::new(seed ^ 0xC4A9_6E00);
             let mut image = card.image;
             let mut grows = rng.chance(1, 2);
             for number in 0..if card.layout.clusters < 400 { 60 } else { 12 } {
-                let items = tree(&image).expect("an accepted card");
+                let items = tree(format, &image).expect("an accepted card");
                 grows = grows || items.len() == 1;
                 let change = leaning(&mut rng, &items, grows);
-                wear(&mut image, card.layout.indirect, &mut rng);
+                wear(format, &mut image, card.layout.indirect, &mut rng);
                 let what = || format!("random card {seed}, change {number}");
                 let answer = self.changes.apply(&mut image, &change, what);
                 match answer {
@@ -49,7 +52,7 @@ impl Run {
 
     /// The card is sound after an accepted change; what it has become is counted.
     fn look(&mut self, image: &[u8], change: &Change) {
-        let checked = Checked::of(image).expect("a change leaves a sound card");
+        let checked = Checked::of(self.changes.format, image).expect("a change leaves a sound card");
         let names = lookup::names(change.path()).expect("an accepted path");
         let has_gaps = |chain: &[usize]| chain.windows(2).any(|pair| pair[1] != pair[0] + 1);
         self.filled += usize::from(checked.card.free().next().is_none());
@@ -78,51 +81,64 @@ fn leaning(rng: &mut Rng, items: &Tree, grows: bool) -> Change {
     }
 }
 
-/// Flips, junk spare bytes, and now and then an unreadable page where the check does not look.
-fn wear(image: &mut [u8], indirect: usize, rng: &mut Rng) {
-    for _ in 0..rng.below(4) {
-        let page = rng.below(image.len() / PAGE);
-        flip_each_chunk(image, page, rng);
-        scribble::junk_spare(image, page, rng);
+/// Flips and junk spare bytes in raw pages; now and then damage where the check does not look, which in a plain page is
+/// other data.
+fn wear(format: Format, image: &mut [u8], indirect: usize, rng: &mut Rng) {
+    let pages = image.len() / format.page_bytes();
+    if format == Format::Raw {
+        for _ in 0..rng.below(4) {
+            let page = rng.below(pages);
+            flip_each_chunk(image, page, rng);
+            scribble::junk_spare(image, page, rng);
+        }
     }
     if rng.chance(1, 5) {
-        let page = rng.below(image.len() / PAGE);
-        if !needed_pages(image, indirect).contains(&page) {
-            scribble::ruin(image, page, rng.below(4), rng);
+        let page = rng.below(pages);
+        if !needed_pages(format, image, indirect).contains(&page) {
+            scribble::ruin(format, image, page, rng.below(4), rng);
         }
     }
 }
 
 #[test]
-fn sequences_first_half() {
-    let mut run = Run::default();
+fn raw_sequences_first_half() {
+    let mut run = Run::new(Format::Raw);
     run.sequences(0..150);
     run.met();
 }
 
 #[test]
-fn sequences_second_half() {
-    let mut run = Run::default();
+fn raw_sequences_second_half() {
+    let mut run = Run::new(Format::Raw);
     run.sequences(5_000_000..5_000_150);
+    run.met();
+}
+
+#[test]
+fn plain_sequences() {
+    let mut run = Run::new(Format::Plain);
+    run.sequences(0..150);
     run.met();
 }
 
 /// What the check refuses, every change refuses alike, with the image as it was.
 #[test]
 fn refused_cards() {
-    let mut changes = Changes::default();
-    for seed in 0..1000 {
-        let image = vandalised(seed);
-        let path = *Rng::new(seed).pick(&[&b"/F"[..], b"/D/x", b"no path", b"/"]);
-        let what = || format!("vandalised card {seed}");
-        if let Err(refusal) = compare::check(&image) {
-            for change in five(path, &usual_time(), b"bytes") {
-                let mut copy = image.clone();
-                assert_eq!(changes.apply(&mut copy, &change, what), Err(refusal), "{}", what());
+    for format in Format::BOTH {
+        let mut changes = Changes::new(format);
+        for seed in 0..1000 {
+            let image = vandalised(format, seed);
+            let path = *Rng::new(seed).pick(&[&b"/F"[..], b"/D/x", b"no path", b"/"]);
+            let what = || format!("vandalised card {seed}");
+            if let Err(refusal) = compare::check(format, &image) {
+                for change in five(path, &usual_time(), b"bytes") {
+                    let mut copy = image.clone();
+                    assert_eq!(changes.apply(&mut copy, &change, what), Err(refusal), "{}", what());
+                }
             }
         }
-    }
-    for tally in &changes.tallies {
-        tally.met(1..=7, 10);
+        for tally in &changes.tallies {
+            tally.met((1..=7).filter(|&number| format == Format::Raw || number != 2), 10);
+        }
     }
 }

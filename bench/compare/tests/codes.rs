@@ -1,14 +1,15 @@
 //! The code of a chunk: each byte value at each place of a chunk, alone in it. Both sides write them, and the library
-//! reads them back, also with a flipped bit in each.
+//! reads them back, also with a flipped bit in each. Raw images alone have codes.
 
 mod common;
 
 use common::changes::Changes;
 use reader::build::{standard, usual_time};
 use reader::ecc::CHUNK;
-use reader::page::{DATA, PAGE};
+use reader::page::DATA;
 use reader::tree::Checked;
 use reader::Change;
+use reader::Format::Raw;
 
 const PATH: &[u8] = b"/EVERY";
 const CHUNKS: usize = 256 * CHUNK;
@@ -38,19 +39,19 @@ fn code_of(place: usize, byte: u8) -> [u8; 3] {
 
 /// The image with the file, and where its pages begin.
 fn card() -> (Vec<u8>, Vec<usize>) {
-    let mut image = standard();
+    let mut image = standard(Raw);
     let create = Change::Create { path: PATH.to_vec(), time: usual_time(), data: data() };
-    assert_eq!(Changes::default().apply(&mut image, &create, || "every byte at every place".into()), Ok(()));
-    let checked = Checked::of(&image).expect("an accepted card");
+    assert_eq!(Changes::new(Raw).apply(&mut image, &create, || "every byte at every place".into()), Ok(()));
+    let checked = Checked::of(Raw, &image).expect("an accepted card");
     let file = &checked.root.inside.as_ref().expect("a directory").children[0];
-    let pages = (0..CHUNKS / 4).map(|page| PAGE * checked.card.slot_page(&file.chain, page)).collect();
+    let pages = (0..CHUNKS / 4).map(|page| Raw.place(checked.card.slot_page(&file.chain, page)).start).collect();
     (image, pages)
 }
 
 fn read_back(image: &[u8]) {
     let expected = data();
     let mut bytes = vec![0xA5; expected.len()];
-    assert_eq!(compare::read(image, PATH, 0, &mut bytes), Ok(expected.len()));
+    assert_eq!(compare::read(Raw, image, PATH, 0, &mut bytes), Ok(expected.len()));
     assert!(bytes == expected);
 }
 

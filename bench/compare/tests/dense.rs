@@ -8,6 +8,7 @@ use reader::build::{directory, file, scribble, Assembly};
 use reader::card::{END_MARK, USED};
 use reader::entry::Entry;
 use reader::rng::Rng;
+use reader::Format;
 
 /// What a cluster is meant for. Heads begin with the two dots, tails hold two entries.
 #[derive(Clone, Copy, PartialEq, Eq)]
@@ -92,10 +93,10 @@ impl Draft {
     }
 }
 
-fn dense(seed: u64) -> Vec<u8> {
+fn dense(format: Format, seed: u64) -> Vec<u8> {
     let mut rng = Rng::new(seed);
     let clusters = 8 * rng.between(4, 9);
-    let mut card = Assembly::new(random_layout(&mut rng, clusters));
+    let mut card = Assembly::new(format, random_layout(&mut rng, clusters));
     let end = card.layout.alloc_end;
     let mut parts: Vec<Part> = (0..end).map(|_| *rng.pick(&[Part::Head, Part::Tail, Part::Tail, Part::Data])).collect();
     parts[0] = Part::Head;
@@ -121,20 +122,32 @@ fn dense(seed: u64) -> Vec<u8> {
     let mut image = card.finish();
     for _ in 0..draft.rng.below(3) {
         let page = draft.rng.below(2 * clusters);
-        scribble::ruin(&mut image, page, 0, &mut draft.rng);
+        scribble::ruin(format, &mut image, page, 0, &mut draft.rng);
     }
     image
 }
 
-#[test]
-fn dense_cards() {
+/// Both sides agree on every card; trees of some size are accepted too.
+fn dense_cards(format: Format, seeds: std::ops::Range<u64>) -> Tally {
     let mut tally = Tally::default();
     let mut most = 0;
-    for seed in 0..60_000 {
-        if let Ok(counts) = tally.same(&dense(seed), || format!("dense card {seed}")) {
+    for seed in seeds {
+        if let Ok(counts) = tally.same(format, &dense(format, seed), || format!("dense card {seed}")) {
             most = most.max(counts.reached);
         }
     }
-    tally.met([0, 2, 6, 7], 300);
-    assert!(most >= 20, "trees of some size are accepted too: {most}");
+    assert!(most >= 20, "no tree of some size is accepted: {most}");
+    tally
+}
+
+#[test]
+fn raw_cards() {
+    dense_cards(Format::Raw, 0..60_000).met([0, 2, 6, 7], 300);
+}
+
+#[test]
+fn plain_cards() {
+    let tally = dense_cards(Format::Plain, 60_000..120_000);
+    tally.met([0, 6, 7], 300);
+    assert_eq!(tally.seen[2], 0);
 }

@@ -8,7 +8,7 @@ use common::same;
 use reader::build::{directory, file, Assembly, Layout};
 use reader::card::END_MARK;
 use reader::rng::Rng;
-use reader::{Counts, Refusal};
+use reader::{Counts, Format, Refusal};
 
 const FILES: usize = 200;
 
@@ -24,8 +24,8 @@ fn names(word: u64) -> Vec<Vec<u8>> {
 }
 
 /// A standard card with these empty files in `/D`.
-fn card(names: &[Vec<u8>]) -> Vec<u8> {
-    let mut card = Assembly::new(Layout::standard());
+fn card(format: Format, names: &[Vec<u8>]) -> Vec<u8> {
+    let mut card = Assembly::new(format, Layout::standard());
     let length = 2 + names.len();
     let chain: Vec<usize> = (2..2 + length.div_ceil(2)).collect();
     card.directory(&[0, 1], 3);
@@ -39,11 +39,12 @@ fn card(names: &[Vec<u8>]) -> Vec<u8> {
 
 #[test]
 fn names_of_one_word() {
-    for word in [0, 7, 4095] {
+    let words = [0, 7, 4095];
+    for (format, word) in Format::BOTH.into_iter().flat_map(|format| words.map(|word| (format, word))) {
         let names = names(word);
         let reached = 2 + (2 + FILES) / 2;
         let counts = Counts { clusters: 8192, free: 8135 - reached, reached, orphaned: 0 };
-        assert_eq!(same(&card(&names), "names of one word"), Ok(counts), "word {word}");
+        assert_eq!(same(format, &card(format, &names), "names of one word"), Ok(counts), "word {word}");
 
         let mut rng = Rng::new(word);
         for _ in 0..20 {
@@ -52,7 +53,7 @@ fn names_of_one_word() {
             let mut twins = names.clone();
             twins[other] = names[one].clone();
             let what = format!("word {word}, twins {one} and {other}");
-            assert_eq!(same(&card(&twins), &what), Err(Refusal::number(7)), "{what}");
+            assert_eq!(same(format, &card(format, &twins), &what), Err(Refusal::number(7)), "{what}");
         }
     }
 }

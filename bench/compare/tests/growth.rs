@@ -5,6 +5,7 @@ use std::time::Duration;
 use compare::cards::{many_directories, one_directory, Names};
 use compare::clock::{per_entry, times, Check};
 use reader::build::standard;
+use reader::Format::Raw;
 
 const LIMIT: f64 = 1.5;
 
@@ -13,13 +14,13 @@ const LIMIT: f64 = 1.5;
 #[test]
 fn many_entries_in_one_directory() {
     let ours: Check = compare::check;
-    let fresh = standard();
+    let fresh = standard(Raw);
     for names in Names::ALL {
-        let (one, many) = (one_directory(names), many_directories(names));
+        let (one, many) = (one_directory(Raw, names), many_directories(Raw, names));
         let mut least = [Duration::MAX; 3];
         let mut ratio = f64::INFINITY;
         for _ in 0..20 {
-            let times = times(&[(ours, &fresh), (ours, &one.image), (ours, &many.image)], 10);
+            let times = times(&[(ours, Raw, &fresh), (ours, Raw, &one.image), (ours, Raw, &many.image)], 10);
             least.iter_mut().zip(&times).for_each(|(least, times)| *least = times[0].min(*least));
             ratio = per_entry(least[1], least[0], one.entries) / per_entry(least[2], least[0], many.entries);
             if ratio <= LIMIT {

@@ -8,9 +8,9 @@ use reader::build::random::random;
 use reader::build::vandal::vandalised;
 use reader::content::{Item, Piece};
 use reader::rng::Rng;
+use reader::Format;
 
-/// Requests on random cards, some of whose file pages are unreadable.
-#[derive(Default)]
+/// Requests on random cards; some file pages of raw ones are unreadable.
 struct Run {
     lookups: Lookups,
     /// Reads that met an unreadable page, and reads of some bytes beside one.
@@ -22,9 +22,13 @@ struct Run {
 }
 
 impl Run {
+    fn new(format: Format) -> Run {
+        Run { lookups: Lookups::new(format), met_damage: 0, passed_damage: 0, filled: 0, short: 0 }
+    }
+
     fn requests(&mut self, seeds: std::ops::Range<u64>) {
         for seed in seeds {
-            let card = random(seed);
+            let card = random(self.lookups.format, seed);
             let mut rng = Rng::new(seed ^ 0x100C);
             let is_damaged = |item: &Item| item.pieces.iter().any(|piece| matches!(piece, Piece::Unreadable { .. }));
             let damaged: Vec<&Vec<u8>> =
@@ -66,40 +70,55 @@ impl Run {
     fn met(&self) {
         self.lookups.finds.met([0, 8, 9, 10], 500);
         self.lookups.steps.met([0, 8, 9, 10], 500);
-        self.lookups.reads.met([0, 2, 8, 9, 10, 15], 300);
-        let others = [self.lookups.ends, self.met_damage, self.passed_damage, self.filled, self.short];
-        println!("ends, damage met and passed, buffers filled and not: {others:?}");
+        self.lookups.reads.met([0, 8, 9, 10, 15], 300);
+        let others = [self.lookups.ends, self.filled, self.short];
+        println!("ends, buffers filled and not: {others:?}");
         assert!(others.iter().all(|&times| times >= 300), "{others:?}");
+        let damage = [self.met_damage, self.passed_damage];
+        println!("damage met and passed: {damage:?}");
+        match self.lookups.format {
+            Format::Raw => assert!(damage.iter().all(|&times| times >= 300), "{damage:?}"),
+            Format::Plain => assert_eq!(damage, [0, 0]),
+        }
     }
 }
 
 #[test]
-fn requests_first_half() {
-    let mut run = Run::default();
+fn raw_cards_first_half() {
+    let mut run = Run::new(Format::Raw);
     run.requests(0..350);
     run.met();
 }
 
 #[test]
-fn requests_second_half() {
-    let mut run = Run::default();
+fn raw_cards_second_half() {
+    let mut run = Run::new(Format::Raw);
     run.requests(2_000_000..2_000_350);
+    run.met();
+}
+
+#[test]
+fn plain_cards() {
+    let mut run = Run::new(Format::Plain);
+    run.requests(0..350);
     run.met();
 }
 
 /// What the check refuses, the three calls refuse alike, whatever the path.
 #[test]
 fn refused_cards() {
-    let mut lookups = Lookups::default();
-    for seed in 0..1500 {
-        let image = vandalised(seed);
-        let path = *Rng::new(seed).pick(&[&b"/"[..], b"/F", b"/D/x", b"no path", b""]);
-        let what = || format!("vandalised card {seed}");
-        if let Err(refusal) = compare::check(&image) {
-            lookups.refused(&image, path, refusal, what);
+    for format in Format::BOTH {
+        let mut lookups = Lookups::new(format);
+        for seed in 0..1500 {
+            let image = vandalised(format, seed);
+            let path = *Rng::new(seed).pick(&[&b"/"[..], b"/F", b"/D/x", b"no path", b""]);
+            let what = || format!("vandalised card {seed}");
+            if let Err(refusal) = compare::check(format, &image) {
+                lookups.refused(&image, path, refusal, what);
+            }
         }
-    }
-    for calls in [&lookups.finds, &lookups.steps, &lookups.reads] {
-        calls.met(1..=7, 15);
+        for calls in [&lookups.finds, &lookups.steps, &lookups.reads] {
+            calls.met((1..=7).filter(|&number| format == Format::Raw || number != 2), 15);
+        }
     }
 }

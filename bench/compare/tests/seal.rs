@@ -5,12 +5,15 @@ use std::fs;
 use std::path::{Path, PathBuf};
 
 /// The crates that are sealed off. Programs and the code vectors hold whole images and pages, and are not among them.
-const ABOVE: [&str; 10] =
-    ["model", "fields", "reached", "layout", "tree", "lookup", "listing", "change", "claims", "ps2card"];
+const ABOVE: [&str; 11] =
+    ["model", "fields", "reached", "layout", "convert", "tree", "lookup", "listing", "change", "claims", "ps2card"];
+
+/// Those that carry the format and never ask which it is.
+const BLIND: [&str; 7] = ["model", "fields", "reached", "layout", "tree", "listing", "change"];
 
 /// What only `page` may say: sizes in bytes, the sealed definitions opened, and the equations that open them.
 const SIZES: [&str; 3] = ["528", "1056", "1_056"];
-const SEALED: [&str; 3] = ["pagesIn", "pageAt", "put"];
+const SEALED: [&str; 4] = ["pagesIn", "pageStart", "pageAt", "put"];
 const EQUATIONS: [&str; 2] = ["page-is", "put-is"];
 
 fn files(folder: &Path, found: &mut Vec<PathBuf>) {
@@ -41,16 +44,39 @@ fn broken(line: &str) -> Option<&str> {
         .find(|word| SIZES.contains(word) || (opens && SEALED.contains(word)) || (imports && EQUATIONS.contains(word)))
 }
 
+/// The sources of a crate.
+fn sources(name: &str) -> Vec<PathBuf> {
+    let root = Path::new(env!("CARGO_MANIFEST_DIR")).join("../../crates").join(name);
+    let mut found = Vec::new();
+    for part in ["src", "specs", "proofs"] {
+        files(&root.join(part), &mut found);
+    }
+    assert!(!found.is_empty(), "{name} has no files");
+    found
+}
+
+/// Whether a line names one of the two formats.
+fn picks(line: &str) -> bool {
+    line.contains("Format.the-variants") || line.contains("Format::Raw") || line.contains("Format::Plain")
+}
+
+/// The layers between the pages and the calls go by laws over the format, never by cases on it.
+#[test]
+fn blind() {
+    for name in BLIND {
+        for file in sources(name) {
+            let text = fs::read_to_string(&file).expect("a source");
+            assert!(!text.lines().any(picks), "{} picks a format", file.display());
+        }
+    }
+    // The test sees what it looks for.
+    assert!(sources("page").iter().any(|file| fs::read_to_string(file).expect("a source").lines().any(picks)));
+}
+
 #[test]
 fn sealed() {
-    let crates = Path::new(env!("CARGO_MANIFEST_DIR")).join("../../crates");
     for name in ABOVE {
-        let mut found = Vec::new();
-        for part in ["src", "specs", "proofs"] {
-            files(&crates.join(name).join(part), &mut found);
-        }
-        assert!(!found.is_empty(), "{name} has no files");
-        for file in found {
+        for file in sources(name) {
             let text = fs::read_to_string(&file).expect("a source");
             for (number, line) in text.lines().enumerate() {
                 let said = broken(line);

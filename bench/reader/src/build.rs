@@ -1,4 +1,4 @@
-//! Builders of card images, good and bad.
+//! Builders of card images in either format, good and bad.
 //!
 //! They place every byte themselves and share only page writing with the reader.
 
@@ -14,7 +14,7 @@ pub mod vandal;
 
 use crate::card::{END_MARK, FORMAT, USED};
 use crate::entry::{name_field, Entry};
-use crate::page::{self, put_half, put_word, Data, CLUSTER, DATA};
+use crate::page::{self, put_half, put_word, Data, Format, CLUSTER_DATA, DATA};
 use crate::time::{stamp, Time};
 
 /// The time on cards built here: 12:34:56 on 29 February 2000.
@@ -65,6 +65,7 @@ impl Layout {
 /// A card under construction: its parts stay open until `finish` puts them into pages.
 #[derive(Clone, Debug)]
 pub struct Assembly {
+    pub format: Format,
     pub layout: Layout,
     pub superblock: Data,
     /// The words of the indirect cluster.
@@ -76,7 +77,7 @@ pub struct Assembly {
 
 impl Assembly {
     /// An erased card with superblock and an all-free table; nothing allocated yet.
-    pub fn new(layout: Layout) -> Assembly {
+    pub fn new(format: Format, layout: Layout) -> Assembly {
         let mut indirect = vec![END_MARK; 256];
         for (place, &cluster) in layout.table.iter().enumerate() {
             indirect[place] = cluster as u32;
@@ -84,17 +85,18 @@ impl Assembly {
         let mut table = vec![END_MARK; 256 * layout.table.len()];
         table[..layout.alloc_end].fill(!USED);
         Assembly {
+            format,
             superblock: superblock(&layout),
             indirect,
             table,
-            image: vec![0xFF; layout.clusters * CLUSTER],
+            image: vec![0xFF; layout.clusters * format.cluster_bytes()],
             layout,
         }
     }
 
     /// An erased card with an empty root.
-    pub fn with_root(layout: Layout) -> Assembly {
-        let mut card = Assembly::new(layout);
+    pub fn with_root(format: Format, layout: Layout) -> Assembly {
+        let mut card = Assembly::new(format, layout);
         card.directory(&[0], 2);
         card
     }
@@ -120,28 +122,34 @@ impl Assembly {
 
     /// Puts an entry into an allocatable cluster's first or second page.
     pub fn put(&mut self, cluster: usize, second: usize, entry: &Entry) {
-        let page = self.page(cluster, second);
-        page::write(&mut self.image, page, &entry.page());
+        self.write(self.page(cluster, second), &entry.page());
+    }
+
+    /// Writes a page of the image.
+    pub fn write(&mut self, page: usize, data: &Data) {
+        page::write(self.format, &mut self.image, page, data);
     }
 
     /// The image, with superblock, indirect cluster and table in their pages.
     pub fn finish(mut self) -> Vec<u8> {
-        page::write(&mut self.image, 0, &self.superblock);
+        let superblock = self.superblock;
+        self.write(0, &superblock);
         let indirect = std::mem::take(&mut self.indirect);
-        put_words(&mut self.image, self.layout.indirect, &indirect);
-        for (&cluster, words) in self.layout.table.iter().zip(self.table.chunks(256)) {
-            put_words(&mut self.image, cluster, words);
+        self.put_words(self.layout.indirect, &indirect);
+        let (clusters, table) = (self.layout.table.clone(), std::mem::take(&mut self.table));
+        for (&cluster, words) in clusters.iter().zip(table.chunks(256)) {
+            self.put_words(cluster, words);
         }
         self.image
     }
-}
 
-/// Puts 256 words into the two pages of a card cluster.
-fn put_words(image: &mut [u8], cluster: usize, words: &[u32]) {
-    for (second, words) in words.chunks(DATA / 4).enumerate() {
-        let mut data = [0; DATA];
-        words.iter().enumerate().for_each(|(place, &word)| put_word(&mut data, 4 * place, word));
-        page::write(image, 2 * cluster + second, &data);
+    /// Puts 256 words into the two pages of a card cluster.
+    fn put_words(&mut self, cluster: usize, words: &[u32]) {
+        for (second, words) in words.chunks(DATA / 4).enumerate() {
+            let mut data = [0; DATA];
+            words.iter().enumerate().for_each(|(place, &word)| put_word(&mut data, 4 * place, word));
+            self.write(2 * cluster + second, &data);
+        }
     }
 }
 
@@ -150,7 +158,7 @@ pub fn superblock(layout: &Layout) -> Data {
     let mut data = [0; DATA];
     data[..28].copy_from_slice(FORMAT);
     data[0x1C..][..layout.version.len()].copy_from_slice(layout.version.as_bytes());
-    put_half(&mut data, 0x28, 512);
+    put_half(&mut data, 0x28, DATA as u16);
     put_half(&mut data, 0x2A, 2);
     put_half(&mut data, 0x2C, 16);
     put_half(&mut data, 0x2E, 0xFF00);
@@ -185,18 +193,18 @@ pub fn directory(name: &[u8], length: u32, first_cluster: u32) -> Entry {
 }
 
 /// The fresh bench card.
-pub fn bench() -> Vec<u8> {
-    Assembly::with_root(Layout::bench()).finish()
+pub fn bench(format: Format) -> Vec<u8> {
+    Assembly::with_root(format, Layout::bench()).finish()
 }
 
 /// A fresh standard 8,192-cluster card.
-pub fn standard() -> Vec<u8> {
-    Assembly::with_root(Layout::standard()).finish()
+pub fn standard(format: Format) -> Vec<u8> {
+    Assembly::with_root(format, Layout::standard()).finish()
 }
 
 /// A standard card with 40 directories of 50 small files each, 1 to 2,500 bytes long.
-pub fn crowded() -> Vec<u8> {
-    let mut card = Assembly::new(Layout::standard());
+pub fn crowded(format: Format) -> Vec<u8> {
+    let mut card = Assembly::new(format, Layout::standard());
     let mut next = 0;
     let mut take = |count: usize| -> Vec<usize> {
         next += count;
@@ -212,12 +220,12 @@ pub fn crowded() -> Vec<u8> {
         for file_number in 0..50 {
             let bytes = 1 + (number * 977 + file_number * 211) % 2500;
             let name = format!("file{file_number:02}");
-            let data = take(bytes.div_ceil(1024));
+            let data = take(bytes.div_ceil(CLUSTER_DATA));
             card.put(chain[1 + file_number / 2], file_number % 2, &file(name.as_bytes(), bytes as u32, data[0] as u32));
             card.chain(&data);
             for index in 0..2 * data.len() {
                 let page = card.page(data[index / 2], index % 2);
-                page::write(&mut card.image, page, &[(bytes + page) as u8; DATA]);
+                card.write(page, &[(bytes + page) as u8; DATA]);
             }
         }
     }

@@ -1,6 +1,6 @@
 //! The superblock and the allocation table.
 
-use crate::page::{self, half, word, Data, CLUSTER};
+use crate::page::{self, half, word, Data, Format, DATA};
 use crate::Refusal;
 
 pub const FORMAT: &[u8; 28] = b"Sony PS2 Memory Card Format ";
@@ -35,6 +35,7 @@ pub fn link(word: u32) -> Link {
 /// A card whose superblock and table have been judged.
 #[derive(Clone, Debug)]
 pub struct Card {
+    pub format: Format,
     pub clusters: usize,
     pub alloc_offset: usize,
     pub alloc_end: usize,
@@ -45,21 +46,21 @@ pub struct Card {
 }
 
 /// N by the image's length: a multiple of 8 from 32 to 8,192.
-pub fn clusters_of(length: usize) -> Option<usize> {
-    let clusters = length / CLUSTER;
-    (length.is_multiple_of(CLUSTER) && clusters.is_multiple_of(8) && (32..=8192).contains(&clusters))
-        .then_some(clusters)
+pub fn clusters_of(format: Format, length: usize) -> Option<usize> {
+    let bytes = format.cluster_bytes();
+    let clusters = length / bytes;
+    (length.is_multiple_of(bytes) && clusters.is_multiple_of(8) && (32..=8192).contains(&clusters)).then_some(clusters)
 }
 
-/// A page the check needs.
-pub fn needed(image: &[u8], page: usize) -> Result<Data, Refusal> {
-    page::read(image, page).ok_or(Refusal::unreadable(page))
+/// A page that is needed: where it is unreadable, 2.
+pub fn needed(format: Format, image: &[u8], page: usize) -> Result<Data, Refusal> {
+    page::read(format, image, page).ok_or(Refusal::unreadable(page))
 }
 
 /// Both pages of a card cluster, the first one first.
-fn needed_cluster(image: &[u8], cluster: usize) -> Result<Vec<u8>, Refusal> {
-    let first = needed(image, 2 * cluster)?;
-    let second = needed(image, 2 * cluster + 1)?;
+fn needed_cluster(format: Format, image: &[u8], cluster: usize) -> Result<Vec<u8>, Refusal> {
+    let first = needed(format, image, 2 * cluster)?;
+    let second = needed(format, image, 2 * cluster + 1)?;
     Ok([first, second].concat())
 }
 
@@ -70,7 +71,7 @@ fn superblock_rules(block: &Data, clusters: usize) -> bool {
     let (backup1, backup2) = (wide(0x40), wide(0x44));
     let backup_fits = |backup| backup < clusters as u64 / BLOCK && backup * BLOCK >= offset + end;
     VERSIONS.iter().any(|version| block[0x1C..0x28] == version[..])
-        && (half(block, 0x28), half(block, 0x2A), half(block, 0x2C)) == (512, 2, 16)
+        && (half(block, 0x28), half(block, 0x2A), half(block, 0x2C)) == (DATA as u16, 2, 16)
         && wide(0x30) == clusters as u64
         && end >= 1
         && wide(0x3C) == 0
@@ -82,9 +83,9 @@ fn superblock_rules(block: &Data, clusters: usize) -> bool {
 
 impl Card {
     /// Refusals 1 to 5, and 2 for the pages of superblock, indirect cluster and table.
-    pub fn open(image: &[u8]) -> Result<Card, Refusal> {
-        let clusters = clusters_of(image.len()).ok_or(Refusal::number(1))?;
-        let block = needed(image, 0)?;
+    pub fn open(format: Format, image: &[u8]) -> Result<Card, Refusal> {
+        let clusters = clusters_of(format, image.len()).ok_or(Refusal::number(1))?;
+        let block = needed(format, image, 0)?;
         if block[..28] != FORMAT[..] {
             return Err(Refusal::number(3));
         }
@@ -105,7 +106,7 @@ impl Card {
         };
         let indirect = word(&block, 0x50) as usize;
         judge(&mut names, indirect)?;
-        let indirect_words = needed_cluster(image, indirect)?;
+        let indirect_words = needed_cluster(format, image, indirect)?;
         for index in 0..alloc_end.div_ceil(WORDS) {
             judge(&mut names, word(&indirect_words, 4 * index) as usize)?;
         }
@@ -113,11 +114,11 @@ impl Card {
         let table_clusters = names.split_off(1);
         let mut table = Vec::with_capacity(table_clusters.len() * WORDS);
         for &cluster in &table_clusters {
-            let words = needed_cluster(image, cluster)?;
+            let words = needed_cluster(format, image, cluster)?;
             table.extend((0..WORDS).map(|index| word(&words, 4 * index)));
         }
         table.truncate(alloc_end);
-        Ok(Card { clusters, alloc_offset, alloc_end, table_clusters, table })
+        Ok(Card { format, clusters, alloc_offset, alloc_end, table_clusters, table })
     }
 
     /// The image's page index of the first or second page of an allocatable cluster.

@@ -3,7 +3,7 @@
 use crate::card::{Card, END_MARK, USED, WORDS};
 use crate::entry::{name_field, Entry, EXISTS, NO_CLUSTER};
 use crate::lookup::{directory, locate, names};
-use crate::page::{self, put_half, put_word, Data, DATA};
+use crate::page::{self, put_half, put_word, Data, Format, CLUSTER_DATA, DATA};
 use crate::paths;
 use crate::time::{self, Time};
 use crate::tree::{Checked, Node};
@@ -23,13 +23,13 @@ pub enum Change {
 }
 
 impl Change {
-    pub fn apply(&self, image: &mut [u8]) -> Result<(), Refusal> {
+    pub fn apply(&self, format: Format, image: &mut [u8]) -> Result<(), Refusal> {
         match self {
-            Change::Create { path, time, data } => create(image, path, time, data),
-            Change::Replace { path, time, data } => replace(image, path, time, data),
-            Change::Delete { path } => delete(image, path),
-            Change::MakeDir { path, time } => make_dir(image, path, time),
-            Change::RemoveDir { path } => remove_dir(image, path),
+            Change::Create { path, time, data } => create(format, image, path, time, data),
+            Change::Replace { path, time, data } => replace(format, image, path, time, data),
+            Change::Delete { path } => delete(format, image, path),
+            Change::MakeDir { path, time } => make_dir(format, image, path, time),
+            Change::RemoveDir { path } => remove_dir(format, image, path),
         }
     }
 
@@ -53,16 +53,16 @@ impl Change {
 }
 
 /// Creates a file that holds `data`.
-pub fn create(image: &mut [u8], path: &[u8], time: &Time, data: &[u8]) -> Result<(), Refusal> {
-    let checked = Checked::of(image)?;
+pub fn create(format: Format, image: &mut [u8], path: &[u8], time: &Time, data: &[u8]) -> Result<(), Refusal> {
+    let checked = Checked::of(format, image)?;
     let names = changed_names(path)?;
     judge_time(time)?;
     insert(image, checked, &names, time, New::File(data))
 }
 
 /// Makes an empty directory.
-pub fn make_dir(image: &mut [u8], path: &[u8], time: &Time) -> Result<(), Refusal> {
-    let checked = Checked::of(image)?;
+pub fn make_dir(format: Format, image: &mut [u8], path: &[u8], time: &Time) -> Result<(), Refusal> {
+    let checked = Checked::of(format, image)?;
     let names = changed_names(path)?;
     if names.len() == paths::NAMES {
         return Err(Refusal::number(8));
@@ -72,8 +72,8 @@ pub fn make_dir(image: &mut [u8], path: &[u8], time: &Time) -> Result<(), Refusa
 }
 
 /// Replaces a file's bytes: new clusters from those free before, then the old are freed.
-pub fn replace(image: &mut [u8], path: &[u8], time: &Time, data: &[u8]) -> Result<(), Refusal> {
-    let checked = Checked::of(image)?;
+pub fn replace(format: Format, image: &mut [u8], path: &[u8], time: &Time, data: &[u8]) -> Result<(), Refusal> {
+    let checked = Checked::of(format, image)?;
     let names = changed_names(path)?;
     judge_time(time)?;
     let node = locate(&checked.root, &names)?;
@@ -81,7 +81,7 @@ pub fn replace(image: &mut [u8], path: &[u8], time: &Time, data: &[u8]) -> Resul
         return Err(Refusal::number(10));
     }
     let mut edit = Edit::new(checked.card);
-    let chain = edit.take(data.len().div_ceil(1024), 0)?.1;
+    let chain = edit.take(data.len().div_ceil(CLUSTER_DATA), 0)?.1;
     edit.link(&chain);
     edit.fill(&chain, data);
     edit.alter(image, node.page, |page| {
@@ -95,8 +95,8 @@ pub fn replace(image: &mut [u8], path: &[u8], time: &Time, data: &[u8]) -> Resul
 }
 
 /// Deletes a file.
-pub fn delete(image: &mut [u8], path: &[u8]) -> Result<(), Refusal> {
-    let checked = Checked::of(image)?;
+pub fn delete(format: Format, image: &mut [u8], path: &[u8]) -> Result<(), Refusal> {
+    let checked = Checked::of(format, image)?;
     let names = changed_names(path)?;
     let node = locate(&checked.root, &names)?;
     if node.inside.is_some() {
@@ -107,8 +107,8 @@ pub fn delete(image: &mut [u8], path: &[u8]) -> Result<(), Refusal> {
 }
 
 /// Removes a directory without live entries after the first two.
-pub fn remove_dir(image: &mut [u8], path: &[u8]) -> Result<(), Refusal> {
-    let checked = Checked::of(image)?;
+pub fn remove_dir(format: Format, image: &mut [u8], path: &[u8]) -> Result<(), Refusal> {
+    let checked = Checked::of(format, image)?;
     let names = changed_names(path)?;
     let node = locate(&checked.root, &names)?;
     if !directory(node)?.children.is_empty() {
@@ -157,7 +157,7 @@ fn insert(image: &mut [u8], checked: Checked, names: &[&[u8]], time: &Time, new:
 
     let mut edit = Edit::new(checked.card);
     let own = match new {
-        New::File(data) => data.len().div_ceil(1024),
+        New::File(data) => data.len().div_ceil(CLUSTER_DATA),
         New::Directory => 1,
     };
     let (growth, chain) = edit.take(own, usize::from(grows))?;
@@ -266,7 +266,7 @@ impl Edit {
 
     /// A page that is written only where its data, as read, changes.
     fn alter(&mut self, image: &[u8], page: usize, change: impl FnOnce(&mut Data)) {
-        let before = page::read(image, page).expect("the check has read this page");
+        let before = page::read(self.card.format, image, page).expect("the check has read this page");
         let mut after = before;
         change(&mut after);
         if after != before {
@@ -283,7 +283,7 @@ impl Edit {
             });
         }
         for (page, data) in &self.pages {
-            page::write(image, *page, data);
+            page::write(self.card.format, image, *page, data);
         }
     }
 }

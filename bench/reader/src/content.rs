@@ -4,7 +4,7 @@ use std::collections::BTreeMap;
 
 use crate::card::Card;
 use crate::entry::Entry;
-use crate::page::{self, DATA};
+use crate::page::{self, Format, DATA};
 use crate::paths;
 use crate::time::Time;
 use crate::tree::{Checked, Node};
@@ -55,13 +55,13 @@ pub struct Line {
 }
 
 /// The tree of a card that passes the check.
-pub fn tree(image: &[u8]) -> Result<Tree, Refusal> {
-    Ok(lines(image)?.into_iter().map(|line| (line.path, line.item)).collect())
+pub fn tree(format: Format, image: &[u8]) -> Result<Tree, Refusal> {
+    Ok(lines(format, image)?.into_iter().map(|line| (line.path, line.item)).collect())
 }
 
 /// The tree in tree order: `/`, then slot order, a directory before its inside.
-pub fn lines(image: &[u8]) -> Result<Vec<Line>, Refusal> {
-    let checked = Checked::of(image)?;
+pub fn lines(format: Format, image: &[u8]) -> Result<Vec<Line>, Refusal> {
+    let checked = Checked::of(format, image)?;
     let mut lines = Vec::new();
     visit(&checked.root, b"/", &mut |path, node| {
         let item = item(image, &checked.card, node);
@@ -85,7 +85,7 @@ fn item(image: &[u8], card: &Card, node: &Node) -> Item {
     let length = if is_directory { 0 } else { entry.length as usize };
     let pieces = (0..length.div_ceil(DATA)).map(|index| {
         let bytes = DATA.min(length - index * DATA);
-        match page::read(image, card.slot_page(&node.chain, index)) {
+        match page::read(card.format, image, card.slot_page(&node.chain, index)) {
             Some(data) => Piece::Bytes(data[..bytes].to_vec()),
             None => Piece::Unreadable { bytes },
         }

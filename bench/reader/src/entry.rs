@@ -1,7 +1,7 @@
 //! A directory entry: one page of a directory.
 
 use crate::names;
-use crate::page::{half, put_half, put_word, word, Data, DATA};
+use crate::page::{half, put_half, put_word, word, Data, CLUSTER_DATA, DATA};
 use crate::time::Time;
 
 pub const EXISTS: u16 = 0x8000;
@@ -76,8 +76,8 @@ impl Entry {
 
     /// Clusters a file of this length, or a directory of this many entries, needs.
     pub fn clusters_needed(&self) -> usize {
-        let unit = if self.is_directory() { 2 } else { 1024 };
-        self.length.div_ceil(unit) as usize
+        let unit = if self.is_directory() { 2 } else { CLUSTER_DATA };
+        (self.length as usize).div_ceil(unit)
     }
 }
 

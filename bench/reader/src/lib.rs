@@ -1,12 +1,14 @@
-//! An independent reader and writer of raw PlayStation 2 memory card images.
+//! An independent reader and writer of PlayStation 2 memory card images, raw and plain.
 //!
-//! It follows document 01 by its words and shares nothing with the library it
-//! tests. Every call checks the whole card first, then judges its own request.
+//! It follows document 01, and document 02 where a request has landed, by their
+//! words and shares nothing with the library it tests. Every call but the
+//! conversions checks the whole card first, then judges its own request.
 
 pub mod build;
 pub mod card;
 pub mod change;
 pub mod content;
+pub mod convert;
 pub mod ecc;
 pub mod entry;
 pub mod listing;
@@ -23,9 +25,11 @@ use std::fmt;
 
 pub use change::{create, delete, make_dir, remove_dir, replace, Change};
 pub use content::{tree, Item, Piece, Tree};
+pub use convert::{to_plain, to_raw};
 pub use entry::Entry;
 pub use listing::{list, program, tree_text};
 pub use lookup::{find, read, step};
+pub use page::Format;
 pub use tree::{check, Counts};
 
 /// A refusal: its number in document 01, and the image's page index for number 2.

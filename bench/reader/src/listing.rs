@@ -1,6 +1,7 @@
 //! The listing: the counts, then every entry in tree order; and the tree as text, a line a path.
 
 use crate::content::{lines, visit};
+use crate::page::Format;
 use crate::tree::Checked;
 use crate::{sha256, Refusal};
 
@@ -8,8 +9,8 @@ use crate::{sha256, Refusal};
 pub const PROGRAM_LIMIT: usize = 59_136;
 
 /// The listing of an image of any allowed size, or the refusal's one line.
-pub fn list(image: &[u8]) -> String {
-    let checked = match Checked::of(image) {
+pub fn list(format: Format, image: &[u8]) -> String {
+    let checked = match Checked::of(format, image) {
         Ok(checked) => checked,
         Err(refusal) => return format!("{refusal}\n"),
     };
@@ -28,19 +29,19 @@ pub fn list(image: &[u8]) -> String {
     text
 }
 
-/// What the listing program prints for its standard input.
+/// What the listing program prints for its standard input, a raw image.
 pub fn program(input: &[u8]) -> String {
     if input.len() > PROGRAM_LIMIT {
         return "refused 1\n".to_string();
     }
-    list(input)
+    list(Format::Raw, input)
 }
 
 /// One line a path: kind, mode, attribute, times, length, first cluster, path, sum of a file's bytes.
-pub fn tree_text(image: &[u8]) -> Result<String, Refusal> {
+pub fn tree_text(format: Format, image: &[u8]) -> Result<String, Refusal> {
     let hex = |bytes: &[u8]| bytes.iter().map(|byte| format!("{byte:02x}")).collect::<String>();
     let mut text = String::new();
-    for line in lines(image)? {
+    for line in lines(format, image)? {
         let entry = &line.entry;
         let kind = if line.item.is_directory { 'd' } else { 'f' };
         let path = String::from_utf8_lossy(&line.path);

@@ -1,7 +1,8 @@
 //! Finding a path, stepping through a directory, reading a file.
 
+use crate::card::needed;
 use crate::entry::Entry;
-use crate::page::{self, DATA};
+use crate::page::{Format, DATA};
 use crate::paths;
 use crate::tree::{Checked, Directory, Node};
 use crate::Refusal;
@@ -24,14 +25,14 @@ pub fn names(path: &[u8]) -> Result<Vec<&[u8]>, Refusal> {
 }
 
 /// The entry at a path, for the root its first one.
-pub fn find(image: &[u8], path: &[u8]) -> Result<Entry, Refusal> {
-    let checked = Checked::of(image)?;
+pub fn find(format: Format, image: &[u8], path: &[u8]) -> Result<Entry, Refusal> {
+    let checked = Checked::of(format, image)?;
     Ok(locate(&checked.root, &names(path)?)?.entry.clone())
 }
 
 /// The first live entry from a slot on, never before slot 2, with its slot; nothing at the end.
-pub fn step(image: &[u8], path: &[u8], slot: usize) -> Result<Option<(usize, Entry)>, Refusal> {
-    let checked = Checked::of(image)?;
+pub fn step(format: Format, image: &[u8], path: &[u8], slot: usize) -> Result<Option<(usize, Entry)>, Refusal> {
+    let checked = Checked::of(format, image)?;
     let inside = directory(locate(&checked.root, &names(path)?)?)?;
     let next = inside.children.iter().find(|child| child.slot >= slot);
     Ok(next.map(|child| (child.slot, child.entry.clone())))
@@ -40,8 +41,8 @@ pub fn step(image: &[u8], path: &[u8], slot: usize) -> Result<Option<(usize, Ent
 /// Copies a file's bytes from an offset until file or buffer ends; tells how many.
 ///
 /// An offset beyond the length is 15; the first unreadable page with a byte to copy is 2, last of all.
-pub fn read(image: &[u8], path: &[u8], offset: usize, buffer: &mut [u8]) -> Result<usize, Refusal> {
-    let checked = Checked::of(image)?;
+pub fn read(format: Format, image: &[u8], path: &[u8], offset: usize, buffer: &mut [u8]) -> Result<usize, Refusal> {
+    let checked = Checked::of(format, image)?;
     let node = locate(&checked.root, &names(path)?)?;
     if node.inside.is_some() {
         return Err(Refusal::number(10));
@@ -58,7 +59,7 @@ pub fn read(image: &[u8], path: &[u8], offset: usize, buffer: &mut [u8]) -> Resu
     let mut bytes = Vec::new();
     for index in pages {
         let page = checked.card.slot_page(&node.chain, index);
-        bytes.extend(page::read(image, page).ok_or(Refusal::unreadable(page))?);
+        bytes.extend(needed(format, image, page)?);
     }
     buffer[..count].copy_from_slice(&bytes[offset % DATA..][..count]);
     Ok(count)

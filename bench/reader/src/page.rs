@@ -1,20 +1,67 @@
-//! Pages of an image: 512 data bytes and 16 spare bytes each.
+//! Pages of an image in either format. Only this file knows how many bytes a page and a cluster have.
+
+use std::ops::Range;
 
 use crate::ecc::{self, Flip, Verdict, CHUNK};
 
 /// Data bytes in a page.
 pub const DATA: usize = 512;
-/// Data and spare bytes of a page.
-pub const PAGE: usize = 528;
-/// Data and spare bytes of a cluster of two pages.
-pub const CLUSTER: usize = 2 * PAGE;
+/// Data bytes in a cluster of two pages.
+pub const CLUSTER_DATA: usize = 2 * DATA;
+/// Spare bytes after the data of a raw page: three of code for each chunk, then four that are ignored.
+const SPARE: usize = 16;
 
 /// A page's data.
 pub type Data = [u8; DATA];
 
+/// How the pages lie in an image. The caller says which it is; it is never guessed.
+#[derive(Clone, Copy, Debug, PartialEq, Eq, Hash)]
+pub enum Format {
+    /// Data and spare bytes.
+    Raw,
+    /// Data alone: no page is unreadable.
+    Plain,
+}
+
+impl Format {
+    pub const BOTH: [Format; 2] = [Format::Raw, Format::Plain];
+
+    pub const fn other(self) -> Format {
+        match self {
+            Format::Raw => Format::Plain,
+            Format::Plain => Format::Raw,
+        }
+    }
+
+    /// Bytes of a page in the image.
+    pub const fn page_bytes(self) -> usize {
+        match self {
+            Format::Raw => DATA + SPARE,
+            Format::Plain => DATA,
+        }
+    }
+
+    /// Bytes of a cluster in the image.
+    pub const fn cluster_bytes(self) -> usize {
+        2 * self.page_bytes()
+    }
+
+    /// Where a page's bytes lie in the image.
+    pub const fn place(self, page: usize) -> Range<usize> {
+        page * self.page_bytes()..(page + 1) * self.page_bytes()
+    }
+}
+
 /// A page's data as read, or nothing where a chunk is unreadable.
-pub fn read(image: &[u8], page: usize) -> Option<Data> {
-    let (stored, spare) = image[page * PAGE..][..PAGE].split_at(DATA);
+pub fn read(format: Format, image: &[u8], page: usize) -> Option<Data> {
+    match format {
+        Format::Raw => read_raw(&image[Format::Raw.place(page)]),
+        Format::Plain => Some(image[Format::Plain.place(page)].try_into().expect("a page's data")),
+    }
+}
+
+fn read_raw(bytes: &[u8]) -> Option<Data> {
+    let (stored, spare) = bytes.split_at(DATA);
     let mut data: Data = stored.try_into().expect("a page's data");
     for (chunk, code) in data.chunks_mut(CHUNK).zip(spare.chunks(3)) {
         match ecc::judge(chunk, [code[0], code[1], code[2]]) {
@@ -26,10 +73,11 @@ pub fn read(image: &[u8], page: usize) -> Option<Data> {
     Some(data)
 }
 
-/// Writes a page's data with a fresh code; spare bytes 12 to 15 stay.
-pub fn write(image: &mut [u8], page: usize, data: &Data) {
-    let (stored, spare) = image[page * PAGE..][..PAGE].split_at_mut(DATA);
+/// Writes a page's data; a raw page gets a fresh code, and its spare bytes 12 to 15 stay.
+pub fn write(format: Format, image: &mut [u8], page: usize, data: &Data) {
+    let (stored, spare) = image[format.place(page)].split_at_mut(DATA);
     stored.copy_from_slice(data);
+    // A plain page has no spare bytes, so no chunk gets a code.
     for (chunk, code) in data.chunks(CHUNK).zip(spare.chunks_mut(3)) {
         code.copy_from_slice(&ecc::code_of(chunk));
     }
@@ -51,4 +99,32 @@ pub fn put_half(data: &mut [u8], at: usize, value: u16) {
 
 pub fn put_word(data: &mut [u8], at: usize, value: u32) {
     data[at..at + 4].copy_from_slice(&value.to_le_bytes());
+}
+
+#[cfg(test)]
+mod tests {
+    use super::*;
+    use crate::rng::Rng;
+
+    #[test]
+    fn sizes() {
+        assert_eq!((Format::Raw.page_bytes(), Format::Raw.cluster_bytes()), (528, 1056));
+        assert_eq!((Format::Plain.page_bytes(), Format::Plain.cluster_bytes()), (512, 1024));
+        assert_eq!((Format::Raw.place(3), Format::Plain.place(3)), (1584..2112, 1536..2048));
+    }
+
+    /// Whatever the bytes are, a plain page is just them, and writing one changes no other byte.
+    #[test]
+    fn plain_pages() {
+        let mut rng = Rng::new(512);
+        let before = rng.bytes(5 * 512);
+        for page in 0..5 {
+            let data: Data = rng.bytes(512).try_into().expect("a page's data");
+            assert_eq!(read(Format::Plain, &before, page).as_ref().map(|data| &data[..]), before.chunks(512).nth(page));
+            let mut image = before.clone();
+            write(Format::Plain, &mut image, page, &data);
+            let expected = [&before[..512 * page], &data, &before[512 * (page + 1)..]].concat();
+            assert!(image == expected, "page {page}");
+        }
+    }
 }

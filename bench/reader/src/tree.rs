@@ -5,6 +5,7 @@ use std::collections::{HashMap, HashSet};
 use crate::card::{needed, Card, Link};
 use crate::entry::{Entry, DIRECTORY, FILE, NO_CLUSTER};
 use crate::names;
+use crate::page::Format;
 use crate::Refusal;
 
 /// Directories lie at most this many below the root.
@@ -56,13 +57,13 @@ pub struct Checked {
 }
 
 /// Checks a card: its counts, or the first fault met.
-pub fn check(image: &[u8]) -> Result<Counts, Refusal> {
-    Checked::of(image).map(|checked| checked.counts())
+pub fn check(format: Format, image: &[u8]) -> Result<Counts, Refusal> {
+    Checked::of(format, image).map(|checked| checked.counts())
 }
 
 impl Checked {
-    pub fn of(image: &[u8]) -> Result<Checked, Refusal> {
-        let card = Card::open(image)?;
+    pub fn of(format: Format, image: &[u8]) -> Result<Checked, Refusal> {
+        let card = Card::open(format, image)?;
         let mut walk = Walk { image, card: &card, reached: HashSet::new() };
         let root = walk.root()?;
         let reached = walk.reached;
@@ -91,7 +92,7 @@ impl Walk<'_> {
     /// The root: its first page read and judged, then its chain, then every entry.
     fn root(&mut self) -> Result<Node, Refusal> {
         let page = self.card.page(0, 0);
-        let entry = Entry::parse(&needed(self.image, page)?);
+        let entry = Entry::parse(&needed(self.card.format, self.image, page)?);
         if !is_dots(&entry, b".") || entry.length < 2 {
             return Err(BAD_ENTRY);
         }
@@ -126,7 +127,7 @@ impl Walk<'_> {
         let mut directory = Directory::default();
         for slot in 0..length {
             let page = self.card.slot_page(chain, slot);
-            let entry = Entry::parse(&needed(self.image, page)?);
+            let entry = Entry::parse(&needed(self.card.format, self.image, page)?);
             if slot < 2 {
                 if !is_dots(&entry, [b".".as_slice(), b".."][slot]) {
                     return Err(BAD_ENTRY);

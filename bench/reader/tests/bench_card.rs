@@ -1,20 +1,24 @@
-//! The bench card's figures in document 01, "Numbers to meet".
+//! The bench card's figures in document 01, "Numbers to meet", in both formats.
 
 use reader::build::{bench, usual_time};
-use reader::{check, create, delete, list, make_dir, program, read, Counts, Refusal};
+use reader::{check, create, delete, list, make_dir, program, read, Counts, Format, Refusal};
 
 fn number<T: std::fmt::Debug>(answer: Result<T, Refusal>) -> u8 {
     answer.unwrap_err().number
 }
 
-fn free(image: &[u8]) -> usize {
-    check(image).unwrap().free
+fn free(format: Format, image: &[u8]) -> usize {
+    check(format, image).unwrap().free
 }
 
 #[test]
 fn fresh_counts() {
-    assert_eq!(check(&bench()), Ok(Counts { clusters: 56, free: 29, reached: 1, orphaned: 0 }));
-    assert_eq!(bench()[0xD0..0x150], [0xFF; 0x80]);
+    for format in Format::BOTH {
+        let fresh = Counts { clusters: 56, free: 29, reached: 1, orphaned: 0 };
+        assert_eq!(check(format, &bench(format)), Ok(fresh));
+        assert_eq!(bench(format)[0xD0..0x150], [0xFF; 0x80]);
+    }
+    assert_eq!((bench(Format::Raw).len(), bench(Format::Plain).len()), (59_136, 57_344));
 }
 
 #[test]
@@ -22,82 +26,94 @@ fn the_greatest_file() {
     let time = usual_time();
     let fits = vec![0xAB; 28_672];
     let too_long = vec![0xAB; 28_673];
-    let mut image = bench();
-    assert_eq!(number(create(&mut image, b"/A", &time, &too_long)), 12);
-    assert_eq!(image, bench());
-    assert_eq!(create(&mut image, b"/A", &time, &fits), Ok(()));
-    assert_eq!(free(&image), 0);
-    assert_eq!(delete(&mut image, b"/A"), Ok(()));
-    // Now the root has a dead slot: no growth, and one cluster more than before stays taken.
-    assert_eq!(free(&image), 28);
-    assert_eq!(number(create(&mut image, b"/A", &time, &too_long)), 12);
-    assert_eq!(create(&mut image, b"/A", &time, &fits), Ok(()));
+    for format in Format::BOTH {
+        let mut image = bench(format);
+        assert_eq!(number(create(format, &mut image, b"/A", &time, &too_long)), 12);
+        assert_eq!(image, bench(format));
+        assert_eq!(create(format, &mut image, b"/A", &time, &fits), Ok(()));
+        assert_eq!(free(format, &image), 0);
+        assert_eq!(delete(format, &mut image, b"/A"), Ok(()));
+        // Now the root has a dead slot: no growth, and one cluster more than before stays taken.
+        assert_eq!(free(format, &image), 28);
+        assert_eq!(number(create(format, &mut image, b"/A", &time, &too_long)), 12);
+        assert_eq!(create(format, &mut image, b"/A", &time, &fits), Ok(()));
+    }
 }
 
 #[test]
 fn order_of_removal_and_creation() {
     let time = usual_time();
-    let mut start = bench();
-    create(&mut start, b"/A", &time, b"").unwrap();
-    create(&mut start, b"/C", &time, b"").unwrap();
-    let mut one = start.clone();
-    delete(&mut one, b"/A").unwrap();
-    create(&mut one, b"/B", &time, b"").unwrap();
-    let mut other = start;
-    create(&mut other, b"/B", &time, b"").unwrap();
-    delete(&mut other, b"/A").unwrap();
-    assert_eq!((free(&one), free(&other)), (28, 27));
-    assert_eq!(reader::tree(&one), reader::tree(&other));
+    for format in Format::BOTH {
+        let mut start = bench(format);
+        create(format, &mut start, b"/A", &time, b"").unwrap();
+        create(format, &mut start, b"/C", &time, b"").unwrap();
+        let mut one = start.clone();
+        delete(format, &mut one, b"/A").unwrap();
+        create(format, &mut one, b"/B", &time, b"").unwrap();
+        let mut other = start;
+        create(format, &mut other, b"/B", &time, b"").unwrap();
+        delete(format, &mut other, b"/A").unwrap();
+        assert_eq!((free(format, &one), free(format, &other)), (28, 27));
+        assert_eq!(reader::tree(format, &one), reader::tree(format, &other));
+    }
 }
 
 #[test]
 fn four_names() {
     let time = usual_time();
-    let mut image = bench();
-    for path in [&b"/a"[..], b"/a/b", b"/a/b/c"] {
-        make_dir(&mut image, path, &time).unwrap();
+    for format in Format::BOTH {
+        let mut image = bench(format);
+        for path in [&b"/a"[..], b"/a/b", b"/a/b/c"] {
+            make_dir(format, &mut image, path, &time).unwrap();
+        }
+        assert_eq!(number(make_dir(format, &mut image, b"/a/b/c/d", &time)), 8);
+        assert_eq!(create(format, &mut image, b"/a/b/c/d", &time, b"deep"), Ok(()));
+        let mut buffer = [0; 8];
+        assert_eq!(read(format, &image, b"/a/b/c/d", 0, &mut buffer), Ok(4));
+        assert_eq!(&buffer, b"deep\0\0\0\0");
     }
-    assert_eq!(number(make_dir(&mut image, b"/a/b/c/d", &time)), 8);
-    assert_eq!(create(&mut image, b"/a/b/c/d", &time, b"deep"), Ok(()));
-    let mut buffer = [0; 8];
-    assert_eq!(read(&image, b"/a/b/c/d", 0, &mut buffer), Ok(4));
-    assert_eq!(&buffer, b"deep\0\0\0\0");
 }
 
 #[test]
 fn offset_at_the_end() {
-    let mut image = bench();
-    create(&mut image, b"/A", &usual_time(), &[7; 1500]).unwrap();
-    let mut buffer = [9; 4];
-    assert_eq!(read(&image, b"/A", 1500, &mut buffer), Ok(0));
-    assert_eq!(number(read(&image, b"/A", 1501, &mut buffer)), 15);
-    assert_eq!(buffer, [9; 4]);
-    assert_eq!(read(&image, b"/A", 1498, &mut buffer), Ok(2));
-    assert_eq!(buffer, [7, 7, 9, 9]);
+    for format in Format::BOTH {
+        let mut image = bench(format);
+        create(format, &mut image, b"/A", &usual_time(), &[7; 1500]).unwrap();
+        let mut buffer = [9; 4];
+        assert_eq!(read(format, &image, b"/A", 1500, &mut buffer), Ok(0));
+        assert_eq!(number(read(format, &image, b"/A", 1501, &mut buffer)), 15);
+        assert_eq!(buffer, [9; 4]);
+        assert_eq!(read(format, &image, b"/A", 1498, &mut buffer), Ok(2));
+        assert_eq!(buffer, [7, 7, 9, 9]);
+    }
 }
 
+/// The program knows raw images alone.
 #[test]
 fn the_whole_listing() {
     let time = usual_time();
-    let mut image = bench();
-    make_dir(&mut image, b"/SAVE", &time).unwrap();
-    create(&mut image, b"/SAVE/A", &time, &[1; 1500]).unwrap();
     let expected = "card 56\nfree 24\nreached 6\norphaned 0\nd 3 /SAVE\nf 1500 /SAVE/A\n";
-    assert_eq!(list(&image), expected);
-    assert_eq!(program(&image), expected);
+    for (format, printed) in [(Format::Raw, expected), (Format::Plain, "refused 1\n")] {
+        let mut image = bench(format);
+        make_dir(format, &mut image, b"/SAVE", &time).unwrap();
+        create(format, &mut image, b"/SAVE/A", &time, &[1; 1500]).unwrap();
+        assert_eq!(list(format, &image), expected);
+        assert_eq!(program(&image), printed);
+    }
 }
 
 #[test]
 fn the_program_refuses() {
-    let mut longer = bench();
+    let format = Format::Raw;
+    let mut longer = bench(format);
     longer.push(0);
     assert_eq!(program(&longer), "refused 1\n");
-    assert_eq!(program(&reader::build::standard()), "refused 1\n");
-    assert!(list(&reader::build::standard()).starts_with("card 8192\nfree 8134\n"));
-    let mut image = bench();
-    reader::build::scribble::break_page(&mut image, 17);
+    assert_eq!(program(&reader::build::standard(format)), "refused 1\n");
+    assert!(list(format, &reader::build::standard(format)).starts_with("card 8192\nfree 8134\n"));
+    let mut image = bench(format);
+    reader::build::scribble::break_page(format, &mut image, 17);
     assert_eq!(program(&image), "refused 2 17\n");
-    reader::build::scribble::break_page(&mut image, 0);
+    reader::build::scribble::break_page(format, &mut image, 0);
     assert_eq!(program(&image), "refused 2 0\n");
     assert_eq!(program(b""), "refused 1\n");
 }

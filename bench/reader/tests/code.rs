@@ -4,8 +4,9 @@ use reader::build::scribble::flip;
 use reader::build::{bench, usual_time};
 use reader::card::{link, Link};
 use reader::ecc::{code_of, judge, Flip, Verdict};
-use reader::page::{self, DATA, PAGE};
+use reader::page::{self, DATA};
 use reader::time::stamp;
+use reader::Format::Raw;
 
 fn with(place: usize, value: u8) -> [u8; 128] {
     let mut chunk = [0; 128];
@@ -45,41 +46,41 @@ fn numbers_to_meet() {
     assert_eq!(link(0x8000_0001), Link::Next(1));
     assert_eq!(link(0xFFFF_FFFF), Link::End);
 
-    let mut image = bench();
-    assert_eq!(reader::create(&mut image, b"/A", &stamp(2000, 2, 29, 0, 0, 0), b""), Ok(()));
-    let refusal = reader::create(&mut image, b"/B", &stamp(2100, 2, 29, 0, 0, 0), b"").unwrap_err();
+    let mut image = bench(Raw);
+    assert_eq!(reader::create(Raw, &mut image, b"/A", &stamp(2000, 2, 29, 0, 0, 0), b""), Ok(()));
+    let refusal = reader::create(Raw, &mut image, b"/B", &stamp(2100, 2, 29, 0, 0, 0), b"").unwrap_err();
     assert_eq!((refusal.number, refusal.page), (14, None));
 }
 
 #[test]
 fn every_single_flip_is_mended() {
-    let mut image = bench();
-    let before = page::read(&image, 20).unwrap();
+    let mut image = bench(Raw);
+    let before = page::read(Raw, &image, 20).unwrap();
     for chunk in 0..4 {
         for place in 0..1044 {
-            flip(&mut image, 20, chunk, place);
-            assert_eq!(page::read(&image, 20), Some(before));
-            flip(&mut image, 20, chunk, place);
+            flip(Raw, &mut image, 20, chunk, place);
+            assert_eq!(page::read(Raw, &image, 20), Some(before));
+            flip(Raw, &mut image, 20, chunk, place);
         }
     }
     for chunk in 0..4 {
-        flip(&mut image, 20, chunk, 300 * chunk + 17);
+        flip(Raw, &mut image, 20, chunk, 300 * chunk + 17);
     }
-    assert_eq!(page::read(&image, 20), Some(before), "one flip in every chunk");
+    assert_eq!(page::read(Raw, &image, 20), Some(before), "one flip in every chunk");
 }
 
 #[test]
 fn ignored_bits_change_nothing() {
-    let mut image = bench();
-    let before = page::read(&image, 20).unwrap();
+    let mut image = bench(Raw);
+    let before = page::read(Raw, &image, 20).unwrap();
     for chunk in 0..4 {
-        let code = &mut image[20 * PAGE + DATA + 3 * chunk..][..3];
+        let code = &mut image[Raw.place(20)][DATA + 3 * chunk..][..3];
         code[0] ^= 0x88;
         code[1] ^= 0x80;
         code[2] ^= 0x80;
     }
-    image[20 * PAGE + DATA + 12..][..4].fill(0xA5);
-    assert_eq!(page::read(&image, 20), Some(before));
+    image[Raw.place(20)][DATA + 12..].fill(0xA5);
+    assert_eq!(page::read(Raw, &image, 20), Some(before));
     for chunk in before.chunks(128) {
         let mut code = code_of(chunk);
         code[0] |= 0x88;
@@ -91,13 +92,13 @@ fn ignored_bits_change_nothing() {
 
 #[test]
 fn writing_keeps_the_last_spare_bytes() {
-    let mut image = bench();
-    image[40 * PAGE + DATA..][..16].copy_from_slice(&[0xEE; 16]);
+    let mut image = bench(Raw);
+    image[Raw.place(40)][DATA..].copy_from_slice(&[0xEE; 16]);
     let data = reader::build::file(b"x", 5, 1).page();
-    page::write(&mut image, 40, &data);
-    assert_eq!(page::read(&image, 40), Some(data));
-    assert_eq!(image[40 * PAGE + DATA + 12..][..4], [0xEE; 4]);
-    assert!(image[40 * PAGE + DATA..][..12]
+    page::write(Raw, &mut image, 40, &data);
+    assert_eq!(page::read(Raw, &image, 40), Some(data));
+    assert_eq!(image[Raw.place(40)][DATA + 12..], [0xEE; 4]);
+    assert!(image[Raw.place(40)][DATA..][..12]
         .chunks(3)
         .all(|code| code[0] & 0x88 == 0 && (code[1] | code[2]) & 0x80 == 0));
     assert!(reader::time::valid(&usual_time()));

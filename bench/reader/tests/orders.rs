@@ -1,16 +1,16 @@
-//! Demand 3: two changes, neither path a beginning of the other, in both orders.
+//! Demand 3 in both formats: two changes, neither path a beginning of the other, in both orders.
 
 use reader::build::random::random;
 use reader::build::requests::random_change;
 use reader::paths::{directory_of, is_beginning, parse};
 use reader::rng::Rng;
-use reader::{check, tree, Change};
+use reader::{check, tree, Change, Format};
 
 /// Runs both changes in turn; the image, and whether both were accepted.
-fn run(image: &[u8], first: &Change, second: &Change) -> (Vec<u8>, bool) {
+fn run(format: Format, image: &[u8], first: &Change, second: &Change) -> (Vec<u8>, bool) {
     let mut image = image.to_vec();
-    let one = first.apply(&mut image).is_ok();
-    let other = second.apply(&mut image).is_ok();
+    let one = first.apply(format, &mut image).is_ok();
+    let other = second.apply(format, &mut image).is_ok();
     (image, one && other)
 }
 
@@ -28,34 +28,39 @@ fn may_differ(one: &Change, other: &Change) -> bool {
 #[test]
 fn both_orders_agree() {
     let (mut both, mut one_only, mut neither, mut differed) = (0, 0, 0, 0);
-    for seed in 0..500 {
-        let card = random(seed);
+    let raw = (0..500).map(|seed| (Format::Raw, seed));
+    let plain = (500..700).map(|seed| (Format::Plain, seed));
+    for (format, seed) in raw.chain(plain) {
+        let card = random(format, seed);
         let mut rng = Rng::new(seed + 3_000_000);
         let mut image = card.image;
         // Some cards are filled up first, so that room is what decides.
         if seed % 2 == 0 {
-            let free = check(&image).unwrap().free;
+            let free = check(format, &image).unwrap().free;
             let keep = rng.below(6);
             let data = vec![0; free.saturating_sub(keep + 1) * 1024];
-            let _ = reader::create(&mut image, b"/filler", &reader::build::usual_time(), &data);
+            let _ = reader::create(format, &mut image, b"/filler", &reader::build::usual_time(), &data);
         }
-        let items = tree(&image).unwrap();
+        let items = tree(format, &image).unwrap();
         let pairs = if image.len() > 400_000 { 3 } else { 15 };
         for _ in 0..pairs {
             let (one, other) = (random_change(&mut rng, &items), random_change(&mut rng, &items));
             if !unrelated(&one, &other) {
                 continue;
             }
-            let (left, left_done) = run(&image, &one, &other);
-            let (right, right_done) = run(&image, &other, &one);
-            let (left_counts, right_counts) = (check(&left).unwrap(), check(&right).unwrap());
+            let (left, left_done) = run(format, &image, &one, &other);
+            let (right, right_done) = run(format, &image, &other, &one);
+            let (left_counts, right_counts) = (check(format, &left).unwrap(), check(format, &right).unwrap());
             match (left_done, right_done) {
                 (true, true) => both += 1,
                 (false, false) => neither += 1,
                 _ => one_only += 1,
             }
             if left_done && right_done {
-                assert!(tree(&left).unwrap() == tree(&right).unwrap(), "seed {seed}: {one:?} {other:?}");
+                assert!(
+                    tree(format, &left).unwrap() == tree(format, &right).unwrap(),
+                    "seed {seed}: {one:?} {other:?}"
+                );
                 if left_counts.free != right_counts.free {
                     differed += 1;
                     assert!(may_differ(&one, &other), "seed {seed}: {one:?} {other:?}");
@@ -75,12 +80,14 @@ fn both_orders_agree() {
 fn free_counts_may_differ_in_one_directory() {
     let time = reader::build::usual_time();
     let create = |name: &[u8]| Change::Create { path: name.to_vec(), time, data: Vec::new() };
-    let mut start = reader::build::bench();
-    create(b"/A").apply(&mut start).unwrap();
-    create(b"/C").apply(&mut start).unwrap();
-    let remove = Change::Delete { path: b"/A".to_vec() };
-    let (one, _) = run(&start, &remove, &create(b"/B"));
-    let (other, _) = run(&start, &create(b"/B"), &remove);
-    assert_eq!((check(&one).unwrap().free, check(&other).unwrap().free), (28, 27));
-    assert_eq!(tree(&one), tree(&other));
+    for format in Format::BOTH {
+        let mut start = reader::build::bench(format);
+        create(b"/A").apply(format, &mut start).unwrap();
+        create(b"/C").apply(format, &mut start).unwrap();
+        let remove = Change::Delete { path: b"/A".to_vec() };
+        let (one, _) = run(format, &start, &remove, &create(b"/B"));
+        let (other, _) = run(format, &start, &create(b"/B"), &remove);
+        assert_eq!((check(format, &one).unwrap().free, check(format, &other).unwrap().free), (28, 27));
+        assert_eq!(tree(format, &one), tree(format, &other));
+    }
 }

@@ -1,19 +1,19 @@
-//! Seeded random cards: the check and the tree say what the builder meant.
+//! Seeded random cards of both formats: the check and the tree say what the builder meant.
 
-use reader::build::random::{random, sized};
+use reader::build::random::{random, sized, RandomCard};
 use reader::build::requests::random_path;
 use reader::build::vandal::vandalised;
-use reader::content::lines;
+use reader::content::{lines, Line};
 use reader::rng::Rng;
-use reader::{check, find, list, read, step, tree, Piece, Refusal};
+use reader::{check, find, list, read, step, tree, Format, Piece, Refusal};
 
-#[test]
-fn counts_and_tree() {
+/// The pages of files that must be unreadable, on cards as varied as they are meant to be.
+fn counts_and_tree(format: Format) -> usize {
     let (mut deepest, mut orphans, mut damaged, mut tables) = (0, 0, 0, 0);
     for seed in 0..400 {
-        let card = random(seed);
-        assert_eq!(check(&card.image), Ok(card.counts), "seed {seed}");
-        assert!(tree(&card.image).unwrap() == card.tree, "seed {seed}");
+        let card = random(format, seed);
+        assert_eq!(check(format, &card.image), Ok(card.counts), "seed {seed}");
+        assert!(tree(format, &card.image).unwrap() == card.tree, "seed {seed}");
         let counts = card.counts;
         assert_eq!(counts.free + counts.reached + counts.orphaned, card.layout.alloc_end);
         deepest =
@@ -27,84 +27,105 @@ fn counts_and_tree() {
             .count();
         tables = tables.max(card.layout.table.len());
     }
-    // The cards are as varied as they are meant to be.
     assert_eq!(deepest, 4);
-    assert!(orphans > 1000 && damaged > 100 && tables > 10, "{orphans} {damaged} {tables}");
+    assert!(orphans > 1000 && tables > 10, "{orphans} {tables}");
+    damaged
+}
+
+#[test]
+fn raw_cards() {
+    let damaged = counts_and_tree(Format::Raw);
+    assert!(damaged > 100, "{damaged}");
+}
+
+#[test]
+fn plain_cards() {
+    assert_eq!(counts_and_tree(Format::Plain), 0);
 }
 
 #[test]
 fn a_full_sized_card() {
-    for seed in 0..3 {
-        let card = sized(seed, 8192);
-        assert_eq!(check(&card.image), Ok(card.counts));
-        assert!(tree(&card.image).unwrap() == card.tree);
+    for (format, seed) in [(Format::Raw, 0), (Format::Raw, 1), (Format::Raw, 2), (Format::Plain, 3)] {
+        let card = sized(format, seed, 8192);
+        assert_eq!(check(format, &card.image), Ok(card.counts));
+        assert!(tree(format, &card.image).unwrap() == card.tree);
     }
 }
 
 /// Faults of every kind: whatever the answer, the calls agree on it.
 #[test]
 fn vandalised_cards() {
-    let mut seen = [0; 8];
-    for seed in 0..1500 {
-        let image = vandalised(seed);
-        let answer = check(&image);
-        assert_eq!(tree(&image).err(), answer.err());
-        match answer {
-            Ok(counts) => {
-                seen[0] += 1;
-                assert!(list(&image).starts_with(&format!("card {}\nfree {}\n", counts.clusters, counts.free)));
+    for format in Format::BOTH {
+        let mut seen = [0; 8];
+        for seed in 0..1500 {
+            let image = vandalised(format, seed);
+            let answer = check(format, &image);
+            assert_eq!(tree(format, &image).err(), answer.err());
+            match answer {
+                Ok(counts) => {
+                    seen[0] += 1;
+                    let head = format!("card {}\nfree {}\n", counts.clusters, counts.free);
+                    assert!(list(format, &image).starts_with(&head));
+                }
+                Err(refusal) => {
+                    seen[usize::from(refusal.number)] += 1;
+                    assert_eq!(list(format, &image), format!("{refusal}\n"));
+                    let mut after = image.clone();
+                    assert_eq!(reader::delete(format, &mut after, b"/a"), Err(refusal));
+                    assert!(after == image);
+                }
             }
-            Err(refusal) => {
-                seen[usize::from(refusal.number)] += 1;
-                assert_eq!(list(&image), format!("{refusal}\n"));
-                let mut after = image.clone();
-                assert_eq!(reader::delete(&mut after, b"/a"), Err(refusal));
-                assert!(after == image);
+        }
+        println!("{format:?}, accepted and refused with 1 to 7: {seen:?}");
+        for (number, &times) in seen.iter().enumerate() {
+            match (format, number) {
+                (Format::Plain, 2) => assert_eq!(times, 0),
+                _ => assert!(times >= 10, "{format:?} {seen:?}"),
             }
         }
     }
-    assert!(seen.iter().all(|&count| count >= 10), "{seen:?}");
-    println!("accepted and refused with 1 to 7: {seen:?}");
 }
 
 /// Finding, stepping, reading and listing agree with the tree.
 #[test]
 fn lookups_agree_with_the_tree() {
-    for seed in 0..120 {
-        let card = random(seed);
+    for seed in 0..240 {
+        let format = Format::BOTH[seed as usize % 2];
+        let card = random(format, seed);
         let mut rng = Rng::new(seed);
-        let lines = lines(&card.image).unwrap();
-        let text = list(&card.image);
+        let lines = lines(format, &card.image).unwrap();
+        let text = list(format, &card.image);
         assert_eq!(text.lines().count(), 4 + lines.len() - 1);
         for _ in 0..12 {
             let line = rng.pick(&lines);
-            assert_eq!(find(&card.image, &line.path), Ok(line.entry.clone()));
+            assert_eq!(find(format, &card.image, &line.path), Ok(line.entry.clone()));
             if line.item.is_directory {
                 let inside = lines
                     .iter()
                     .filter(|other| other.path != b"/" && reader::paths::directory_of(&other.path) == &line.path[..]);
                 let mut from = 0;
                 for other in inside {
-                    let (slot, entry) = step(&card.image, &line.path, from).unwrap().unwrap();
+                    let (slot, entry) = step(format, &card.image, &line.path, from).unwrap().unwrap();
                     assert_eq!(entry, other.entry);
                     assert!(slot >= 2 && slot >= from && slot < line.entry.length as usize);
                     from = slot + 1;
                 }
-                assert_eq!(step(&card.image, &line.path, from), Ok(None));
+                assert_eq!(step(format, &card.image, &line.path, from), Ok(None));
             } else {
-                reads_agree(&card.image, &line.path, &line.item.pieces, line.entry.length as usize, &mut rng);
+                reads_agree(&card, line, &mut rng);
             }
         }
         let strange = random_path(&mut rng, &card.tree, true);
-        assert_eq!(find(&card.image, &strange).is_ok(), card.tree.contains_key(&strange));
+        assert_eq!(find(format, &card.image, &strange).is_ok(), card.tree.contains_key(&strange));
     }
 }
 
-fn reads_agree(image: &[u8], path: &[u8], pieces: &[Piece], length: usize, rng: &mut Rng) {
+fn reads_agree(card: &RandomCard, line: &Line, rng: &mut Rng) {
+    let length = line.entry.length as usize;
     let offset = rng.below(length + 2);
     let mut buffer = vec![0x5A; rng.below(3000)];
     let untouched = buffer.clone();
-    let answer = read(image, path, offset, &mut buffer);
+    let answer = read(card.format, &card.image, &line.path, offset, &mut buffer);
     if offset > length {
         assert_eq!(answer, Err(Refusal::number(15)));
         return assert_eq!(buffer, untouched);
@@ -112,13 +133,13 @@ fn reads_agree(image: &[u8], path: &[u8], pieces: &[Piece], length: usize, rng: 
     let count = buffer.len().min(length - offset);
     let used = if count == 0 { 0..0 } else { offset / 512..(offset + count - 1) / 512 + 1 };
     let mut bytes = Vec::new();
-    for piece in &pieces[used] {
+    for piece in &line.item.pieces[used] {
         match piece {
             Piece::Bytes(part) => bytes.extend_from_slice(part),
             Piece::Unreadable { .. } => {
                 let refusal = answer.unwrap_err();
                 assert_eq!(refusal.number, 2);
-                assert!(reader::page::read(image, refusal.page.unwrap()).is_none());
+                assert!(reader::page::read(card.format, &card.image, refusal.page.unwrap()).is_none());
                 return assert_eq!(buffer, untouched);
             }
         }

@@ -1,4 +1,4 @@
-//! Seeded random changes on random cards, against a model that knows the tree only.
+//! Seeded random changes on random cards of both formats, against a model that knows the tree only.
 
 use std::collections::{BTreeSet, HashMap};
 
@@ -6,17 +6,17 @@ use reader::build::random::random;
 use reader::build::requests::random_change;
 use reader::content::{lines, Item, Piece, Tree};
 use reader::ecc::code_of;
-use reader::page::{self, DATA, PAGE};
+use reader::page::{self, DATA};
 use reader::rng::Rng;
 use reader::tree::Checked;
-use reader::{check, find, paths, step, time, tree, Change, Refusal};
+use reader::{check, find, paths, step, time, tree, Change, Format, Refusal};
 
 /// Whether a directory has a dead slot, and whether its length is even.
-fn room(image: &[u8], directory: &[u8]) -> (bool, bool) {
-    let length = find(image, directory).unwrap().length as usize;
+fn room(format: Format, image: &[u8], directory: &[u8]) -> (bool, bool) {
+    let length = find(format, image, directory).unwrap().length as usize;
     let mut live = 0;
     let mut from = 0;
-    while let Some((slot, _)) = step(image, directory, from).unwrap() {
+    while let Some((slot, _)) = step(format, image, directory, from).unwrap() {
         live += 1;
         from = slot + 1;
     }
@@ -24,7 +24,7 @@ fn room(image: &[u8], directory: &[u8]) -> (bool, bool) {
 }
 
 /// The number a change must be refused with, from the tree, the free count and the room.
-fn predicted(image: &[u8], tree: &Tree, change: &Change) -> Option<u8> {
+fn predicted(format: Format, image: &[u8], tree: &Tree, change: &Change) -> Option<u8> {
     let Some(names) = paths::parse(change.path()).filter(|names| !names.is_empty()) else { return Some(8) };
     if matches!(change, Change::MakeDir { .. }) && names.len() == 4 {
         return Some(8);
@@ -46,14 +46,14 @@ fn predicted(image: &[u8], tree: &Tree, change: &Change) -> Option<u8> {
         }
     }
     let there = tree.get(change.path());
-    let free = check(image).unwrap().free;
+    let free = check(format, image).unwrap().free;
     let clusters = |data: &Vec<u8>| data.len().div_ceil(1024);
     if change.is_creation() {
         if there.is_some() {
             return Some(11);
         }
         let own = if let Change::Create { data, .. } = change { clusters(data) } else { 1 };
-        let (dead, even) = room(image, &around);
+        let (dead, even) = room(format, image, &around);
         return (own + usize::from(!dead && even) > free).then_some(12);
     }
     match (change, there) {
@@ -99,9 +99,9 @@ fn expected(mut tree: Tree, change: &Change) -> Tree {
     tree
 }
 
-/// Which pages were rewritten, and that each has a fresh code and its old last spare bytes.
-fn pages_are_right(before: &[u8], after: &[u8], change: &Change) {
-    let (old, new) = (Checked::of(before).unwrap(), Checked::of(after).unwrap());
+/// Which pages were rewritten, and that each raw one has a fresh code and its old last spare bytes.
+fn pages_are_right(format: Format, before: &[u8], after: &[u8], change: &Change) {
+    let (old, new) = (Checked::of(format, before).unwrap(), Checked::of(format, after).unwrap());
     let mut must: BTreeSet<usize> = BTreeSet::new();
     for cluster in 0..old.card.alloc_end {
         if old.card.table[cluster] >> 31 == 0 && new.card.table[cluster] >> 31 == 1 {
@@ -112,14 +112,16 @@ fn pages_are_right(before: &[u8], after: &[u8], change: &Change) {
         let names = paths::parse(change.path()).unwrap();
         must.insert(reader::lookup::locate(&new.root, &names).unwrap().page);
     }
-    for page in 0..before.len() / PAGE {
-        let bytes = |image: &[u8]| image[page * PAGE..][..PAGE].to_vec();
-        let (one, other) = (bytes(before), bytes(after));
-        assert_eq!(one[DATA + 12..], other[DATA + 12..], "spare bytes 12 to 15 of page {page}");
+    for page in 0..before.len() / format.page_bytes() {
+        let (one, other) = (&before[format.place(page)], &after[format.place(page)]);
         if one != other && !must.contains(&page) {
-            let change = (page::read(before, page), page::read(after, page));
+            let change = (page::read(format, before, page), page::read(format, after, page));
             assert!(change.0.is_some() && change.0 != change.1, "page {page} was rewritten for nothing");
         }
+        if format == Format::Plain {
+            continue;
+        }
+        assert_eq!(one[DATA + 12..], other[DATA + 12..], "spare bytes 12 to 15 of page {page}");
         if one != other || must.contains(&page) {
             let fresh: Vec<u8> = other[..DATA].chunks(128).flat_map(code_of).collect();
             assert_eq!(fresh, other[DATA..DATA + 12], "code of page {page}");
@@ -128,8 +130,8 @@ fn pages_are_right(before: &[u8], after: &[u8], change: &Change) {
 }
 
 /// Each table word stays, is freed by its top bit, is newly taken, or leads a directory's end to its growth.
-fn table_is_right(before: &[u8], after: &[u8]) {
-    let (old, new) = (Checked::of(before).unwrap(), Checked::of(after).unwrap());
+fn table_is_right(format: Format, before: &[u8], after: &[u8]) {
+    let (old, new) = (Checked::of(format, before).unwrap(), Checked::of(format, after).unwrap());
     for cluster in 0..old.card.alloc_end {
         let (one, other) = (old.card.table[cluster], new.card.table[cluster]);
         match (one >> 31, other >> 31) {
@@ -143,17 +145,16 @@ fn table_is_right(before: &[u8], after: &[u8]) {
         }
     }
     let last = *old.card.table_clusters.last().unwrap();
-    let words =
-        |image: &[u8]| [page::read(image, 2 * last).unwrap(), page::read(image, 2 * last + 1).unwrap()].concat();
+    let words = |image: &[u8]| [0, 1].map(|second| page::read(format, image, 2 * last + second).unwrap()).concat();
     let used = 4 * ((old.card.alloc_end - 1) % 256 + 1);
     assert_eq!(words(before)[used..], words(after)[used..], "words from alloc_end on");
 }
 
 /// Bytes of the changed entry's page that a replacement or removal may touch.
-fn entry_is_kept(before: &[u8], after: &[u8], change: &Change) {
+fn entry_is_kept(format: Format, before: &[u8], after: &[u8], change: &Change) {
     let names = paths::parse(change.path()).unwrap();
-    let page = reader::lookup::locate(&Checked::of(before).unwrap().root, &names).unwrap().page;
-    let (one, other) = (page::read(before, page).unwrap(), page::read(after, page).unwrap());
+    let page = reader::lookup::locate(&Checked::of(format, before).unwrap().root, &names).unwrap().page;
+    let (one, other) = (page::read(format, before, page).unwrap(), page::read(format, after, page).unwrap());
     for at in 0..DATA {
         let open = if change.is_removal() { at == 1 } else { matches!(at, 4..=7 | 0x10..=0x13 | 0x18..=0x1F) };
         assert!(open || one[at] == other[at], "byte {at:#x}");
@@ -162,63 +163,73 @@ fn entry_is_kept(before: &[u8], after: &[u8], change: &Change) {
 }
 
 /// Counts after a change: nothing is lost, and orphans stay.
-fn counts_are_right(before: &[u8], after: &[u8]) {
-    let (old, new) = (check(before).unwrap(), check(after).unwrap());
+fn counts_are_right(format: Format, before: &[u8], after: &[u8]) {
+    let (old, new) = (check(format, before).unwrap(), check(format, after).unwrap());
     assert_eq!(old.orphaned, new.orphaned);
     assert_eq!(old.free + old.reached, new.free + new.reached);
 }
 
-#[test]
-fn changes_do_what_the_model_says() {
-    let mut seen: HashMap<(u8, bool), usize> = HashMap::new();
-    for seed in 0..260 {
-        let mut image = random(seed).image;
+/// A sequence on each seeded card; acceptance and each refusal are met.
+fn changes_do_what_the_model_says(format: Format, seeds: std::ops::Range<u64>) {
+    let mut seen: HashMap<u8, usize> = HashMap::new();
+    for seed in seeds {
+        let mut image = random(format, seed).image;
         let mut rng = Rng::new(seed + 1_000_000);
         let steps = if image.len() > 400_000 { 6 } else { 30 };
         for step in 0..steps {
-            let before = tree(&image).unwrap();
+            let before = tree(format, &image).unwrap();
             let change = random_change(&mut rng, &before);
             let mut after = image.clone();
-            let answer = change.apply(&mut after);
-            let predicted = predicted(&image, &before, &change);
+            let answer = change.apply(format, &mut after);
+            let predicted = predicted(format, &image, &before, &change);
             assert_eq!(
                 answer,
                 predicted.map_or(Ok(()), |number| Err(Refusal::number(number))),
                 "seed {seed} step {step} {change:?}"
             );
-            *seen.entry((predicted.unwrap_or(0), change.is_creation())).or_default() += 1;
+            *seen.entry(predicted.unwrap_or(0)).or_default() += 1;
             if answer.is_err() {
                 assert!(after == image, "a refusal leaves the image");
                 continue;
             }
-            assert!(tree(&after).unwrap() == expected(before, &change), "seed {seed} step {step} {change:?}");
-            pages_are_right(&image, &after, &change);
-            counts_are_right(&image, &after);
-            table_is_right(&image, &after);
+            assert!(tree(format, &after).unwrap() == expected(before, &change), "seed {seed} step {step} {change:?}");
+            pages_are_right(format, &image, &after, &change);
+            counts_are_right(format, &image, &after);
+            table_is_right(format, &image, &after);
             if !change.is_creation() {
-                entry_is_kept(&image, &after, &change);
+                entry_is_kept(format, &image, &after, &change);
             }
             image = after;
         }
     }
     for number in [0, 8, 9, 10, 11, 12, 13, 14] {
-        let count: usize = seen.iter().filter(|((seen, _), _)| *seen == number).map(|(_, count)| count).sum();
-        assert!(count >= 10, "number {number} came up {count} times");
+        assert!(seen.get(&number).is_some_and(|&count| count >= 10), "number {number}: {seen:?}");
     }
+}
+
+#[test]
+fn raw_cards() {
+    changes_do_what_the_model_says(Format::Raw, 0..260);
+}
+
+#[test]
+fn plain_cards() {
+    changes_do_what_the_model_says(Format::Plain, 0..260);
 }
 
 /// New clusters are the lowest free ones, ascending, growth first.
 #[test]
 fn lowest_free_clusters() {
-    for seed in 0..150 {
-        let image = random(seed).image;
+    for seed in 0..300 {
+        let format = Format::BOTH[seed as usize % 2];
+        let image = random(format, seed).image;
         let mut rng = Rng::new(seed + 2_000_000);
-        let change = random_change(&mut rng, &tree(&image).unwrap());
+        let change = random_change(&mut rng, &tree(format, &image).unwrap());
         let mut after = image.clone();
-        if change.apply(&mut after).is_err() {
+        if change.apply(format, &mut after).is_err() {
             continue;
         }
-        let (old, new) = (Checked::of(&image).unwrap(), Checked::of(&after).unwrap());
+        let (old, new) = (Checked::of(format, &image).unwrap(), Checked::of(format, &after).unwrap());
         let free: Vec<usize> = old.card.free().collect();
         let taken: Vec<usize> = free.iter().copied().filter(|&cluster| new.card.table[cluster] >> 31 == 1).collect();
         assert_eq!(taken, free[..taken.len()]);
@@ -235,8 +246,9 @@ fn lowest_free_clusters() {
 /// Fill a card to the last cluster, empty it, and find every cluster again.
 #[test]
 fn fill_and_empty() {
-    for seed in 0..40 {
-        let mut image = random(seed).image;
+    for seed in 0..80 {
+        let format = Format::BOTH[seed as usize % 2];
+        let mut image = random(format, seed).image;
         if image.len() > 300_000 {
             continue;
         }
@@ -245,7 +257,7 @@ fn fill_and_empty() {
         loop {
             let path = paths::join(b"/", format!("fill{}", made.len()).as_bytes());
             let data = rng.bytes(1024 * (1 + made.len() % 3));
-            match reader::create(&mut image, &path, &reader::build::usual_time(), &data) {
+            match reader::create(format, &mut image, &path, &reader::build::usual_time(), &data) {
                 Ok(()) => made.push((path, data)),
                 Err(refusal) => {
                     assert_eq!(refusal.number, 12);
@@ -253,19 +265,19 @@ fn fill_and_empty() {
                 }
             }
         }
-        let items = tree(&image).unwrap();
+        let items = tree(format, &image).unwrap();
         for (path, data) in &made {
             assert_eq!(items[path].bytes().as_ref(), Some(data));
         }
-        let lines = lines(&image).unwrap();
+        let lines = lines(format, &image).unwrap();
         for line in lines.iter().rev().filter(|line| line.path != b"/") {
             match line.item.is_directory {
-                true => reader::remove_dir(&mut image, &line.path).unwrap(),
-                false => reader::delete(&mut image, &line.path).unwrap(),
+                true => reader::remove_dir(format, &mut image, &line.path).unwrap(),
+                false => reader::delete(format, &mut image, &line.path).unwrap(),
             }
         }
-        let counts = check(&image).unwrap();
-        assert_eq!(counts.reached, find(&image, b"/").unwrap().length.div_ceil(2) as usize);
-        assert_eq!(tree(&image).unwrap().len(), 1);
+        let counts = check(format, &image).unwrap();
+        assert_eq!(counts.reached, find(format, &image, b"/").unwrap().length.div_ceil(2) as usize);
+        assert_eq!(tree(format, &image).unwrap().len(), 1);
     }
 }

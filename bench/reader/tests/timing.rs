@@ -3,13 +3,13 @@
 use std::time::{Duration, Instant};
 
 use reader::build::{crowded, random::sized};
-use reader::{check, Counts};
+use reader::{check, Counts, Format};
 
 /// The least of several runs.
-fn best(image: &[u8]) -> Duration {
+fn best(format: Format, image: &[u8]) -> Duration {
     let runs = (0..9).map(|_| {
         let start = Instant::now();
-        check(image).unwrap();
+        check(format, image).unwrap();
         start.elapsed()
     });
     runs.min().unwrap()
@@ -17,16 +17,19 @@ fn best(image: &[u8]) -> Duration {
 
 #[test]
 fn full_cards() {
-    let image = crowded();
-    let counts = check(&image).unwrap();
-    assert_eq!(counts, Counts { clusters: 8192, free: 8135 - counts.reached, reached: counts.reached, orphaned: 0 });
-    assert_eq!(reader::tree(&image).unwrap().len(), 1 + 40 + 2000);
-    let time = best(&image);
-    println!("check of a card with 2,000 files, {} clusters reached: {time:?}", counts.reached);
-    assert!(time < Duration::from_millis(500));
+    for format in Format::BOTH {
+        let image = crowded(format);
+        let counts = check(format, &image).unwrap();
+        let reached = counts.reached;
+        assert_eq!(counts, Counts { clusters: 8192, free: 8135 - reached, reached, orphaned: 0 });
+        assert_eq!(reader::tree(format, &image).unwrap().len(), 1 + 40 + 2000);
+        let time = best(format, &image);
+        println!("{format:?}, check of a card with 2,000 files, {reached} clusters reached: {time:?}");
+        assert!(time < Duration::from_millis(500));
 
-    let image = sized(11, 8192).image;
-    let time = best(&image);
-    println!("check of a random worn card, {} clusters reached: {time:?}", check(&image).unwrap().reached);
-    assert!(time < Duration::from_millis(500));
+        let image = sized(format, 11, 8192).image;
+        let (time, reached) = (best(format, &image), check(format, &image).unwrap().reached);
+        println!("{format:?}, check of a random card, {reached} clusters reached: {time:?}");
+        assert!(time < Duration::from_millis(500));
+    }
 }

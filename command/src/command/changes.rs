@@ -12,7 +12,7 @@ pub const CREATE: Command = Command {
         name: "create",
         alias: None,
         words: 3..=3,
-        options: &[Opt::Stamp],
+        options: &[Opt::Stamp, Opt::Plain],
         help: include_str!("../help/create.txt"),
     },
     run: create,
@@ -23,7 +23,7 @@ pub const REPLACE: Command = Command {
         name: "replace",
         alias: None,
         words: 3..=3,
-        options: &[Opt::Stamp],
+        options: &[Opt::Stamp, Opt::Plain],
         help: include_str!("../help/replace.txt"),
     },
     run: replace,
@@ -34,7 +34,7 @@ pub const DELETE: Command = Command {
         name: "delete",
         alias: Some("rm"),
         words: 2..=2,
-        options: &[Opt::Recursive],
+        options: &[Opt::Recursive, Opt::Plain],
         help: include_str!("../help/delete.txt"),
     },
     run: delete,
@@ -45,14 +45,20 @@ pub const MKDIR: Command = Command {
         name: "mkdir",
         alias: None,
         words: 2..=2,
-        options: &[Opt::Stamp],
+        options: &[Opt::Stamp, Opt::Plain],
         help: include_str!("../help/mkdir.txt"),
     },
     run: |call| at_path(call, |card| card.make_dir(call.bytes(1), &call.stamp())),
 };
 
 pub const RMDIR: Command = Command {
-    syntax: Syntax { name: "rmdir", alias: None, words: 2..=2, options: &[], help: include_str!("../help/rmdir.txt") },
+    syntax: Syntax {
+        name: "rmdir",
+        alias: None,
+        words: 2..=2,
+        options: &[Opt::Plain],
+        help: include_str!("../help/rmdir.txt"),
+    },
     run: |call| at_path(call, |card| card.remove_dir(call.bytes(1))),
 };
 

@@ -2,9 +2,11 @@
 
 use std::path::Path;
 
+use ps2card::Format;
+
 use super::image::Image;
 use super::{print, Command};
-use crate::arguments::{Call, Syntax};
+use crate::arguments::{Call, Opt, Syntax};
 use crate::failure::{shown, Failure};
 
 pub const CHECK: Command = Command {
@@ -12,14 +14,14 @@ pub const CHECK: Command = Command {
         name: "check",
         alias: Some("df"),
         words: 1..=usize::MAX,
-        options: &[],
+        options: &[Opt::Plain],
         help: include_str!("../help/check.txt"),
     },
     run: |call| each(call, check),
 };
 
-fn check(name: &Path) -> Result<(), Failure> {
-    let counts = Image::load(name)?.check()?;
+fn check(format: Format, name: &Path) -> Result<(), Failure> {
+    let counts = Image::load(format, name)?.check()?;
     // A cluster has 1,024 bytes, so that the free ones are the free room in KB.
     let text = format!(
         "{}: OK, {} KB free\ncard {}\nfree {}\nreached {}\norphaned {}\n",
@@ -34,10 +36,10 @@ fn check(name: &Path) -> Result<(), Failure> {
 }
 
 /// Does it with each image, also after one that failed; then the gravest status counts.
-pub fn each(call: &Call, look: impl Fn(&Path) -> Result<(), Failure>) -> Result<(), Failure> {
+pub fn each(call: &Call, look: impl Fn(Format, &Path) -> Result<(), Failure>) -> Result<(), Failure> {
     let mut worst = 0;
     for name in call.images()? {
-        match look(name) {
+        match look(call.format(), name) {
             Ok(()) => {}
             Err(Failure::Unread) => return Err(Failure::Unread),
             Err(failure) => worst = worst.max(failure.tell()),

@@ -3,7 +3,7 @@
 use std::collections::{BTreeMap, BTreeSet};
 use std::fmt::Display;
 
-use ps2card::{Kind, Line};
+use ps2card::{Format, Kind, Line};
 
 use super::image::Image;
 use super::verify::file;
@@ -17,7 +17,7 @@ pub const COMPARE: Command = Command {
         name: "compare",
         alias: None,
         words: 2..=2,
-        options: &[Opt::BytesOnly],
+        options: &[Opt::BytesOnly, Opt::Plain, Opt::PlainA, Opt::PlainB],
         help: include_str!("../help/compare.txt"),
     },
     run: compare,
@@ -31,7 +31,12 @@ struct Pair<'a> {
 
 fn compare(call: &Call) -> Result<(), Failure> {
     let names = call.images()?;
-    let images = [Image::load(names[0])?, Image::load(names[1])?];
+    // One option is for both; else each image has its own.
+    let load = |place: usize, own: Opt, option: &'static str| match call.asked(Opt::Plain) {
+        true => Image::load(Format::Plain, names[place]),
+        false => Image::load_by(option, call.format_by(own), names[place]),
+    };
+    let images = [load(0, Opt::PlainA, "--plain-a")?, load(1, Opt::PlainB, "--plain-b")?];
     let trees = [lines(&images[0])?, lines(&images[1])?];
     let paths: BTreeSet<&Vec<u8>> = trees.iter().flat_map(BTreeMap::keys).collect();
     output::expect(paths.len());
@@ -103,7 +108,7 @@ impl Pair<'_> {
             for refusal in files[place].as_ref().err().into_iter().flatten() {
                 match refusal.page() {
                     Some(page) => self.tell(&format!("unreadable {letter} {page}"), path)?,
-                    None => return Err(Failure::refused_at(*refusal, self.images[place].name, path)),
+                    None => return Err(self.images[place].refused_at(*refusal, path)),
                 }
             }
         }

@@ -11,7 +11,7 @@ pub const NEW: Command = Command {
         name: "new",
         alias: Some("format"),
         words: 1..=2,
-        options: &[Opt::Stamp],
+        options: &[Opt::Stamp, Opt::Plain],
         help: include_str!("../help/new.txt"),
     },
     run: new,
@@ -23,7 +23,8 @@ fn new(call: &Call) -> Result<(), Failure> {
     if !allowed_clusters(clusters) {
         return Err(call.usage(format!("N is a multiple of 8 from 32 to 8192, not {clusters}")));
     }
-    let card = Card::fresh(clusters, &call.stamp()).map_err(|refusal| Failure::refused(refusal, image))?;
+    let card =
+        Card::fresh(call.format(), clusters, &call.stamp()).map_err(|refusal| Failure::refused(refusal, image))?;
     image_file::create(image, &mut |notice| say(image, notice), &card)
         .map_err(|error| Failure::of_image("make", image, error))
 }

@@ -12,12 +12,18 @@ use ps2card::{Entry, Kind};
 
 use super::image::Image;
 use super::{print, say, Command};
-use crate::arguments::{Call, Syntax};
+use crate::arguments::{Call, Opt, Syntax};
 use crate::failure::Failure;
 use crate::{host_time, output};
 
 pub const GET: Command = Command {
-    syntax: Syntax { name: "get", alias: None, words: 3..=3, options: &[], help: include_str!("../help/get.txt") },
+    syntax: Syntax {
+        name: "get",
+        alias: None,
+        words: 3..=3,
+        options: &[Opt::Plain],
+        help: include_str!("../help/get.txt"),
+    },
     run: get,
 };
 
@@ -29,7 +35,7 @@ struct Copy {
 }
 
 fn get(call: &Call) -> Result<(), Failure> {
-    let image = Image::load(call.image())?;
+    let image = Image::load(call.format(), call.image())?;
     let (path, to) = (call.bytes(1), call.file(2));
     let entry = image.find(path)?;
     if to == Path::new("-") {

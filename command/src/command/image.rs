@@ -2,21 +2,31 @@
 
 use std::path::Path;
 
-use ps2card::{image_file, Card, Counts, Entry, Line, Refusal};
+use ps2card::{image_file, Card, Counts, Entry, Format, Line, Refusal};
 
-use super::standard_input;
+use super::{size_hint, standard_input, PLAIN};
 use crate::failure::Failure;
 
 pub struct Image<'a> {
     pub name: &'a Path,
     pub card: Card,
+    /// The option that says that it is plain.
+    option: &'static str,
 }
 
 impl<'a> Image<'a> {
-    /// The card in a file; `-` is standard input.
-    pub fn load(name: &'a Path) -> Result<Image<'a>, Failure> {
-        let card = if name == Path::new("-") { standard_input().map(Card::new) } else { image_file::load(name) };
-        Ok(Image { name, card: card.map_err(|error| Failure::host("read", name, error))? })
+    /// The card in a file, in this format; `-` is standard input.
+    pub fn load(format: Format, name: &'a Path) -> Result<Image<'a>, Failure> {
+        Image::load_by(PLAIN, format, name)
+    }
+
+    /// The same, where another option says its format.
+    pub fn load_by(option: &'static str, format: Format, name: &'a Path) -> Result<Image<'a>, Failure> {
+        let card = match name == Path::new("-") {
+            true => standard_input().map(|image| Card::new(format, image)),
+            false => image_file::load(format, name),
+        };
+        Ok(Image { name, card: card.map_err(|error| Failure::host("read", name, error))?, option })
     }
 
     pub fn check(&self) -> Result<Counts, Failure> {
@@ -42,18 +52,23 @@ impl<'a> Image<'a> {
     /// A file's bytes from an offset on, at most so many, on a card that was checked before: an unreadable page is
     /// then the file's.
     pub fn bytes(&self, path: &[u8], offset: usize, most: usize) -> Result<Vec<u8>, Failure> {
-        self.card.bytes(path, offset, most).map_err(|refusal| Failure::refused_at(refusal, self.name, path))
+        self.card.bytes(path, offset, most).map_err(|refusal| self.refused_at(refusal, path))
     }
 
-    pub fn refused(&self, refusal: Refusal) -> Failure {
-        Failure::refused(refusal, self.name)
+    fn refused(&self, refusal: Refusal) -> Failure {
+        Failure::refused(refusal, self.name).with_hint(&size_hint(&self.card, self.option))
+    }
+
+    /// A refusal of a call that reads a file.
+    pub fn refused_at(&self, refusal: Refusal, path: &[u8]) -> Failure {
+        Failure::refused_at(refusal, self.name, path).with_hint(&size_hint(&self.card, self.option))
     }
 
     /// A refusal of a call that reads no file: an unreadable page has nothing to do with the path.
     fn refused_on(&self, refusal: Refusal, path: &[u8]) -> Failure {
         match refusal {
             Refusal::UnreadablePage(_) => self.refused(refusal),
-            _ => Failure::refused_at(refusal, self.name, path),
+            _ => self.refused_at(refusal, path),
         }
     }
 }

@@ -2,12 +2,18 @@
 
 use super::image::Image;
 use super::{print, Command};
-use crate::arguments::{Call, Syntax};
+use crate::arguments::{Call, Opt, Syntax};
 use crate::failure::Failure;
 
 pub const LIST: Command = Command {
-    syntax: Syntax { name: "list", alias: None, words: 1..=1, options: &[], help: include_str!("../help/list.txt") },
-    run: |call| print(&Image::load(call.image())?.list()?),
+    syntax: Syntax {
+        name: "list",
+        alias: None,
+        words: 1..=1,
+        options: &[Opt::Plain],
+        help: include_str!("../help/list.txt"),
+    },
+    run: |call| print(&Image::load(call.format(), call.image())?.list()?),
 };
 
 pub const FIND: Command = Command {
@@ -15,14 +21,20 @@ pub const FIND: Command = Command {
         name: "find",
         alias: Some("stat"),
         words: 2..=2,
-        options: &[],
+        options: &[Opt::Plain],
         help: include_str!("../help/find.txt"),
     },
     run: find,
 };
 
 pub const STEP: Command = Command {
-    syntax: Syntax { name: "step", alias: None, words: 3..=3, options: &[], help: include_str!("../help/step.txt") },
+    syntax: Syntax {
+        name: "step",
+        alias: None,
+        words: 3..=3,
+        options: &[Opt::Plain],
+        help: include_str!("../help/step.txt"),
+    },
     run: step,
 };
 
@@ -31,14 +43,14 @@ pub const READ: Command = Command {
         name: "read",
         alias: Some("cat"),
         words: 2..=4,
-        options: &[],
+        options: &[Opt::Plain],
         help: include_str!("../help/read.txt"),
     },
     run: read,
 };
 
 fn find(call: &Call) -> Result<(), Failure> {
-    let entry = Image::load(call.image())?.find(call.bytes(1))?;
+    let entry = Image::load(call.format(), call.image())?.find(call.bytes(1))?;
     let mut text = format!(
         "mode 0x{:04x}\nlength {}\ncreated {}\nmodified {}\nfirst {}\ndir_entry {}\nattribute {}\nname ",
         entry.mode, entry.length, entry.created, entry.modified, entry.first, entry.dir_entry, entry.attribute
@@ -51,7 +63,7 @@ fn find(call: &Call) -> Result<(), Failure> {
 
 fn step(call: &Call) -> Result<(), Failure> {
     let slot = call.number(2, "SLOT")?.unwrap_or(0);
-    match Image::load(call.image())?.step(call.bytes(1), slot)? {
+    match Image::load(call.format(), call.image())?.step(call.bytes(1), slot)? {
         Some((at, entry)) => print(&[format!("slot {at} ").as_bytes(), entry.name(), b"\n"].concat()),
         None => print(b"end\n"),
     }
@@ -60,7 +72,7 @@ fn step(call: &Call) -> Result<(), Failure> {
 fn read(call: &Call) -> Result<(), Failure> {
     let (path, offset) = (call.bytes(1), call.number(2, "OFFSET")?.unwrap_or(0));
     let most = call.number(3, "COUNT")?.unwrap_or(usize::MAX);
-    let image = Image::load(call.image())?;
+    let image = Image::load(call.format(), call.image())?;
     let length = image.find(path)?.length as usize;
     print(&image.bytes(path, offset, most.min(length))?)
 }

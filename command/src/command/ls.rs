@@ -15,7 +15,7 @@ pub const LS: Command = Command {
         name: "ls",
         alias: None,
         words: 1..=2,
-        options: &[Opt::Long],
+        options: &[Opt::Long, Opt::Plain],
         help: include_str!("../help/ls.txt"),
     },
     run: ls,
@@ -30,7 +30,7 @@ struct Row {
 }
 
 fn ls(call: &Call) -> Result<(), Failure> {
-    let image = Image::load(call.image())?;
+    let image = Image::load(call.format(), call.image())?;
     let path: &[u8] = if call.has(1) { call.bytes(1) } else { b"/" };
     let long = call.asked(Opt::Long);
     let entry = image.find(path)?;

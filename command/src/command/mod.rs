@@ -3,6 +3,7 @@
 mod changes;
 mod check;
 mod compare;
+mod convert;
 mod fresh;
 mod get;
 mod image;
@@ -16,7 +17,7 @@ use std::io;
 use std::path::Path;
 
 use ps2card::image_file::{self, Notice};
-use ps2card::{Card, Refusal};
+use ps2card::{Card, Format, Refusal};
 
 use crate::arguments::{Call, Syntax};
 use crate::failure::{shown, Failure};
@@ -46,6 +47,7 @@ pub const ALL: &[&Command] = &[
     &changes::MKDIR,
     &changes::RMDIR,
     &fresh::NEW,
+    &convert::CONVERT,
 ];
 
 /// Writes to standard output.
@@ -69,16 +71,31 @@ fn standard_input() -> io::Result<Vec<u8>> {
 fn change(call: &Call, edit: impl FnOnce(&mut Card) -> Result<(), (Refusal, Vec<u8>)>) -> Result<(), Failure> {
     let image = changeable(call)?;
     let mut met_at = None;
-    let done = image_file::change(image, &mut |notice| say(image, notice), |card| {
+    let done = image_file::change(call.format(), image, &mut |notice| say(image, notice), |card| {
         edit(card).map_err(|(refusal, path)| {
-            met_at = Some(path);
+            met_at = Some((path, size_hint(card, PLAIN)));
             refusal.into()
         })
     });
     done.map_err(|error| match (error, met_at) {
-        (image_file::Error::Refused(refusal), Some(path)) => Failure::refused_at(refusal, image, &path),
+        (image_file::Error::Refused(refusal), Some((path, hint))) => {
+            Failure::refused_at(refusal, image, &path).with_hint(&hint)
+        }
         (error, _) => Failure::of_image("change", image, error),
     })
+}
+
+/// The option that says that the one image, or every one, is plain.
+const PLAIN: &str = "--plain";
+
+/// What is said of an image whose size is refused, where it is a card's in the other format; which option says of this
+/// image that it is plain.
+fn size_hint(card: &Card, option: &str) -> String {
+    match card.format() {
+        format if !format.other().is_length(card.image().len()) => String::new(),
+        Format::Raw => format!("; its size is that of a plain card: say {option}"),
+        Format::Plain => format!("; its size is that of a raw card: leave out {option}"),
+    }
 }
 
 /// The image as a file that can be written: not standard input.

@@ -18,7 +18,7 @@ pub const PUT: Command = Command {
         name: "put",
         alias: None,
         words: 2..=2,
-        options: &[Opt::Stamp, Opt::As],
+        options: &[Opt::Stamp, Opt::As, Opt::Plain],
         help: include_str!("../help/put.txt"),
     },
     run: put,

@@ -3,12 +3,12 @@
 use std::os::unix::ffi::OsStrExt;
 use std::path::Path;
 
-use ps2card::{Card, Kind, Refusal};
+use ps2card::{Card, Format, Kind, Refusal};
 
 use super::check::each;
 use super::image::Image;
 use super::{print, Command};
-use crate::arguments::Syntax;
+use crate::arguments::{Opt, Syntax};
 use crate::failure::{Failure, REFUSED};
 use crate::{output, sha256};
 
@@ -17,14 +17,14 @@ pub const VERIFY: Command = Command {
         name: "verify",
         alias: None,
         words: 1..=usize::MAX,
-        options: &[],
+        options: &[Opt::Plain],
         help: include_str!("../help/verify.txt"),
     },
-    run: |call| each(call, |name| verify(name, call.has(1))),
+    run: |call| each(call, |format, name| verify(format, name, call.has(1))),
 };
 
-fn verify(name: &Path, one_of_several: bool) -> Result<(), Failure> {
-    let image = Image::load(name)?;
+fn verify(format: Format, name: &Path, one_of_several: bool) -> Result<(), Failure> {
+    let image = Image::load(format, name)?;
     let tree = image.tree()?;
     output::expect(tree.iter().filter(|line| line.kind == Kind::File).count());
     let mut whole = true;
@@ -33,7 +33,7 @@ fn verify(name: &Path, one_of_several: bool) -> Result<(), Failure> {
             Ok(bytes) => bytes,
             Err(refusals) => {
                 refusals.into_iter().for_each(|refusal| {
-                    Failure::refused_at(refusal, name, &line.path).tell();
+                    image.refused_at(refusal, &line.path).tell();
                 });
                 whole = false;
                 continue;

@@ -6,9 +6,15 @@
 /// The archive that is linked, for tests that compile C against it.
 pub const ARCHIVE: &str = env!("PS2CARD_ARCHIVE");
 
+/// The number of the format with spare bytes.
+pub const RAW: u32 = 0;
+/// The number of the format without them.
+pub const PLAIN: u32 = 1;
+
 extern "C" {
     /// Checks a card and counts its clusters.
     pub fn ps2card_check(
+        format: u32,
         image: *const u8,
         image_length: usize,
         page: *mut usize,
@@ -20,6 +26,7 @@ extern "C" {
 
     /// The entry at a path.
     pub fn ps2card_find(
+        format: u32,
         image: *const u8,
         image_length: usize,
         path: *const u8,
@@ -37,6 +44,7 @@ extern "C" {
 
     /// The first live entry of a directory from a slot on.
     pub fn ps2card_step(
+        format: u32,
         image: *const u8,
         image_length: usize,
         path: *const u8,
@@ -57,6 +65,7 @@ extern "C" {
 
     /// Copies bytes of a file.
     pub fn ps2card_read(
+        format: u32,
         image: *const u8,
         image_length: usize,
         path: *const u8,
@@ -69,10 +78,11 @@ extern "C" {
     ) -> u32;
 
     /// Writes the listing and answers its whole length.
-    pub fn ps2card_list(image: *const u8, image_length: usize, out: *mut u8, out_length: usize) -> usize;
+    pub fn ps2card_list(format: u32, image: *const u8, image_length: usize, out: *mut u8, out_length: usize) -> usize;
 
     /// Creates a file.
     pub fn ps2card_create(
+        format: u32,
         image: *mut u8,
         image_length: usize,
         path: *const u8,
@@ -85,6 +95,7 @@ extern "C" {
 
     /// Replaces a file's bytes.
     pub fn ps2card_replace(
+        format: u32,
         image: *mut u8,
         image_length: usize,
         path: *const u8,
@@ -97,6 +108,7 @@ extern "C" {
 
     /// Deletes a file.
     pub fn ps2card_delete(
+        format: u32,
         image: *mut u8,
         image_length: usize,
         path: *const u8,
@@ -106,6 +118,7 @@ extern "C" {
 
     /// Makes a directory.
     pub fn ps2card_make_dir(
+        format: u32,
         image: *mut u8,
         image_length: usize,
         path: *const u8,
@@ -116,13 +129,27 @@ extern "C" {
 
     /// Removes an empty directory.
     pub fn ps2card_remove_dir(
+        format: u32,
         image: *mut u8,
         image_length: usize,
         path: *const u8,
         path_length: usize,
         page: *mut usize,
     ) -> u32;
+
+    /// Writes the plain image of a raw one.
+    pub fn ps2card_to_plain(
+        image: *const u8,
+        image_length: usize,
+        out: *mut u8,
+        out_length: usize,
+        page: *mut usize,
+    ) -> u32;
+
+    /// Writes the raw image of a plain one.
+    pub fn ps2card_to_raw(image: *const u8, image_length: usize, out: *mut u8, out_length: usize) -> u32;
 }
 
 /// The type of `ps2card_create` and `ps2card_replace`.
-pub type Write = unsafe extern "C" fn(*mut u8, usize, *const u8, usize, *const u8, *const u8, usize, *mut usize) -> u32;
+pub type Write =
+    unsafe extern "C" fn(u32, *mut u8, usize, *const u8, usize, *const u8, *const u8, usize, *mut usize) -> u32;

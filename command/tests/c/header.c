@@ -1,5 +1,6 @@
-/* Calls every function of ps2card.h on a card and prints what it answers; leaves the changed image behind.
- * Usage: header IMAGE CHANGED. The same calls through the Rust wrapper must print the same. */
+/* Calls every function of ps2card.h on a card and prints what it answers; leaves the changed image behind, and the same
+ * in the other format. Usage: header [--plain] IMAGE CHANGED CONVERTED. The same calls through the Rust wrapper must
+ * print the same. */
 #include <stdio.h>
 #include <stdlib.h>
 #include <string.h>
@@ -9,7 +10,8 @@
 /* What stands in an output before a call. */
 enum { UNTOUCHED = 77 };
 
-static uint8_t image[8192 * 1056];
+static uint32_t format = PS2CARD_RAW;
+static uint8_t image[PS2CARD_MOST_BYTES], converted[PS2CARD_MOST_BYTES + 1];
 static size_t image_length;
 
 static const uint8_t time_of_change[8] = {0, 56, 34, 12, 29, 2, 0xD0, 0x07};
@@ -38,7 +40,7 @@ static void print_entry(const ps2card_entry *e) {
 static void check(void) {
     ps2card_counts c = {UNTOUCHED, UNTOUCHED, UNTOUCHED, UNTOUCHED};
     size_t page = UNTOUCHED;
-    uint32_t number = ps2card_check_counts(image, image_length, &page, &c);
+    uint32_t number = ps2card_check_counts(format, image, image_length, &page, &c);
     printf("check %lu %lu %lu %lu %lu %lu\n", (unsigned long)number, (unsigned long)page, (unsigned long)c.clusters,
            (unsigned long)c.free, (unsigned long)c.reached, (unsigned long)c.orphaned);
 }
@@ -48,7 +50,7 @@ static void find(const char *path) {
     size_t page = UNTOUCHED;
     uint32_t number;
     memset(&e, UNTOUCHED, sizeof e);
-    number = ps2card_find_entry(image, image_length, text(path), strlen(path), &page, &e);
+    number = ps2card_find_entry(format, image, image_length, text(path), strlen(path), &page, &e);
     printf("find %lu %lu %d %lu", (unsigned long)number, (unsigned long)page, ps2card_is_directory(&e),
            (unsigned long)ps2card_name_length(&e));
     print_entry(&e);
@@ -59,7 +61,7 @@ static void step(const char *path, uint32_t slot) {
     size_t page = UNTOUCHED;
     uint32_t found = UNTOUCHED, at = UNTOUCHED, number;
     memset(&e, UNTOUCHED, sizeof e);
-    number = ps2card_step_entry(image, image_length, text(path), strlen(path), slot, &page, &found, &at, &e);
+    number = ps2card_step_entry(format, image, image_length, text(path), strlen(path), slot, &page, &found, &at, &e);
     printf("step %lu %lu %lu %lu", (unsigned long)number, (unsigned long)page, (unsigned long)found, (unsigned long)at);
     print_entry(&e);
 }
@@ -69,7 +71,8 @@ static void read_some(const char *path, size_t offset) {
     size_t page = UNTOUCHED, count = UNTOUCHED;
     uint32_t number;
     memset(out, UNTOUCHED, sizeof out);
-    number = ps2card_read(image, image_length, text(path), strlen(path), offset, out, sizeof out, &page, &count);
+    number =
+        ps2card_read(format, image, image_length, text(path), strlen(path), offset, out, sizeof out, &page, &count);
     printf("read %lu %lu %lu ", (unsigned long)number, (unsigned long)page, (unsigned long)count);
     print_hex(out, sizeof out);
     printf("\n");
@@ -77,7 +80,7 @@ static void read_some(const char *path, size_t offset) {
 
 static void list(void) {
     static uint8_t out[65536];
-    size_t length = ps2card_list(image, image_length, out, sizeof out);
+    size_t length = ps2card_list(format, image, image_length, out, sizeof out);
     printf("list %lu\n%.*s", (unsigned long)length, (int)length, (const char *)out);
 }
 
@@ -88,34 +91,79 @@ static void told(const char *name, uint32_t number, size_t page) {
 static void create(const char *path, const uint8_t *time, const char *bytes) {
     size_t page = UNTOUCHED;
     told("create",
-         ps2card_create(image, image_length, text(path), strlen(path), time, text(bytes), strlen(bytes), &page), page);
+         ps2card_create(format, image, image_length, text(path), strlen(path), time, text(bytes), strlen(bytes), &page),
+         page);
 }
 
 static void replace(const char *path, const char *bytes) {
     size_t page = UNTOUCHED;
     told("replace",
-         ps2card_replace(image, image_length, text(path), strlen(path), time_of_change, text(bytes), strlen(bytes),
-                         &page),
+         ps2card_replace(format, image, image_length, text(path), strlen(path), time_of_change, text(bytes),
+                         strlen(bytes), &page),
          page);
 }
 
 static void delete_file(const char *path) {
     size_t page = UNTOUCHED;
-    told("delete", ps2card_delete(image, image_length, text(path), strlen(path), &page), page);
+    told("delete", ps2card_delete(format, image, image_length, text(path), strlen(path), &page), page);
 }
 
 static void make_dir(const char *path, const uint8_t *time) {
     size_t page = UNTOUCHED;
-    told("make_dir", ps2card_make_dir(image, image_length, text(path), strlen(path), time, &page), page);
+    told("make_dir", ps2card_make_dir(format, image, image_length, text(path), strlen(path), time, &page), page);
 }
 
 static void remove_dir(const char *path) {
     size_t page = UNTOUCHED;
-    told("remove_dir", ps2card_remove_dir(image, image_length, text(path), strlen(path), &page), page);
+    told("remove_dir", ps2card_remove_dir(format, image, image_length, text(path), strlen(path), &page), page);
+}
+
+/* The first bytes of the image in the other format, into so many bytes; prints also whether any byte was written. */
+static void convert(size_t length, size_t out_length) {
+    size_t page = UNTOUCHED, at = 0;
+    uint32_t number;
+    memset(converted, UNTOUCHED, sizeof converted);
+    if (format == PS2CARD_RAW) {
+        number = ps2card_to_plain(image, length, converted, out_length, &page);
+    } else {
+        number = ps2card_to_raw(image, length, converted, out_length);
+    }
+    while (at < sizeof converted && converted[at] == UNTOUCHED) {
+        at++;
+    }
+    printf("convert %lu %lu %d\n", (unsigned long)number, (unsigned long)page, at < sizeof converted);
+}
+
+/* Lengths that are wrong, an unreadable page that nothing stands in, and at last the image as it is. */
+static size_t conversions(void) {
+    size_t bytes = format == PS2CARD_RAW ? 528 : 512, needed = image_length / bytes * (528 + 512 - bytes);
+    convert(0, 0);
+    convert(image_length - 1, needed);
+    convert(image_length, needed - 1);
+    convert(image_length, needed + 1);
+    convert(image_length, 0);
+    image[7 * bytes] ^= 3;
+    convert(image_length, needed - 1);
+    convert(image_length, needed);
+    image[7 * bytes] ^= 3;
+    convert(image_length, needed);
+    return needed;
+}
+
+static int leave(const char *name, const uint8_t *bytes, size_t length) {
+    FILE *file = fopen(name, "wb");
+    return file && fwrite(bytes, 1, length, file) == length && fclose(file) == 0;
 }
 
 int main(int count, char **words) {
-    FILE *file = count == 3 ? fopen(words[1], "rb") : NULL;
+    FILE *file;
+    size_t needed;
+    if (count == 5 && strcmp(words[1], "--plain") == 0) {
+        format = PS2CARD_PLAIN;
+        count--;
+        words++;
+    }
+    file = count == 4 ? fopen(words[1], "rb") : NULL;
     if (!file) {
         return 2;
     }
@@ -148,9 +196,6 @@ int main(int count, char **words) {
     remove_dir("/E");
     check();
     list();
-    file = fopen(words[2], "wb");
-    if (!file || fwrite(image, 1, image_length, file) != image_length || fclose(file) != 0) {
-        return 2;
-    }
-    return 0;
+    needed = conversions();
+    return leave(words[2], image, image_length) && leave(words[3], converted, needed) ? 0 : 2;
 }

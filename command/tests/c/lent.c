@@ -1,4 +1,5 @@
-/* What may be NULL: every call with NULL where a length is 0, beside the same call with a pointer to a byte of its own.
+/* What may be NULL: every call with NULL where a length is 0, beside the same call with a pointer to a byte of its own;
+ * and what is no format: every call with such a number, beside the same call with no image at all.
  * Usage: lent IMAGE. Prints a line for each pair: what was lent, and both answers, which must be equal. */
 #include <stdio.h>
 #include <string.h>
@@ -19,27 +20,28 @@ static void pair(const char *name, size_t with_null, size_t with_byte) {
 }
 
 /* The calls that look: a slice each of image and path, NULL or not. */
-static void looks(const uint8_t *im, size_t im_length, const uint8_t *path, size_t path_length,
+static void looks(uint32_t format, const uint8_t *im, size_t im_length, const uint8_t *path, size_t path_length,
                   size_t *answers) {
     ps2card_entry entry;
     ps2card_counts counts;
     size_t page = 0, count = 0;
     uint32_t found, at;
     uint8_t out[4];
-    answers[0] = ps2card_check_counts(im, im_length, &page, &counts);
-    answers[1] = ps2card_find_entry(im, im_length, path, path_length, &page, &entry);
-    answers[2] = ps2card_step_entry(im, im_length, path, path_length, 2, &page, &found, &at, &entry);
-    answers[3] = ps2card_read(im, im_length, path, path_length, 0, out, sizeof out, &page, &count);
-    answers[4] = ps2card_list(im, im_length, out, sizeof out);
+    answers[0] = ps2card_check_counts(format, im, im_length, &page, &counts);
+    answers[1] = ps2card_find_entry(format, im, im_length, path, path_length, &page, &entry);
+    answers[2] = ps2card_step_entry(format, im, im_length, path, path_length, 2, &page, &found, &at, &entry);
+    answers[3] = ps2card_read(format, im, im_length, path, path_length, 0, out, sizeof out, &page, &count);
+    answers[4] = ps2card_list(format, im, im_length, out, sizeof out);
 }
 
-static void changes(uint8_t *im, size_t im_length, const uint8_t *path, size_t path_length, size_t *answers) {
+static void changes(uint32_t format, uint8_t *im, size_t im_length, const uint8_t *path, size_t path_length,
+                    size_t *answers) {
     size_t page = 0;
-    answers[0] = ps2card_create(im, im_length, path, path_length, time_of_change, spare, 1, &page);
-    answers[1] = ps2card_replace(im, im_length, path, path_length, time_of_change, spare, 1, &page);
-    answers[2] = ps2card_delete(im, im_length, path, path_length, &page);
-    answers[3] = ps2card_make_dir(im, im_length, path, path_length, time_of_change, &page);
-    answers[4] = ps2card_remove_dir(im, im_length, path, path_length, &page);
+    answers[0] = ps2card_create(format, im, im_length, path, path_length, time_of_change, spare, 1, &page);
+    answers[1] = ps2card_replace(format, im, im_length, path, path_length, time_of_change, spare, 1, &page);
+    answers[2] = ps2card_delete(format, im, im_length, path, path_length, &page);
+    answers[3] = ps2card_make_dir(format, im, im_length, path, path_length, time_of_change, &page);
+    answers[4] = ps2card_remove_dir(format, im, im_length, path, path_length, &page);
 }
 
 static void pairs(const char *name, const size_t *with_null, const size_t *with_byte) {
@@ -51,41 +53,69 @@ static void pairs(const char *name, const size_t *with_null, const size_t *with_
 
 int main(int words_count, char **words) {
     FILE *input = words_count == 2 ? fopen(words[1], "rb") : NULL;
-    size_t a[5], b[5], page = 0, count = 77, no_count = 77;
+    size_t a[5], b[5], b_looks[5], page = 0, count = 77, no_count = 77, plain_length;
     uint8_t kept[sizeof spare];
     if (!input) {
         return 2;
     }
     image_length = fread(image, 1, sizeof image, input);
     fclose(input);
+    plain_length = image_length / PS2CARD_CLUSTER_BYTES * PS2CARD_PLAIN_CLUSTER_BYTES;
     memset(spare, 0xEE, sizeof spare);
     memcpy(kept, spare, sizeof spare);
 
-    looks(NULL, 0, root, sizeof root, a);
-    looks(spare, 0, root, sizeof root, b);
+    looks(PS2CARD_RAW, NULL, 0, root, sizeof root, a);
+    looks(PS2CARD_RAW, spare, 0, root, sizeof root, b);
     pairs("image", a, b);
-    changes(NULL, 0, root, sizeof root, a);
-    changes(spare, 0, root, sizeof root, b);
+    memcpy(b_looks, b, sizeof b);
+    changes(PS2CARD_RAW, NULL, 0, root, sizeof root, a);
+    changes(PS2CARD_RAW, spare, 0, root, sizeof root, b);
     pairs("changed_image", a, b);
-    looks(image, image_length, NULL, 0, a);
-    looks(image, image_length, spare, 0, b);
+    looks(PS2CARD_RAW, image, image_length, NULL, 0, a);
+    looks(PS2CARD_RAW, image, image_length, spare, 0, b);
     pairs("path", a, b);
-    changes(image, image_length, NULL, 0, a);
-    changes(image, image_length, spare, 0, b);
+    changes(PS2CARD_RAW, image, image_length, NULL, 0, a);
+    changes(PS2CARD_RAW, image, image_length, spare, 0, b);
     pairs("changed_path", a, b);
 
+    /* The other format, and what is none. */
+    looks(PS2CARD_PLAIN, NULL, 0, root, sizeof root, a);
+    looks(PS2CARD_PLAIN, spare, 0, root, sizeof root, b);
+    pairs("plain_image", a, b);
+    changes(PS2CARD_PLAIN, NULL, 0, root, sizeof root, a);
+    changes(PS2CARD_PLAIN, spare, 0, root, sizeof root, b);
+    pairs("changed_plain_image", a, b);
+    looks(2, image, image_length, root, sizeof root, a);
+    pairs("no_format", a, b_looks);
+    looks(UINT32_MAX, image, image_length, root, sizeof root, a);
+    pairs("no_format", a, b_looks);
+    changes(2, image, image_length, other, sizeof other, a);
+    pairs("changed_no_format", a, b);
+    changes(UINT32_MAX, image, image_length, other, sizeof other, a);
+    pairs("changed_no_format", a, b);
+
+    /* Conversions. */
+    pair("to_plain", ps2card_to_plain(NULL, 0, NULL, 0, &page), ps2card_to_plain(spare, 0, spare, 0, &page));
+    pair("to_raw", ps2card_to_raw(NULL, 0, NULL, 0), ps2card_to_raw(spare, 0, spare, 0));
+    pair("to_plain_out", ps2card_to_plain(image, image_length, NULL, 0, &page),
+         ps2card_to_plain(image, image_length, spare, 0, &page));
+    pair("to_raw_out", ps2card_to_raw(image, plain_length, NULL, 0), ps2card_to_raw(image, plain_length, spare, 0));
+
     /* Bytes and buffers of length 0, on a card that takes them. */
-    pair("create", ps2card_create(image, image_length, file, sizeof file, time_of_change, NULL, 0, &page),
-         ps2card_create(image, image_length, other, sizeof other, time_of_change, spare, 0, &page));
-    pair("replace", ps2card_replace(image, image_length, file, sizeof file, time_of_change, NULL, 0, &page),
-         ps2card_replace(image, image_length, other, sizeof other, time_of_change, spare, 0, &page));
-    pair("read", ps2card_read(image, image_length, file, sizeof file, 0, NULL, 0, &page, &no_count),
-         ps2card_read(image, image_length, other, sizeof other, 0, spare, 0, &page, &count));
+    pair("create", ps2card_create(PS2CARD_RAW, image, image_length, file, sizeof file, time_of_change, NULL, 0, &page),
+         ps2card_create(PS2CARD_RAW, image, image_length, other, sizeof other, time_of_change, spare, 0, &page));
+    pair("replace",
+         ps2card_replace(PS2CARD_RAW, image, image_length, file, sizeof file, time_of_change, NULL, 0, &page),
+         ps2card_replace(PS2CARD_RAW, image, image_length, other, sizeof other, time_of_change, spare, 0, &page));
+    pair("read", ps2card_read(PS2CARD_RAW, image, image_length, file, sizeof file, 0, NULL, 0, &page, &no_count),
+         ps2card_read(PS2CARD_RAW, image, image_length, other, sizeof other, 0, spare, 0, &page, &count));
     pair("count", no_count, count);
-    pair("list", ps2card_list(image, image_length, NULL, 0), ps2card_list(image, image_length, spare, 0));
-    pair("make_dir", ps2card_make_dir(image, image_length, directory, sizeof directory, time_of_change, &page), 0);
+    pair("list", ps2card_list(PS2CARD_RAW, image, image_length, NULL, 0),
+         ps2card_list(PS2CARD_RAW, image, image_length, spare, 0));
+    pair("make_dir",
+         ps2card_make_dir(PS2CARD_RAW, image, image_length, directory, sizeof directory, time_of_change, &page), 0);
     pair("read_directory",
-         ps2card_read(image, image_length, directory, sizeof directory, 0, NULL, 0, &page, &no_count),
-         ps2card_read(image, image_length, directory, sizeof directory, 0, spare, 0, &page, &count));
+         ps2card_read(PS2CARD_RAW, image, image_length, directory, sizeof directory, 0, NULL, 0, &page, &no_count),
+         ps2card_read(PS2CARD_RAW, image, image_length, directory, sizeof directory, 0, spare, 0, &page, &count));
     return differ || memcmp(kept, spare, sizeof spare) != 0;
 }

@@ -62,9 +62,10 @@ pub fn compiled_by(folder: &Folder, source: PathBuf, way: Way, before: &[&str], 
 pub struct Done(pub Output);
 
 impl Program {
-    /// Runs it on files of the folder.
-    pub fn run(&self, folder: &Folder, names: &[&str]) -> Done {
-        Done(Command::new(&self.0).args(names.iter().map(|name| folder.path(name))).output().expect("it runs"))
+    /// Runs it on files of the folder; an option stays what it is.
+    pub fn run(&self, folder: &Folder, words: &[&str]) -> Done {
+        let word = |&word: &&str| if word.starts_with("--") { PathBuf::from(word) } else { folder.path(word) };
+        Done(Command::new(&self.0).args(words.iter().map(word)).output().expect("it runs"))
     }
 }
 

@@ -13,7 +13,8 @@ use reader::build::{directory, file, Assembly, Layout};
 use reader::content::visit;
 use reader::entry::NO_CLUSTER;
 use reader::tree::Checked;
-use reader::{page, Refusal};
+use reader::Format::{Plain, Raw};
+use reader::{page, Format, Refusal};
 
 /// The time of the cards that the independent builder makes.
 pub const USUAL: &str = "2000-02-29T12:34:56";
@@ -62,20 +63,28 @@ impl Outcome {
     }
 }
 
-/// A folder that goes when the test is over.
-pub struct Folder(PathBuf);
+/// A folder that goes when the test is over. Its images are of one format, and the command is told so.
+pub struct Folder {
+    path: PathBuf,
+    format: Format,
+}
 
 impl Folder {
+    /// One for raw images.
     pub fn new() -> Folder {
+        Folder::of(Raw)
+    }
+
+    pub fn of(format: Format) -> Folder {
         static COUNT: AtomicUsize = AtomicUsize::new(0);
         let number = COUNT.fetch_add(1, Ordering::Relaxed);
         let path = Path::new(env!("CARGO_TARGET_TMPDIR")).join(format!("{}-{number}", std::process::id()));
         fs::create_dir_all(&path).expect("a folder");
-        Folder(path)
+        Folder { path, format }
     }
 
     pub fn path(&self, name: &str) -> PathBuf {
-        self.0.join(name)
+        self.path.join(name)
     }
 
     /// A file with these bytes; its path.
@@ -92,22 +101,26 @@ impl Folder {
     /// The names in it, sorted.
     pub fn names(&self) -> Vec<String> {
         let name = |entry: Result<fs::DirEntry, _>| entry.expect("an entry").file_name().into_string().expect("a name");
-        let mut names: Vec<String> = fs::read_dir(&self.0).expect("a folder").map(name).collect();
+        let mut names: Vec<String> = fs::read_dir(&self.path).expect("a folder").map(name).collect();
         names.sort();
         names
     }
 
     /// The command, in this folder, with these words.
     pub fn command(&self, words: &[&[u8]]) -> Command {
+        let mut words: Vec<&OsStr> = words.iter().map(|word| OsStr::from_bytes(word)).collect();
+        if self.format == Plain {
+            words.insert(1, OsStr::new("--plain"));
+        }
         let mut command = Command::new(env!("CARGO_BIN_EXE_ps2card"));
-        command.current_dir(&self.0).args(words.iter().map(|word| OsStr::from_bytes(word)));
+        command.current_dir(&self.path).args(words);
         command.stdin(Stdio::piped()).stdout(Stdio::piped()).stderr(Stdio::piped());
         command
     }
 
     /// A program of the host, in this folder.
     pub fn tool(&self, name: &str, words: &[&str]) -> Output {
-        Command::new(name).current_dir(&self.0).args(words).output().expect("it runs")
+        Command::new(name).current_dir(&self.path).args(words).output().expect("it runs")
     }
 
     pub fn start(&self, words: &[&[u8]]) -> Child {
@@ -147,7 +160,7 @@ impl Folder {
 
 impl Drop for Folder {
     fn drop(&mut self) {
-        let _ = fs::remove_dir_all(&self.0);
+        let _ = fs::remove_dir_all(&self.path);
     }
 }
 
@@ -156,23 +169,41 @@ pub fn raw_stamp(time: &[u8; 8]) -> String {
     time.iter().fold("0x".to_string(), |text, byte| text + &format!("{byte:02x}"))
 }
 
+/// The wrapper's word for a format.
+pub fn in_wrapper(format: Format) -> ps2card::Format {
+    match format {
+        Raw => ps2card::Format::Raw,
+        Plain => ps2card::Format::Plain,
+    }
+}
+
+/// The image of a raw one in a format.
+pub fn converted(format: Format, raw: &[u8]) -> Vec<u8> {
+    if format == Raw {
+        return raw.to_vec();
+    }
+    let mut plain = vec![0; raw.len() / Raw.page_bytes() * Plain.page_bytes()];
+    reader::to_plain(raw, &mut plain).expect("readable pages");
+    plain
+}
+
 /// The unreadable pages of every file, by path in tree order, as indices in the image; files without any too.
-pub fn unreadable_pages(image: &[u8]) -> Vec<(Vec<u8>, Vec<usize>)> {
-    let checked = Checked::of(image).expect("an accepted card");
+pub fn unreadable_pages(format: Format, image: &[u8]) -> Vec<(Vec<u8>, Vec<usize>)> {
+    let checked = Checked::of(format, image).expect("an accepted card");
     let mut files = Vec::new();
     visit(&checked.root, b"/", &mut |path, node| {
         if node.inside.is_none() {
             let pages = (0..(node.entry.length as usize).div_ceil(page::DATA))
                 .map(|index| checked.card.slot_page(&node.chain, index));
-            files.push((path.to_vec(), pages.filter(|&page| page::read(image, page).is_none()).collect()));
+            files.push((path.to_vec(), pages.filter(|&page| page::read(format, image, page).is_none()).collect()));
         }
     });
     files
 }
 
-/// A card with so many empty files in the directory `/SAVE`, `file0000` and on; an even number.
+/// A raw card with so many empty files in the directory `/SAVE`, `file0000` and on; an even number.
 pub fn crowd(entries: usize) -> Vec<u8> {
-    let mut card = Assembly::new(Layout::standard());
+    let mut card = Assembly::new(Raw, Layout::standard());
     card.directory(&[0, 1], 3);
     let chain: Vec<usize> = (2..2 + (entries + 2) / 2).collect();
     card.put(1, 0, &directory(b"SAVE", entries as u32 + 2, chain[0] as u32));

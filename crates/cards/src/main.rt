@@ -1,4 +1,5 @@
 // Lists every card of its data folder, as `list` does: good ones, worn ones, and one for each refusal.
+use page::Format;
 
 // As `list` has it.
 const MOST_BYTES: usize = 59136;
@@ -7,7 +8,7 @@ const ROOM: usize = 16384;
 
 fn show(image: &[u8]) {
     let mut text = [0u8; ROOM];
-    let length = listing::list(image, &mut text);
+    let length = listing::list(Format::Raw, image, &mut text);
     io::write_all(1, listing::written(&text, length));
 }
 

@@ -7,10 +7,11 @@ use native.Mathlib.Decide.{decLt}
 use native.Mathlib.Omega.{arith}
 use borrow.Author.Tests.{leb-false, leb-true}
 use lib.ListN.{getD, length, length-append}
+use Rattle.page.specs.declared.Format.{Format}
 use Rattle.layout.specs.declared.Superblock.{Superblock}
 use Rattle.layout.specs.See.{checkImage, see}
 use Rattle.layout.specs.Table.{openCard, tableOf}
-use Rattle.layout.proofs.OpenFacts.{open-facts}
+use Rattle.layout.proofs.OpenFacts.{open-facts, own-format}
 use Rattle.layout.proofs.TableLaws.{length-table}
 use Rattle.tree.specs.declared.along.Place.{Place}
 use Rattle.tree.specs.declared.along.Place.the-variants as place
@@ -48,18 +49,18 @@ use Rattle.change.proofs.FreeLaws as free
 use Rattle.change.proofs.SiteFacts.{last-is}
 use Rattle.change.proofs.Sites.{Site}
 
-module _ (image : List ℕ) (s : Superblock) (root : Root) (m : Marks) (checked : checkImage image ≡ ok (s, root, m)) where
-  opened : openCard image ≡ ok s
-  opened = (checked-parts image s root m checked) .0
+module _ (format : Format) (image : List ℕ) (s : Superblock) (root : Root) (m : Marks) (checked : checkImage format image ≡ ok (s, root, m)) where
+  opened : openCard format image ≡ ok s
+  opened = (checked-parts format image s root m checked) .0
 
   holds : HoldsCard (see s image) root
-  holds = (check-holds (see s image) root m ((checked-parts image s root m checked) .1)) .0
+  holds = (check-holds (see s image) root m ((checked-parts format image s root m checked) .1)) .0
 
   pub end-few : s .end ≤ 8192
-  end-few = let g = open-facts image s opened in omega (arith, g .room, g .most)
+  end-few = let g = open-facts format image s opened in omega (arith, g .room, g .most)
 
   free-few : length (freeList (tableOf image s)) ≤ 8192
-  free-few = free.free-few image (tableOf image s) s opened (length-table image s)
+  free-few = free.free-few format image (tableOf image s) s opened (length-table image s)
 
   module _ (p : Path) (here : EntryAt) (site : Site (see s image) (tableOf image s) root p here) where
     -- the chain's clusters are allocatable ones, each once
@@ -67,7 +68,7 @@ module _ (image : List ℕ) (s : Superblock) (root : Root) (m : Marks) (checked 
     chain-reached c = omega (arith, (tree.site (see s image) root holds (parent p) (entryOf (here .page)) (site .chain) (site .slots) (site .found-so)) .own c)
 
     chain-low : (c : ℕ) → s .end ≤ c → times (site .chain) c ≡ 0
-    chain-low c h = omega (arith, chain-reached c, card-used (see s image) root holds c (no-words image s opened c (omega (arith, end-is image s opened))))
+    chain-low c h = omega (arith, chain-reached c, card-used (see s image) root holds c (no-words format image s opened c (omega (arith, end-is format image s opened))))
 
     chain-few : length (site .chain) ≤ s .end
     chain-few = few (s .end) (site .chain) (λ c. omega (arith, chain-reached c, holds .once c)) chain-low
@@ -82,7 +83,7 @@ module _ (image : List ℕ) (s : Superblock) (root : Root) (m : Marks) (checked 
         go (yes l) = omega (arith, end-few)
         go (no l) =
             absurd
-            (let e = last-is image s opened root p here site in
+            (let e = last-is format image s opened root p here site in
             let z : times (here .first ∷ site .rest) (lastOf (tableOf image s) here) ≡ 0 = ap (λ cs. times cs (lastOf (tableOf image s) here)) (sym (site .starts)) ∙ chain-low (lastOf (tableOf image s) here) (omega arith) in
             let y : 1 ≤ times (here .first ∷ site .rest) (lastOf (tableOf image s) here) = rw e (last-times (here .first) (site .rest)) in
             omega arith)
@@ -126,7 +127,7 @@ module _ (image : List ℕ) (s : Superblock) (root : Root) (m : Marks) (checked 
   module _ (c : Change) (fine : static c ≡ 0) (creating : creates c ≡ true) (lacking : (g : Found) → own c g ≡ mustLack g) (here : EntryAt)
       (site : Site (see s image) (tableOf image s) root (path c) here) (new : NewEntry) (dead-is : new .dead ≡ deadOf (see s image) (tableOf image s) here) (time bytes : List ℕ)
       (many : size c ≡ clustersFor (length bytes)) (few-bytes : clustersFor (length bytes) ≤ 8192 → new .count < wordLimit)
-      (does : lookIn (site .slots) (lastName (path c) ∷ []) ≡ absent → needOf here (new .dead) bytes ≤ length (freeList (tableOf image s)) → Adds image s here c new time (lastName (path c)) bytes) where
+      (does : lookIn (site .slots) (lastName (path c) ∷ []) ≡ absent → needOf here (new .dead) bytes ≤ length (freeList (tableOf image s)) → Adds format image s here c new time (lastName (path c)) bytes) where
     at-dead : DeadAt (entryPages (Slot.directory (entryOf (here .page)) (site .chain))) (site .slots) (new .dead)
     at-dead = rw dead-is (dead-so (path c) here site)
 
@@ -136,7 +137,7 @@ module _ (image : List ℕ) (s : Superblock) (root : Root) (m : Marks) (checked 
     pub can-add : placeOf (see s image) (tableOf image s) here (lastName (path c)) ≡ place.Nowhere → CanAdd s image (tableOf image s) here new time (lastName (path c)) bytes
     can-add lacks =
         record {
-          card = record { opened = opened; long = length-table image s };
+          card = record { opened = own-format format image s opened; long = length-table image s };
           some-entries = omega (arith, site .two);
           few-entries = omega (arith, entries-few (path c) here site);
           low-last = last-low (path c) here site;
@@ -146,16 +147,16 @@ module _ (image : List ℕ) (s : Superblock) (root : Root) (m : Marks) (checked 
         }
 
     judged : placeOf (see s image) (tableOf image s) here (lastName (path c)) ≡ place.Nowhere → (b : Bool) → enough (tableOf image s) (needOf here (new .dead) bytes) ≡ b
-        → pickOutcome b (doneWith (addedImage s image (tableOf image s) here new time (lastName (path c)) bytes)) (refusedBy 12 image) ≡ changed c image
+        → pickOutcome b (doneWith (addedImage s image (tableOf image s) here new time (lastName (path c)) bytes)) (refusedBy 12 image) ≡ changed format c image
     judged l true e = sym ((does (absent-so (path c) here site l) (room-for e)) .done)
     judged l false e =
-        sym (added-full image s root m checked c fine here site creating (new .dead) at-dead (lacking _ ∙ ap mustLack (absent-so (path c) here site l))
+        sym (added-full format image s root m checked c fine here site creating (new .dead) at-dead (lacking _ ∙ ap mustLack (absent-so (path c) here site l))
         (omega (arith, many, leb-false (needOf here (new .dead) bytes) (length (freeList (tableOf image s))) e)))
 
     pub added-at : (x : Place) → placeOf (see s image) (tableOf image s) here (lastName (path c)) ≡ x
-        → unlessThere s image (tableOf image s) x (added s image (tableOf image s) here new time (lastName (path c)) bytes) ≡ changed c image
+        → unlessThere s image (tableOf image s) x (added s image (tableOf image s) here new time (lastName (path c)) bytes) ≡ changed format c image
     added-at place.Nowhere e = judged e (enough (tableOf image s) (needOf here (new .dead) bytes)) refl
-    added-at (place.At k q) e = sym (added-exists image s root m checked c fine here site creating (new .dead) at-dead 10 (lacking _ ∙ exists-11 (path c) here site k q e))
+    added-at (place.At k q) e = sym (added-exists format image s root m checked c fine here site creating (new .dead) at-dead 10 (lacking _ ∙ exists-11 (path c) here site k q e))
 
   -- ---- the two creations
   module _ (p : Path) (here : EntryAt) (site : Site (see s image) (tableOf image s) root p here) (time bytes : List ℕ) where
@@ -171,25 +172,25 @@ module _ (image : List ℕ) (s : Superblock) (root : Root) (m : Marks) (checked 
     pub can-create : static (create p time bytes) ≡ 0 → CanAddIn s image (tableOf image s) here false (lastName p) time bytes
     can-create fine directory lacks =
         can-add (create p time bytes) fine refl (λ g. refl) here site (newOf false bytes dead) refl time bytes refl (λ few. omega arith)
-        (λ l room. create-done image s root m checked p time here site dead (dead-so p here site) l bytes fine room) lacks
+        (λ l room. create-done format image s root m checked p time here site dead (dead-so p here site) l bytes fine room) lacks
 
     pub created-here : isDirectory (entryOf (here .page)) ≡ true → static (create p time bytes) ≡ 0
-        → addedIn s image (tableOf image s) here false (lastName p) time bytes ≡ changed (create p time bytes) image
+        → addedIn s image (tableOf image s) here false (lastName p) time bytes ≡ changed format (create p time bytes) image
     unfolding addedIn
     created-here directory fine =
         rw directory
         (added-at (create p time bytes) fine refl (λ g. refl) here site (newOf false bytes dead) refl time bytes refl (λ few. omega arith)
-        (λ l room. create-done image s root m checked p time here site dead (dead-so p here site) l bytes fine room) (placeOf (see s image) (tableOf image s) here (lastName p)) refl)
+        (λ l room. create-done format image s root m checked p time here site dead (dead-so p here site) l bytes fine room) (placeOf (see s image) (tableOf image s) here (lastName p)) refl)
 
     pub can-make : static (makeDirectory p time) ≡ 0 → CanAddIn s image (tableOf image s) here true (lastName p) time bytes
     can-make fine directory lacks =
         can-add (makeDirectory p time) fine refl (λ g. refl) here site (newOf true bytes dead) refl time dots (sym one) (λ few. omega arith)
-        (λ l room. make-done image s root m checked p time here site dead (dead-so p here site) l bytes fine room) lacks
+        (λ l room. make-done format image s root m checked p time here site dead (dead-so p here site) l bytes fine room) lacks
 
     pub made-here : isDirectory (entryOf (here .page)) ≡ true → static (makeDirectory p time) ≡ 0
-        → addedIn s image (tableOf image s) here true (lastName p) time bytes ≡ changed (makeDirectory p time) image
+        → addedIn s image (tableOf image s) here true (lastName p) time bytes ≡ changed format (makeDirectory p time) image
     unfolding addedIn
     made-here directory fine =
         rw directory
         (added-at (makeDirectory p time) fine refl (λ g. refl) here site (newOf true bytes dead) refl time dots (sym one) (λ few. omega arith)
-        (λ l room. make-done image s root m checked p time here site dead (dead-so p here site) l bytes fine room) (placeOf (see s image) (tableOf image s) here (lastName p)) refl)
+        (λ l room. make-done format image s root m checked p time here site dead (dead-so p here site) l bytes fine room) (placeOf (see s image) (tableOf image s) here (lastName p)) refl)

@@ -6,6 +6,7 @@ use mathlib.Core.Option.{some}
 use mathlib.Core.Path.{_∙_, _≡_, ap, ap₂, sym}
 use lib.ListN.{drop, getD, length, take}
 use lib.Seq.{length-take-le}
+use Rattle.page.specs.declared.Format.{Format}
 use Rattle.layout.specs.declared.Superblock.{Superblock}
 use Rattle.layout.specs.See.{see}
 use Rattle.layout.specs.Table.{openCard, tableOf}
@@ -27,7 +28,7 @@ use Rattle.change.specs.Words.{freeList}
 use Rattle.change.proofs.AddPlans.{DeadAt, growth-is, length-is, page-is}
 use Rattle.change.proofs.Sites.{Site, directoryAt}
 
-module _ (image : List ℕ) (s : Superblock) (opened : openCard image ≡ ok s) (root : Root) (p : Path) (here : EntryAt)
+module _ (format : Format) (image : List ℕ) (s : Superblock) (opened : openCard format image ≡ ok s) (root : Root) (p : Path) (here : EntryAt)
     (site : Site (see s image) (tableOf image s) root p here) (dead : Place) (d : DeadAt (entryPages (Slot.directory (entryOf (here .page)) (site .chain))) (site .slots) dead)
     (last-is : clusterAt (tableOf image s) (here .first) ((entryOf (here .page)) .length - 1) ≡ getD (site .chain) (length (site .chain) - 1) 0)
     (free-is : freeClusters (rulesOf s) (see s image) ≡ freeList (tableOf image s)) where

@@ -8,6 +8,7 @@ use native.Mathlib.Omega.{arith}
 use borrow.Author.Tests.{le-leb, lt-leb}
 use lib.Dec.{leb}
 use lib.ListN.{getD, length, length-append, length-take}
+use Rattle.page.specs.declared.Format.{Format}
 use Rattle.layout.specs.declared.Superblock.{Superblock}
 use Rattle.layout.specs.See.{checkImage, see}
 use Rattle.layout.specs.Table.{openCard, tableOf}
@@ -48,22 +49,22 @@ use Rattle.change.proofs.SiteRefusals.{refusal-here}
 use Rattle.change.proofs.Sites.{Site, directoryAt}
 
 -- what the code does of an accepted creation
-pub record Adds (image : List ℕ) (s : Superblock) (here : EntryAt) (c : Change) (new : NewEntry) (time name bytes : List ℕ) : Type 0 where
+pub record Adds (format : Format) (image : List ℕ) (s : Superblock) (here : EntryAt) (c : Change) (new : NewEntry) (time name bytes : List ℕ) : Type 0 where
   pub lands : Lands (s .end) (addedWrites (tableOf image s) here new time name bytes)
-  pub done : changed c image ≡ doneWith (addedImage s image (tableOf image s) here new time name bytes)
+  pub done : changed format c image ≡ doneWith (addedImage s image (tableOf image s) here new time name bytes)
 
 -- what is learnt of an accepted plan
-module _ (image : List ℕ) (s : Superblock) (root : Root) (m : Marks) (checked : checkImage image ≡ ok (s, root, m)) where
-  opened : openCard image ≡ ok s
-  opened = (checked-parts image s root m checked) .0
+module _ (format : Format) (image : List ℕ) (s : Superblock) (root : Root) (m : Marks) (checked : checkImage format image ≡ ok (s, root, m)) where
+  opened : openCard format image ≡ ok s
+  opened = (checked-parts format image s root m checked) .0
 
   holds : HoldsCard (see s image) root
-  holds = (check-holds (see s image) root m ((checked-parts image s root m checked) .1)) .0
+  holds = (check-holds (see s image) root m ((checked-parts format image s root m checked) .1)) .0
 
   pub deed-of : (c : Change) → refusal (rulesOf s) c (see s image) root ≡ 0 → (plan : Plan) → planOf (rulesOf s) c (see s image) root ≡ some plan → Deed (rulesOf s) (see s image) root plan
   deed-of c met plan planned =
       let o : Outcome (rulesOf s) (see s image) root c =
-      acts (rulesOf s) (see s image) root holds (no-words image s opened) c (refusal-accepts (rulesOf s) (see s image) root holds c met) in
+      acts (rulesOf s) (see s image) root holds (no-words format image s opened) c (refusal-accepts (rulesOf s) (see s image) root holds c met) in
       subst (Deed (rulesOf s) (see s image) root) (some-same _ _ (sym (o .planned) ∙ planned)) (o .deed)
 
   module _ (c : Change) (fine : static c ≡ 0) (here : EntryAt) (site : Site (see s image) (tableOf image s) root (path c) here) where
@@ -78,17 +79,17 @@ module _ (image : List ℕ) (s : Superblock) (root : Root) (m : Marks) (checked 
       added-refusal : refusal (rulesOf s) c (see s image) root
           ≡ first (own c (lookIn (site .slots) (lastName (path c) ∷ []))) (cond (leb (size c + growthBy dead (entriesOf here)) (length (freeList (tableOf image s)))) 0 12)
       added-refusal =
-          refusal-here image s root c here site fine (free-is image s opened)
+          refusal-here image s root c here site fine (free-is format image s opened)
           ∙ ap (λ n. first (own c (lookIn (site .slots) (lastName (path c) ∷ []))) (cond (leb n (length (freeList (tableOf image s)))) 0 12)) need-is
 
       -- refused by what stands at the name
-      pub added-exists : (n : ℕ) → own c (lookIn (site .slots) (lastName (path c) ∷ [])) ≡ suc n → changed c image ≡ record { answer = fault (suc n) 0; image = image }
-      added-exists n e = (refuses image s root m checked c n (added-refusal ∙ rw e)) .0
+      pub added-exists : (n : ℕ) → own c (lookIn (site .slots) (lastName (path c) ∷ [])) ≡ suc n → changed format c image ≡ record { answer = fault (suc n) 0; image = image }
+      added-exists n e = (refuses format image s root m checked c n (added-refusal ∙ rw e)) .0
 
       -- refused for want of room
       pub added-full : own c (lookIn (site .slots) (lastName (path c) ∷ [])) ≡ 0 → length (freeList (tableOf image s)) < size c + growthBy dead (entriesOf here)
-          → changed c image ≡ record { answer = fault 12 0; image = image }
-      added-full e l = (refuses image s root m checked c 11 (added-refusal ∙ rw (e, lt-leb _ _ l))) .0
+          → changed format c image ≡ record { answer = fault 12 0; image = image }
+      added-full e l = (refuses format image s root m checked c 11 (added-refusal ∙ rw (e, lt-leb _ _ l))) .0
 
       -- accepted, with a filling that is a new entry
       module _ (free : own c (lookIn (site .slots) (lastName (path c) ∷ [])) ≡ 0) (room : size c + growthBy dead (entriesOf here) ≤ length (freeList (tableOf image s)))
@@ -108,7 +109,7 @@ module _ (image : List ℕ) (s : Superblock) (root : Root) (m : Marks) (checked 
         written : pageWrites (see s image) (made (rulesOf s) (see s image) (directoryAt here (site .chain)) (adding (directoryAt here (site .chain)) (site .slots) (clustersFor (length bytes)) f))
             ≡ addedWrites (tableOf image s) here (record { mode = mode; count = count; dead = dead }) time name bytes
         written =
-            added-writes image s opened root (path c) here site dead d (last-of-chain image s opened root (path c) here site) (free-is image s opened)
+            added-writes format image s opened root (path c) here site dead d (last-of-chain format image s opened root (path c) here site) (free-is format image s opened)
             (omega arith) f mode count time name bytes pages new entry
 
         worded : (x : ℕ) → x < s .end → wordsAfter (made (rulesOf s) (see s image) (directoryAt here (site .chain)) (adding (directoryAt here (site .chain)) (site .slots) (clustersFor (length bytes)) f)) (λ c. getD (tableOf image s) c 0) x
@@ -118,13 +119,13 @@ module _ (image : List ℕ) (s : Superblock) (root : Root) (m : Marks) (checked 
             ∙ ap (λ cs. chainWords (cs ++ growthOf (tableOf image s) here dead) (chainWords (takenOf (tableOf image s) here dead bytes) (λ c. getD (tableOf image s) c 0)) x) (site .starts)
             ∙ same-words (see s image) (tableOf image s) (λ c. refl) (here .first) (site .rest) [] (takenOf (tableOf image s) here dead bytes) 0 (rw (site .starts) at (site .linked)) tt
             (λ c. omega (arith, apart c)) (growthOf (tableOf image s) here dead) (lastOf (tableOf image s) here) (omega (arith, length-take (growthBy dead (entriesOf here)) (freeList (tableOf image s)), growth-small dead (entriesOf here)))
-            (λ c. omega (arith, apart c)) (last-is image s opened root (path c) here site) x (omega (arith, length-table image s))
+            (λ c. omega (arith, apart c)) (last-is format image s opened root (path c) here site) x (omega (arith, length-table image s))
           where
             grown : growthClusters (rulesOf s) (see s image) (growthWithOne (entryOf (here .page)) (site .slots)) ≡ growthOf (tableOf image s) here dead
-            grown = grown-so image s opened root (path c) here site dead d (last-of-chain image s opened root (path c) here site) (free-is image s opened)
+            grown = grown-so format image s opened root (path c) here site dead d (last-of-chain format image s opened root (path c) here site) (free-is format image s opened)
 
             own-is : ownClusters (rulesOf s) (see s image) (growthWithOne (entryOf (here .page)) (site .slots)) (clustersFor (length bytes)) ≡ takenOf (tableOf image s) here dead bytes
-            own-is = own-so image s opened root (path c) here site dead d (last-of-chain image s opened root (path c) here site) (free-is image s opened) bytes
+            own-is = own-so format image s opened root (path c) here site dead d (last-of-chain format image s opened root (path c) here site) (free-is format image s opened) bytes
 
             apart : (c : ℕ) → times (here .first ∷ site .rest) c + (times (takenOf (tableOf image s) here dead bytes) c + times (growthOf (tableOf image s) here dead) c) ≤ 1
             apart c =
@@ -137,22 +138,22 @@ module _ (image : List ℕ) (s : Superblock) (root : Root) (m : Marks) (checked 
                   ap (λ cs. times cs c) grown,
                 )
 
-        pub adds : Adds image s here c (record { mode = mode; count = count; dead = dead }) time name bytes
+        pub adds : Adds format image s here c (record { mode = mode; count = count; dead = dead }) time name bytes
         adds =
             record {
-              lands = lands-as image s root m checked c none-met _ plan-so _ written;
-              done = done-as image s root m checked c none-met _ plan-so _ written (addedTable (tableOf image s) here dead bytes) worded;
+              lands = lands-as format image s root m checked c none-met _ plan-so _ written;
+              done = done-as format image s root m checked c none-met _ plan-so _ written (addedTable (tableOf image s) here dead bytes) worded;
             }
 
 -- ---- the two creations
-module _ (image : List ℕ) (s : Superblock) (root : Root) (m : Marks) (checked : checkImage image ≡ ok (s, root, m)) (p : Path) (time : List ℕ) (here : EntryAt)
+module _ (format : Format) (image : List ℕ) (s : Superblock) (root : Root) (m : Marks) (checked : checkImage format image ≡ ok (s, root, m)) (p : Path) (time : List ℕ) (here : EntryAt)
     (site : Site (see s image) (tableOf image s) root p here) (dead : Place) (d : DeadAt (entryPages (Slot.directory (entryOf (here .page)) (site .chain))) (site .slots) dead)
     (absent-so : lookIn (site .slots) (lastName p ∷ []) ≡ absent) where
   pub create-done : (bytes : List ℕ) → static (create p time bytes) ≡ 0 → needOf here dead bytes ≤ length (freeList (tableOf image s))
-      → Adds image s here (create p time bytes) (newOf false bytes dead) time (lastName p) bytes
+      → Adds format image s here (create p time bytes) (newOf false bytes dead) time (lastName p) bytes
   create-done bytes fine room =
-      adds image s root m checked (create p time bytes) fine here site refl dead d (rw absent-so) room (newFile (lastName p) time bytes) fileMode (length bytes) time (lastName p) bytes
-      refl (planned-at image s root m checked (create p time bytes) fine here site) (λ o. refl) (λ o. refl) (λ o. refl)
+      adds format image s root m checked (create p time bytes) fine here site refl dead d (rw absent-so) room (newFile (lastName p) time bytes) fileMode (length bytes) time (lastName p) bytes
+      refl (planned-at format image s root m checked (create p time bytes) fine here site) (λ o. refl) (λ o. refl) (λ o. refl)
 
   -- the first two entries of a new directory
   abbrev dot-page : ℕ → ℕ → List ℕ
@@ -177,11 +178,11 @@ module _ (image : List ℕ) (s : Superblock) (root : Root) (m : Marks) (checked 
       ∙ sym (two-pages (dot-page (here .first) (numberBy dead (entriesOf here))) up-page (length-new _) (length-new _))
 
   pub make-done : (bytes : List ℕ) → static (makeDirectory p time) ≡ 0 → needOf here dead (dotsOf (here .first) (numberBy dead (entriesOf here)) time) ≤ length (freeList (tableOf image s))
-      → Adds image s here (makeDirectory p time) (newOf true bytes dead) time (lastName p) (dotsOf (here .first) (numberBy dead (entriesOf here)) time)
+      → Adds format image s here (makeDirectory p time) (newOf true bytes dead) time (lastName p) (dotsOf (here .first) (numberBy dead (entriesOf here)) time)
   make-done bytes fine room =
       let f = newDirectory (lastName p) time (firstOf (site .chain)) (2 + firstDead (site .slots)) in
-      adds image s root m checked (makeDirectory p time) fine here site refl dead d (rw absent-so) (omega (arith, one-cluster)) f directoryMode 2 time (lastName p)
+      adds format image s root m checked (makeDirectory p time) fine here site refl dead d (rw absent-so) (omega (arith, one-cluster)) f directoryMode 2 time (lastName p)
       (dotsOf (here .first) (numberBy dead (entriesOf here)) time) (sym one-cluster)
-      (planned-at image s root m checked (makeDirectory p time) fine here site
+      (planned-at format image s root m checked (makeDirectory p time) fine here site
       ∙ ap (λ k. some (made (rulesOf s) (see s image) (directoryAt here (site .chain)) (adding (directoryAt here (site .chain)) (site .slots) k f))) (sym one-cluster))
       filled (λ o. refl) (λ o. refl)

@@ -9,6 +9,7 @@ use native.Mathlib.Omega.{arith}
 use borrow.Author.Tests.{le-leb, lt-leb, lt-ltb, ltb-true}
 use lib.Dec.{eqb, leb, ltb}
 use lib.ListN.{length}
+use Rattle.page.specs.declared.Format.{Format}
 use Rattle.fields.specs.PathBytes.{nameAt, pathOf, splitNames}
 use Rattle.layout.specs.declared.Superblock.{Superblock}
 use Rattle.layout.specs.See.{checkImage, see}
@@ -108,19 +109,19 @@ way-second : (y : Rules) (c : Change) (v : View) (root : Root) (n : ℕ) → sta
 unfolding refusal
 way-second y c v root n fine e = rw (fine, e)
 
-module _ (image : List ℕ) (s : Superblock) (root : Root) (m : Marks) (checked : checkImage image ≡ ok (s, root, m)) where
+module _ (format : Format) (image : List ℕ) (s : Superblock) (root : Root) (m : Marks) (checked : checkImage format image ≡ ok (s, root, m)) where
   holds : HoldsCard (see s image) root
-  holds = (check-holds (see s image) root m ((checked-parts image s root m checked) .1)) .0
+  holds = (check-holds (see s image) root m ((checked-parts format image s root m checked) .1)) .0
 
   -- refused by path or time, and by a name on the way
-  pub static-refused : (c : Change) (n : ℕ) → static c ≡ suc n → changed c image ≡ refusedBy (suc n) image
-  static-refused c n e = (refuses image s root m checked c n met) .0
+  pub static-refused : (c : Change) (n : ℕ) → static c ≡ suc n → changed format c image ≡ refusedBy (suc n) image
+  static-refused c n e = (refuses format image s root m checked c n met) .0
     where
       met : refusal (rulesOf s) c (see s image) root ≡ suc n
       met = static-first (rulesOf s) c (see s image) root n e
 
-  pub way-refused : (c : Change) (n : ℕ) → static c ≡ 0 → way (lookUp root) (path c) ≡ suc n → changed c image ≡ refusedBy (suc n) image
-  way-refused c n fine e = (refuses image s root m checked c n (way-second (rulesOf s) c (see s image) root n fine e)) .0
+  pub way-refused : (c : Change) (n : ℕ) → static c ≡ 0 → way (lookUp root) (path c) ≡ suc n → changed format c image ≡ refusedBy (suc n) image
+  way-refused c n fine e = (refuses format image s root m checked c n (way-second (rulesOf s) c (see s image) root n fine e)) .0
 
   -- ---- in the directory that the names before the last lead to
   module _ (path′ : List ℕ) (names : Path) (k : ℕ) (parsed : pathOf path′ ≡ some names) (count : length names ≡ suc k) (a : Arrived)
@@ -132,14 +133,14 @@ module _ (image : List ℕ) (s : Superblock) (root : Root) (m : Marks) (checked 
     path-same kind.Delete time bytes = refl
     path-same kind.Remove time bytes = refl
 
-    refused-way : (K : Kind) (time bytes : List ℕ) (n : ℕ) → static (changeOf K names time bytes) ≡ 0 → way (lookUp root) names ≡ suc n → changed (changeOf K names time bytes) image ≡ refusedBy (suc n) image
+    refused-way : (K : Kind) (time bytes : List ℕ) (n : ℕ) → static (changeOf K names time bytes) ≡ 0 → way (lookUp root) names ≡ suc n → changed format (changeOf K names time bytes) image ≡ refusedBy (suc n) image
     refused-way K time bytes n fine w = way-refused (changeOf K names time bytes) n fine (ap (way (lookUp root)) (path-same K time bytes) ∙ w)
 
-    pub call-absent : (K : Kind) (time bytes : List ℕ) → static (changeOf K names time bytes) ≡ 0 → a .arrival ≡ arrival.Absent → changed (changeOf K names time bytes) image ≡ refusedBy 9 image
+    pub call-absent : (K : Kind) (time bytes : List ℕ) → static (changeOf K names time bytes) ≡ 0 → a .arrival ≡ arrival.Absent → changed format (changeOf K names time bytes) image ≡ refusedBy 9 image
     call-absent K time bytes fine e =
         refused-way K time bytes 8 fine (lookup.site-absent (see s image) (tableOf image s) (λ c. refl) (λ q. refl) root holds path′ names k parsed count a led e)
 
-    pub call-kind : (K : Kind) (time bytes : List ℕ) → static (changeOf K names time bytes) ≡ 0 → a .arrival ≡ arrival.WrongKind → changed (changeOf K names time bytes) image ≡ refusedBy 10 image
+    pub call-kind : (K : Kind) (time bytes : List ℕ) → static (changeOf K names time bytes) ≡ 0 → a .arrival ≡ arrival.WrongKind → changed format (changeOf K names time bytes) image ≡ refusedBy 10 image
     call-kind K time bytes fine e =
         refused-way K time bytes 9 fine (lookup.site-kind (see s image) (tableOf image s) (λ c. refl) (λ q. refl) root holds path′ names k parsed count a led e)
 
@@ -161,19 +162,19 @@ module _ (image : List ℕ) (s : Superblock) (root : Root) (m : Marks) (checked 
       no-directory kind.Remove time bytes f = rw f
 
       in-directory : (K : Kind) (time bytes : List ℕ) → static (changeOf K names time bytes) ≡ 0 → isDirectory (entryOf (a .page)) ≡ true
-          → changedIn s image (tableOf image s) (record { at = a .at; first = first; page = a .page }) (lastName names) time bytes K ≡ changed (changeOf K names time bytes) image
-      in-directory kind.Create time bytes fine d = created-here image s root m checked names (record { at = a .at; first = first; page = a .page }) (site-here d) time bytes d fine
-      in-directory kind.Make time bytes fine d = made-here image s root m checked names (record { at = a .at; first = first; page = a .page }) (site-here d) time bytes d fine
-      in-directory kind.Replace time bytes fine d = replaced-here image s root m checked names (record { at = a .at; first = first; page = a .page }) (site-here d) d time bytes fine
-      in-directory kind.Delete time bytes fine d = deleted-here image s root m checked names (record { at = a .at; first = first; page = a .page }) (site-here d) d time bytes fine
-      in-directory kind.Remove time bytes fine d = removed-here image s root m checked names (record { at = a .at; first = first; page = a .page }) (site-here d) d time bytes fine
+          → changedIn s image (tableOf image s) (record { at = a .at; first = first; page = a .page }) (lastName names) time bytes K ≡ changed format (changeOf K names time bytes) image
+      in-directory kind.Create time bytes fine d = created-here format image s root m checked names (record { at = a .at; first = first; page = a .page }) (site-here d) time bytes d fine
+      in-directory kind.Make time bytes fine d = made-here format image s root m checked names (record { at = a .at; first = first; page = a .page }) (site-here d) time bytes d fine
+      in-directory kind.Replace time bytes fine d = replaced-here format image s root m checked names (record { at = a .at; first = first; page = a .page }) (site-here d) d time bytes fine
+      in-directory kind.Delete time bytes fine d = deleted-here format image s root m checked names (record { at = a .at; first = first; page = a .page }) (site-here d) d time bytes fine
+      in-directory kind.Remove time bytes fine d = removed-here format image s root m checked names (record { at = a .at; first = first; page = a .page }) (site-here d) d time bytes fine
 
       pub call-in : (K : Kind) (time bytes : List ℕ) → static (changeOf K names time bytes) ≡ 0
-          → changedIn s image (tableOf image s) (record { at = a .at; first = first; page = a .page }) (nameAt path′ k) time bytes K ≡ changed (changeOf K names time bytes) image
+          → changedIn s image (tableOf image s) (record { at = a .at; first = first; page = a .page }) (nameAt path′ k) time bytes K ≡ changed format (changeOf K names time bytes) image
       call-in K time bytes fine = go (bool (isDirectory (entryOf (a .page))))
         where
           go : (isDirectory (entryOf (a .page)) ≡ true) ⊎ (isDirectory (entryOf (a .page)) ≡ false)
-              → changedIn s image (tableOf image s) (record { at = a .at; first = first; page = a .page }) (nameAt path′ k) time bytes K ≡ changed (changeOf K names time bytes) image
+              → changedIn s image (tableOf image s) (record { at = a .at; first = first; page = a .page }) (nameAt path′ k) time bytes K ≡ changed format (changeOf K names time bytes) image
           go (inl d) =
               ap (λ n. changedIn s image (tableOf image s) (record { at = a .at; first = first; page = a .page }) n time bytes K) last-so ∙ in-directory K time bytes fine d
           go (inr f) =
@@ -198,11 +199,11 @@ module _ (image : List ℕ) (s : Superblock) (root : Root) (m : Marks) (checked 
 
       can-here : (K : Kind) (time bytes : List ℕ) → static (changeOf K names time bytes) ≡ 0
           → CanChange s image (tableOf image s) (record { at = a .at; first = first; page = a .page }) (lastName names) time bytes K
-      can-here kind.Create time bytes fine = λ d l. can-create image s root m checked names (record { at = a .at; first = first; page = a .page }) (site-here d) time bytes fine d l
-      can-here kind.Make time bytes fine = λ d l. can-make image s root m checked names (record { at = a .at; first = first; page = a .page }) (site-here d) time bytes fine d l
-      can-here kind.Replace time bytes fine = edits action.Replace time bytes (λ d. can-replace image s root m checked names (record { at = a .at; first = first; page = a .page }) (site-here d) d time bytes fine)
-      can-here kind.Delete time bytes fine = edits action.Delete time bytes (λ d. can-delete image s root m checked names (record { at = a .at; first = first; page = a .page }) (site-here d) d time bytes fine)
-      can-here kind.Remove time bytes fine = edits action.Remove time bytes (λ d. can-remove image s root m checked names (record { at = a .at; first = first; page = a .page }) (site-here d) d time bytes fine)
+      can-here kind.Create time bytes fine = λ d l. can-create format image s root m checked names (record { at = a .at; first = first; page = a .page }) (site-here d) time bytes fine d l
+      can-here kind.Make time bytes fine = λ d l. can-make format image s root m checked names (record { at = a .at; first = first; page = a .page }) (site-here d) time bytes fine d l
+      can-here kind.Replace time bytes fine = edits action.Replace time bytes (λ d. can-replace format image s root m checked names (record { at = a .at; first = first; page = a .page }) (site-here d) d time bytes fine)
+      can-here kind.Delete time bytes fine = edits action.Delete time bytes (λ d. can-delete format image s root m checked names (record { at = a .at; first = first; page = a .page }) (site-here d) d time bytes fine)
+      can-here kind.Remove time bytes fine = edits action.Remove time bytes (λ d. can-remove format image s root m checked names (record { at = a .at; first = first; page = a .page }) (site-here d) d time bytes fine)
 
       pub call-can : (K : Kind) (time bytes : List ℕ) → static (changeOf K names time bytes) ≡ 0
           → CanChange s image (tableOf image s) (record { at = a .at; first = first; page = a .page }) (nameAt path′ k) time bytes K

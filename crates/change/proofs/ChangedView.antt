@@ -9,6 +9,7 @@ use native.Mathlib.Omega.{arith}
 use borrow.Author.Tests.{le-ltb, ltb-false, ltb-true}
 use lib.Dec.{ltb}
 use lib.ListN.{List·getD-eq-default, drop, getD, length}
+use Rattle.page.specs.declared.Format.{Format}
 use Rattle.page.specs.Page.{pageAt, pagesIn}
 use Rattle.page.proofs.Laws.{page-length}
 use Rattle.layout.specs.declared.Superblock.{Superblock}
@@ -38,9 +39,9 @@ links-ext : (end : ℕ) (f g : ℕ → ℕ) → ((c : ℕ) → c < end → f c �
 links-ext end f g h c =
     ⊎-elim (λ (e : ltb c end ≡ true). rw e (ap linkOf (h c (ltb-true c end e)))) (λ (e : ltb c end ≡ false). rw e) (bool (ltb c end))
 
-module _ (image : List ℕ) (s : Superblock) (opened : openCard image ≡ ok s) where
+module _ (format : Format) (image : List ℕ) (s : Superblock) (opened : openCard format image ≡ ok s) where
   abbrev pub facts : OpenFacts image s
-  facts = open-facts image s opened
+  facts = open-facts format image s opened
 
   -- on an open card the rules' alloc_end is the superblock's
   pub end-is : (rulesOf s) .allocEnd ≡ s .end
@@ -69,7 +70,7 @@ module _ (image : List ℕ) (s : Superblock) (opened : openCard image ≡ ok s) 
   table-aside : (t : ℕ) → t < 2 * tableClusters (s .end) → tablePage (namesOf image s) t / 2 ≡ s .indirect → ⊥
   table-aside t h e = facts .apart (t / 2) (omega arith) (omega arith)
 
-  room : 2 * (s .geometry .offset + s .end) ≤ pagesIn (length image)
+  room : 2 * (s .geometry .offset + s .end) ≤ pagesIn (s .geometry .format) (length image)
   room = omega (arith, facts .pages, facts .room)
 
   sized : (a : ℕ) → Sized ((see s image) .page a)
@@ -77,7 +78,7 @@ module _ (image : List ℕ) (s : Superblock) (opened : openCard image ≡ ok s) 
   sized a page e = go (bool (ltb a (2 * length (tableOf image s)))) e
     where
       go : (ltb a (2 * length (tableOf image s)) ≡ true) ⊎ (ltb a (2 * length (tableOf image s)) ≡ false) → (see s image) .page a ≡ some page → length page ≡ 512
-      go (inl i) e = page-length image (imagePage (s .geometry) a) page (rw i at e)
+      go (inl i) e = page-length (s .geometry .format) image (imagePage (s .geometry) a) page (rw i at e)
       go (inr i) e = absurd (let f : _≡_ {A = Option (List ℕ)} none (some page) = rw i at e in let z : _≡_ {A = ℕ} 0 1 = cc in omega arith)
 
   pub no-words : (c : ℕ) → (rulesOf s) .allocEnd ≤ c → (see s image) .link c ≡ Link.free
@@ -87,7 +88,7 @@ module _ (image : List ℕ) (s : Superblock) (opened : openCard image ≡ ok s) 
   word-small c = go (bool (ltb c (s .end)))
     where
       go : (ltb c (s .end) ≡ true) ⊎ (ltb c (s .end) ≡ false) → getD (tableOf image s) c 0 < 256 ^ 4
-      go (inl e) = rw (getD-table image s c (ltb-true c (s .end) e)) (little-4 (drop (4 * (c % 128)) (dataOf (pageAt image (tablePage (namesOf image s) (c / 128))))))
+      go (inl e) = rw (getD-table image s c (ltb-true c (s .end) e)) (little-4 (drop (4 * (c % 128)) (dataOf (pageAt (s .geometry .format) image (tablePage (namesOf image s) (c / 128))))))
       go (inr e) =
           let z : getD (tableOf image s) c 0 ≡ 0 = List·getD-eq-default (tableOf image s) 0 (omega (arith, length-table image s, ltb-false c (s .end) e)) in
           rw z (omega arith)
@@ -106,36 +107,36 @@ module _ (image : List ℕ) (s : Superblock) (opened : openCard image ≡ ok s) 
     abbrev between : List ℕ
     between = writePages (s .geometry) (pageWrites (see s image) p) image
 
-    low-kept : (q : ℕ) → q < 2 * s .geometry .offset → pageAt (writePages (s .geometry) (pageWrites (see s image) p) image) q ≡ pageAt image q
+    low-kept : (q : ℕ) → q < 2 * s .geometry .offset → pageAt (s .geometry .format) (writePages (s .geometry) (pageWrites (see s image) p) image) q ≡ pageAt (s .geometry .format) image q
     low-kept q h = writes.low-page-kept (s .geometry) (s .end) (pageWrites (see s image) p) image land q h
 
-    still-readable : (t : ℕ) → t < 2 * tableClusters (s .end) → Readable (writePages (s .geometry) (pageWrites (see s image) p) image) (tablePage (namesOf image s) t)
+    still-readable : (t : ℕ) → t < 2 * tableClusters (s .end) → Readable (s .geometry .format) (writePages (s .geometry) (pageWrites (see s image) p) image) (tablePage (namesOf image s) t)
     still-readable t h = let e = low-kept (tablePage (namesOf image s) t) (table-low t h) in rw e (facts .table-read t h)
 
-    table : Stored (namesOf image s) (s .end) (wordsAfter p (λ c. getD (tableOf image s) c 0)) (2 * tableClusters (s .end)) table-apart (2 * tableClusters (s .end))
+    table : Stored (s .geometry .format) (namesOf image s) (s .end) (wordsAfter p (λ c. getD (tableOf image s) c 0)) (2 * tableClusters (s .end)) table-apart (2 * tableClusters (s .end))
         (writePages (s .geometry) (pageWrites (see s image) p) image) (imageAfter s image p)
     unfolding imageAfter
-    table = stored (namesOf image s) (s .end) _ (2 * tableClusters (s .end)) table-apart _ still-readable (2 * tableClusters (s .end)) (omega arith)
+    table = stored (s .geometry .format) (namesOf image s) (s .end) _ (2 * tableClusters (s .end)) table-apart _ still-readable (2 * tableClusters (s .end)) (omega arith)
 
     pub length-after : length (imageAfter s image p) ≡ length image
     length-after = table .long ∙ writes.length-pages-written (s .geometry) (s .end) (pageWrites (see s image) p) image land
 
     -- pages below the allocatable clusters that are none of the table's
-    pub page-kept : (q : ℕ) → q < 2 * s .geometry .offset → ((t : ℕ) → t < 2 * tableClusters (s .end) → tablePage (namesOf image s) t ≡ q → ⊥) → pageAt (imageAfter s image p) q ≡ pageAt image q
+    pub page-kept : (q : ℕ) → q < 2 * s .geometry .offset → ((t : ℕ) → t < 2 * tableClusters (s .end) → tablePage (namesOf image s) t ≡ q → ⊥) → pageAt (s .geometry .format) (imageAfter s image p) q ≡ pageAt (s .geometry .format) image q
     page-kept q h n = table .other q n ∙ low-kept q h
 
-    first-kept : pageAt (imageAfter s image p) (2 * s .indirect) ≡ pageAt image (2 * s .indirect)
+    first-kept : pageAt (s .geometry .format) (imageAfter s image p) (2 * s .indirect) ≡ pageAt (s .geometry .format) image (2 * s .indirect)
     first-kept = page-kept (2 * s .indirect) (omega (arith, facts .indirect-below)) (λ t h e. table-aside t h (omega arith))
 
-    second-kept : pageAt (imageAfter s image p) (2 * s .indirect + 1) ≡ pageAt image (2 * s .indirect + 1)
+    second-kept : pageAt (s .geometry .format) (imageAfter s image p) (2 * s .indirect + 1) ≡ pageAt (s .geometry .format) image (2 * s .indirect + 1)
     second-kept = page-kept (2 * s .indirect + 1) (omega (arith, facts .indirect-below)) (λ t h e. table-aside t h (omega arith))
 
     pub names-after : namesOf (imageAfter s image p) s ≡ namesOf image s
     names-after = names-kept image (imageAfter s image p) s first-kept second-kept
 
-    pub open-after : openCard (imageAfter s image p) ≡ ok s
+    pub open-after : openCard format (imageAfter s image p) ≡ ok s
     open-after =
-        open-kept image (imageAfter s image p) s opened length-after
+        open-kept format image (imageAfter s image p) s opened length-after
         (page-kept 0 (omega (arith, facts .indirect-below)) (λ t h e. omega (arith, table-high t h)))
         first-kept second-kept (λ t h. rw (table .table t h) refl)
 
@@ -163,8 +164,8 @@ module _ (image : List ℕ) (s : Superblock) (opened : openCard image ≡ ok s) 
         word-after : (x : ℕ) → x < s .end → getD (tableOf (imageAfter s image p) s) x 0 ≡ wordsAfter p (λ x. getD (tableOf image s) x 0) x
         word-after x h =
             getD-table (imageAfter s image p) s x h
-            ∙ ap (λ n. tableWord (imageAfter s image p) n x) names-after
-            ∙ word-stored (namesOf image s) (s .end) _ (2 * tableClusters (s .end)) table-apart _ still-readable (imageAfter s image p) table x h (omega arith) (small x)
+            ∙ ap (λ n. tableWord (s .geometry .format) (imageAfter s image p) n x) names-after
+            ∙ word-stored (s .geometry .format) (namesOf image s) (s .end) _ (2 * tableClusters (s .end)) table-apart _ still-readable (imageAfter s image p) table x h (omega arith) (small x)
           where
             small : (x : ℕ) → wordsAfter p (λ x. getD (tableOf image s) x 0) x < 256 ^ 4
             small x =

@@ -1,4 +1,5 @@
 -- A change put down, step by step: the table's words linked anew, the pages written, and then the table's pages.
+use Rattle.page.specs.declared.Format.{Format}
 use Rattle.layout.specs.See.{imagePage}
 use Rattle.layout.specs.declared.Geometry.{Geometry}
 use Prim.Native.Nat.{ℕ, _*_, _+_, _<_, _≤_}
@@ -56,12 +57,12 @@ module _ (geometry : Geometry) (image : List ℕ) where
   no-zeros (g ∷ gs) h = absurd (omega arith)
 
   pub zeros-written : (growth : List ℕ) {at : ℕ} {zeros one both : List ℕ} → (length growth ≡ 0 → ⊥) → length growth ≤ 1 → zeros ≡ zeroPage
-      → at ≡ imagePage geometry (2 * getD growth 0 0) → one ≡ put true at zeros image → both ≡ put true (at + 1) zeros one
+      → at ≡ imagePage geometry (2 * getD growth 0 0) → one ≡ put (geometry .format) true at zeros image → both ≡ put (geometry .format) true (at + 1) zeros one
       → both ≡ writePages geometry (clusterWrites (pagesOf growth) (some zeroPage ∷ some zeroPage ∷ [])) image
   zeros-written [] h k z p e f = absurd (h refl)
   zeros-written (g ∷ []) {at} {zeros} {one} h k z p e f =
       let place : at + 1 ≡ imagePage geometry (2 * g + 1) = omega arith in
-      f ∙ ap₂ (λ (q : ℕ) (d : List ℕ). put true q d one) place z ∙ ap (put true (imagePage geometry (2 * g + 1)) zeroPage) (e ∙ ap₂ (λ (q : ℕ) (d : List ℕ). put true q d image) p z)
+      f ∙ ap₂ (λ (q : ℕ) (d : List ℕ). put (geometry .format) true q d one) place z ∙ ap (put (geometry .format) true (imagePage geometry (2 * g + 1)) zeroPage) (e ∙ ap₂ (λ (q : ℕ) (d : List ℕ). put (geometry .format) true q d image) p z)
   zeros-written (g ∷ h ∷ gs) n k z p e f = absurd (omega arith)
 
   -- growth, data, the directory's entry and the change's own, one after the other
@@ -90,30 +91,30 @@ entries-land end growth taken bytes directory own h =
     (both .0, both .2 .0)
 
 -- ---- the table after the pages: they lie behind the indirect cluster, so its names stay
-module _ (image : List ℕ) (s : Superblock) (opened : openCard image ≡ ok s) where
+module _ (format : Format) (image : List ℕ) (s : Superblock) (opened : openCard format image ≡ ok s) where
   pub opened-most : s .end ≤ mostClusters
-  opened-most = let facts = open-facts image s opened in omega (arith, facts .room, facts .most)
+  opened-most = let facts = open-facts format image s opened in omega (arith, facts .room, facts .most)
 
   module _ (ws : List PageWrite) (lands : Lands (s .end) ws) {after : List ℕ} (pages : after ≡ writePages (s .geometry) ws image) where
-    kept : (q : ℕ) → q < 2 * s .geometry .offset → pageAt after q ≡ pageAt image q
-    kept q h = ap (λ (i : List ℕ). pageAt i q) pages ∙ low-page-kept (s .geometry) (s .end) ws image lands q h
+    kept : (q : ℕ) → q < 2 * s .geometry .offset → pageAt (s .geometry .format) after q ≡ pageAt (s .geometry .format) image q
+    kept q h = ap (λ (i : List ℕ). pageAt (s .geometry .format) i q) pages ∙ low-page-kept (s .geometry) (s .end) ws image lands q h
 
-    first-kept : pageAt after (2 * s .indirect) ≡ pageAt image (2 * s .indirect)
-    first-kept = kept (2 * s .indirect) (omega (arith, (open-facts image s opened) .indirect-below))
+    first-kept : pageAt (s .geometry .format) after (2 * s .indirect) ≡ pageAt (s .geometry .format) image (2 * s .indirect)
+    first-kept = kept (2 * s .indirect) (omega (arith, (open-facts format image s opened) .indirect-below))
 
-    second-kept : pageAt after (2 * s .indirect + 1) ≡ pageAt image (2 * s .indirect + 1)
-    second-kept = kept (2 * s .indirect + 1) (omega (arith, (open-facts image s opened) .indirect-below))
+    second-kept : pageAt (s .geometry .format) after (2 * s .indirect + 1) ≡ pageAt (s .geometry .format) image (2 * s .indirect + 1)
+    second-kept = kept (2 * s .indirect + 1) (omega (arith, (open-facts format image s opened) .indirect-below))
 
-    pub first-readable : isSome (pageAt after (2 * s .indirect)) ≡ true
-    first-readable = ap isSome (first-kept ∙ (open-facts image s opened) .first-read)
+    pub first-readable : isSome (pageAt (s .geometry .format) after (2 * s .indirect)) ≡ true
+    first-readable = ap isSome (first-kept ∙ (open-facts format image s opened) .first-read)
 
-    pub second-readable : isSome (pageAt after (2 * s .indirect + 1)) ≡ true
-    second-readable = ap isSome (second-kept ∙ (open-facts image s opened) .second-read)
+    pub second-readable : isSome (pageAt (s .geometry .format) after (2 * s .indirect + 1)) ≡ true
+    second-readable = ap isSome (second-kept ∙ (open-facts format image s opened) .second-read)
 
     pub stored : (table : List ℕ) {whole : List ℕ}
-        → whole ≡ storeTable (namesOf after s) (s .end) (λ c. getD table c 0) (2 * tableClusters (s .end)) after → whole ≡ imageBy s image ws table
+        → whole ≡ storeTable (s .geometry .format) (namesOf after s) (s .end) (λ c. getD table c 0) (2 * tableClusters (s .end)) after → whole ≡ imageBy s image ws table
     stored table e =
-        e ∙ ap₂ (λ (names i : List ℕ). storeTable names (s .end) (λ c. getD table c 0) (2 * tableClusters (s .end)) i)
+        e ∙ ap₂ (λ (names i : List ℕ). storeTable (s .geometry .format) names (s .end) (λ c. getD table c 0) (2 * tableClusters (s .end)) i)
         (names-kept image after s first-kept second-kept) pages
 
 -- ---- what was put down, by other names for its pages and words

@@ -6,6 +6,7 @@ use mathlib.Core.Path.{_∙_, _≡_, ap, ap₂, fun-ext, refl, subst, sym}
 use native.Mathlib.Omega.{arith}
 use lib.ListN.{getD}
 use lib.Seq.{sets}
+use Rattle.page.specs.declared.Format.{Format}
 use Rattle.layout.specs.declared.Superblock.{Superblock}
 use Rattle.layout.specs.See.{checkImage, see}
 use Rattle.layout.specs.Table.{namesOf, tableClusters, tableOf, tablePage}
@@ -33,33 +34,33 @@ unfolding withWords
 words-ext f g first page zero h = refl
 words-ext f g first page (suc n) h = ap₂ (λ l w. sets l (4 * n) (littleBytes 4 w)) (words-ext f g first page n (λ i u. h i (omega arith))) (h n (omega arith))
 
-pub store-ext : (names : List ℕ) (end : ℕ) (f g : ℕ → ℕ) (k : ℕ) (image : List ℕ) → ((c : ℕ) → c < end → f c ≡ g c) → storeTable names end f k image ≡ storeTable names end g k image
+pub store-ext : (format : Format) (names : List ℕ) (end : ℕ) (f g : ℕ → ℕ) (k : ℕ) (image : List ℕ) → ((c : ℕ) → c < end → f c ≡ g c) → storeTable format names end f k image ≡ storeTable format names end g k image
 unfolding storeTable
-store-ext names end f g zero image h = refl
-store-ext names end f g (suc k) image h =
-    ap₂ (λ x l. alterPage (tablePage names k) x l) (fun-ext (λ page. words-ext f g (128 * k) page (wordsIn end k) (λ i u. h (128 * k + i) (omega arith)))) (store-ext names end f g k image h)
+store-ext format names end f g zero image h = refl
+store-ext format names end f g (suc k) image h =
+    ap₂ (λ x l. alterPage format (tablePage names k) x l) (fun-ext (λ page. words-ext f g (128 * k) page (wordsIn end k) (λ i u. h (128 * k + i) (omega arith)))) (store-ext format names end f g k image h)
 
 pub some-same : (a b : Plan) → _≡_ {A = Option Plan} (some a) (some b) → a ≡ b
 some-same a b e = cc
 
-module _ (image : List ℕ) (s : Superblock) (root : Root) (m : Marks) (checked : checkImage image ≡ ok (s, root, m)) (c : Change)
+module _ (format : Format) (image : List ℕ) (s : Superblock) (root : Root) (m : Marks) (checked : checkImage format image ≡ ok (s, root, m)) (c : Change)
     (none : refusal (rulesOf s) c (see s image) root ≡ 0) (plan : Plan) (planned : planOf (rulesOf s) c (see s image) root ≡ some plan)
     (writes : List PageWrite) (same-writes : pageWrites (see s image) plan ≡ writes) where
   pub lands-as : Lands (s .end) writes
   lands-as =
-      let parts = checked-parts image s root m checked in
+      let parts = checked-parts format image s root m checked in
       let holds = (check-holds (see s image) root m (parts .1)) .0 in
       let o : Outcome (rulesOf s) (see s image) root c =
-      acts (rulesOf s) (see s image) root holds (no-words image s (parts .0)) c (refusal-accepts (rulesOf s) (see s image) root holds c none) in
+      acts (rulesOf s) (see s image) root holds (no-words format image s (parts .0)) c (refusal-accepts (rulesOf s) (see s image) root holds c none) in
       let z : o .plan ≡ plan = some-same _ _ (sym (o .planned) ∙ planned) in
-      subst (Lands (s .end)) (ap (pageWrites (see s image)) z ∙ same-writes) (land image s (parts .0) root holds (o .plan) (o .deed))
+      subst (Lands (s .end)) (ap (pageWrites (see s image)) z ∙ same-writes) (land format image s (parts .0) root holds (o .plan) (o .deed))
 
   pub done-as : (table : List ℕ) → ((x : ℕ) → x < s .end → wordsAfter plan (λ c. getD (tableOf image s) c 0) x ≡ getD table x 0)
-      → changed c image ≡ record { answer = ok tt; image = imageBy s image writes table }
+      → changed format c image ≡ record { answer = ok tt; image = imageBy s image writes table }
   unfolding imageAfter
   done-as table words =
-      changed-is image s root m checked c
+      changed-is format image s root m checked c
       ∙ rw (none, planned)
       (ap (λ i. record { answer = ok tt; image = i })
-      (ap (λ w. storeTable (namesOf image s) (s .end) (wordsAfter plan (λ c. getD (tableOf image s) c 0)) (2 * tableClusters (s .end)) (writePages (s .geometry) w image)) same-writes
-      ∙ store-ext (namesOf image s) (s .end) _ (λ c. getD table c 0) (2 * tableClusters (s .end)) (writePages (s .geometry) writes image) words))
+      (ap (λ w. storeTable (s .geometry .format) (namesOf image s) (s .end) (wordsAfter plan (λ c. getD (tableOf image s) c 0)) (2 * tableClusters (s .end)) (writePages (s .geometry) w image)) same-writes
+      ∙ store-ext (s .geometry .format) (namesOf image s) (s .end) _ (λ c. getD table c 0) (2 * tableClusters (s .end)) (writePages (s .geometry) writes image) words))

@@ -8,9 +8,11 @@ use native.Mathlib.Omega.{arith}
 use borrow.Author.Tests.{leb-false, leb-true, ne-eqb}
 use lib.Dec.{eqb, leb→le}
 use lib.ListN.{getD, length}
+use Rattle.page.specs.declared.Format.{Format}
 use Rattle.layout.specs.declared.Superblock.{Superblock}
 use Rattle.layout.specs.See.{checkImage, see}
 use Rattle.layout.specs.Table.{tableOf}
+use Rattle.layout.proofs.OpenFacts.{own-format}
 use Rattle.layout.proofs.TableLaws.{length-table}
 use Rattle.tree.specs.declared.along.Place.{Place}
 use Rattle.tree.specs.declared.along.Place.the-variants as place
@@ -52,11 +54,11 @@ slot-entry v below q Slot.dead x = (x .0, x .1)
 slot-entry v below q (Slot.file e cs ds) x = (e, x .0)
 slot-entry v below q (Slot.directory e cs) x = (e, x .0)
 
-module _ (image : List ℕ) (s : Superblock) (root : Root) (m : Marks) (checked : checkImage image ≡ ok (s, root, m)) (p : Path) (here : EntryAt)
+module _ (format : Format) (image : List ℕ) (s : Superblock) (root : Root) (m : Marks) (checked : checkImage format image ≡ ok (s, root, m)) (p : Path) (here : EntryAt)
     (site : Site (see s image) (tableOf image s) root p here) (directory : isDirectory (entryOf (here .page)) ≡ true) where
   -- the name is not there
   absent-so : placeOf (see s image) (tableOf image s) here (lastName p) ≡ place.Nowhere → lookIn (site .slots) (lastName p ∷ []) ≡ absent
-  absent-so e = name-nowhere (see s image) (site .below) (slotsOf (tableOf image s) here) (site .slots) (held-slots image s root m checked p here site) (lastName p) e
+  absent-so e = name-nowhere (see s image) (site .below) (slotsOf (tableOf image s) here) (site .slots) (held-slots format image s root m checked p here site) (lastName p) e
 
   arrived-nowhere : placeOf (see s image) (tableOf image s) here (lastName p) ≡ place.Nowhere → entered (see s image) (tableOf image s) (here .first) (here .page) (lastName p) ≡ nowhere arrival.Absent
   unfolding entered
@@ -75,7 +77,7 @@ module _ (image : List ℕ) (s : Superblock) (root : Root) (m : Marks) (checked 
 
   stands : (k q : ℕ) → placeOf (see s image) (tableOf image s) here (lastName p) ≡ place.At k q → Stands q
   stands k q e =
-      let held = held-slots image s root m checked p here site in
+      let held = held-slots format image s root m checked p here site in
       let f = name-found (see s image) (site .below) (slotsOf (tableOf image s) here) (site .slots) held (lastName p) k q e in
       let n = name-at (see s image) (site .below) (slotsOf (tableOf image s) here) (site .slots) held (lastName p) k q e in
       let x = slot-entry (see s image) (site .below) q (f .0) (f .3) in
@@ -101,32 +103,32 @@ module _ (image : List ℕ) (s : Superblock) (root : Root) (m : Marks) (checked 
   replaced-at : (time bytes : List ℕ) → static (replace p time bytes) ≡ 0 → (q : ℕ) (x : Stands q) → (b : Bool) → isDirectory (entryOf (x .entry)) ≡ b
       → pickOutcome b (refusedBy 10 image)
       (pickOutcome (enough (tableOf image s) (clustersFor (length bytes))) (doneWith (replacedImage s image (tableOf image s) here (entryIn q (x .entry)) time bytes)) (refusedBy 12 image))
-      ≡ changed (replace p time bytes) image
+      ≡ changed format (replace p time bytes) image
   replaced-at time bytes fine q x true e =
-      let d = directory-here image s root m checked p here site q (x .entry) (x .there) e in
-      sym (edit-refused image s root m checked (replace p time bytes) fine refl here site 9 (rw (d .found-directory)))
+      let d = directory-here format image s root m checked p here site q (x .entry) (x .there) e in
+      sym (edit-refused format image s root m checked (replace p time bytes) fine refl here site 9 (rw (d .found-directory)))
   replaced-at time bytes fine q x false e = room (enough (tableOf image s) (clustersFor (length bytes))) refl
     where
-      file : IsFile image s root m checked p here site q (x .entry) (x .there)
-      file = file-here image s root m checked p here site q (x .entry) (x .there) e
+      file : IsFile format image s root m checked p here site q (x .entry) (x .there)
+      file = file-here format image s root m checked p here site q (x .entry) (x .there) e
 
       room : (b : Bool) → enough (tableOf image s) (clustersFor (length bytes)) ≡ b
-          → pickOutcome b (doneWith (replacedImage s image (tableOf image s) here (entryIn q (x .entry)) time bytes)) (refusedBy 12 image) ≡ changed (replace p time bytes) image
-      room true h = sym ((replace-done image s root m checked p here site q (x .entry) (x .there) time bytes fine file (leb-true (clustersFor (length bytes)) (length (freeList (tableOf image s))) h)) .done)
+          → pickOutcome b (doneWith (replacedImage s image (tableOf image s) here (entryIn q (x .entry)) time bytes)) (refusedBy 12 image) ≡ changed format (replace p time bytes) image
+      room true h = sym ((replace-done format image s root m checked p here site q (x .entry) (x .there) time bytes fine file (leb-true (clustersFor (length bytes)) (length (freeList (tableOf image s))) h)) .done)
       room false h =
-          sym (edit-full image s root m checked (replace p time bytes) fine refl here site (rw (file .found-file)) (leb-false (clustersFor (length bytes)) (length (freeList (tableOf image s))) h))
+          sym (edit-full format image s root m checked (replace p time bytes) fine refl here site (rw (file .found-file)) (leb-false (clustersFor (length bytes)) (length (freeList (tableOf image s))) h))
 
   deleted-at : static (delete p) ≡ 0 → (q : ℕ) (x : Stands q) → (b : Bool) → isDirectory (entryOf (x .entry)) ≡ b
-      → pickOutcome b (refusedBy 10 image) (doneWith (removedImage s image (tableOf image s) here (entryIn q (x .entry)) (clustersFor (word (x .entry) 4)))) ≡ changed (delete p) image
+      → pickOutcome b (refusedBy 10 image) (doneWith (removedImage s image (tableOf image s) here (entryIn q (x .entry)) (clustersFor (word (x .entry) 4)))) ≡ changed format (delete p) image
   deleted-at fine q x true e =
-      let d = directory-here image s root m checked p here site q (x .entry) (x .there) e in
-      sym (edit-refused image s root m checked (delete p) fine refl here site 9 (rw (d .found-directory)))
+      let d = directory-here format image s root m checked p here site q (x .entry) (x .there) e in
+      sym (edit-refused format image s root m checked (delete p) fine refl here site 9 (rw (d .found-directory)))
   deleted-at fine q x false e =
-      sym ((delete-done image s root m checked p here site q (x .entry) (x .there) fine (file-here image s root m checked p here site q (x .entry) (x .there) e)) .done)
+      sym ((delete-done format image s root m checked p here site q (x .entry) (x .there) fine (file-here format image s root m checked p here site q (x .entry) (x .there) e)) .done)
 
   -- the slots of a directory that is to go are those that the code scans
   inside-held : (q : ℕ) (entry : List ℕ) (there : There image s (site .below) (entryPages (Slot.directory (entryOf (here .page)) (site .chain))) (site .slots) (lastName p) q entry)
-      → IsDirectory image s root m checked p here site q entry there → HoldsSlots (see s image) (pred (site .below)) (slotsOf (tableOf image s) (entryIn q entry)) (there .inside)
+      → IsDirectory format image s root m checked p here site q entry there → HoldsSlots (see s image) (pred (site .below)) (slotsOf (tableOf image s) (entryIn q entry)) (there .inside)
   inside-held q entry there d =
       let two : 2 ≤ word entry 4 = leb→le 2 _ (to-T (and-r (isDirectory (entryOf entry) && goodName ((entryOf entry) .name)) _ (d .subdirectory))) in
       let z = directory-pages (see s image) (tableOf image s) (λ c. refl) (word entry 0x10) (d .given) (d .linked) (word entry 4) two (d .many) in
@@ -136,64 +138,64 @@ module _ (image : List ℕ) (s : Superblock) (root : Root) (m : Marks) (checked 
       → pickOutcome b
       (unlessLive s image (tableOf image s) (liveOf (see s image) (tableOf image s) (entryIn q (x .entry)))
       (doneWith (removedImage s image (tableOf image s) here (entryIn q (x .entry)) ((word (x .entry) 4 + 1) / 2)))) (refusedBy 10 image)
-      ≡ changed (removeDirectory p) image
+      ≡ changed format (removeDirectory p) image
   removed-at fine q x false e =
-      let f = file-here image s root m checked p here site q (x .entry) (x .there) e in
-      sym (edit-refused image s root m checked (removeDirectory p) fine refl here site 9 (rw (f .found-file)))
+      let f = file-here format image s root m checked p here site q (x .entry) (x .there) e in
+      sym (edit-refused format image s root m checked (removeDirectory p) fine refl here site 9 (rw (f .found-file)))
   removed-at fine q x true e = go (liveOf (see s image) (tableOf image s) (entryIn q (x .entry))) refl
     where
-      d : IsDirectory image s root m checked p here site q (x .entry) (x .there)
-      d = directory-here image s root m checked p here site q (x .entry) (x .there) e
+      d : IsDirectory format image s root m checked p here site q (x .entry) (x .there)
+      d = directory-here format image s root m checked p here site q (x .entry) (x .there) e
 
       full : (i j : ℕ) → liveOf (see s image) (tableOf image s) (entryIn q (x .entry)) ≡ place.At i j → eqb (slotCount (x .there .inside)) (deadSlots (x .there .inside)) ≡ false
       full i j h = ne-eqb _ _ (live-at (see s image) (pred (site .below)) (slotsOf (tableOf image s) (entryIn q (x .entry))) (x .there .inside) (inside-held q (x .entry) (x .there) d) i j h)
 
       go : (z : Place) → liveOf (see s image) (tableOf image s) (entryIn q (x .entry)) ≡ z
-          → unlessLive s image (tableOf image s) z (doneWith (removedImage s image (tableOf image s) here (entryIn q (x .entry)) ((word (x .entry) 4 + 1) / 2))) ≡ changed (removeDirectory p) image
+          → unlessLive s image (tableOf image s) z (doneWith (removedImage s image (tableOf image s) here (entryIn q (x .entry)) ((word (x .entry) 4 + 1) / 2))) ≡ changed format (removeDirectory p) image
       go place.Nowhere h =
-          sym ((remove-done image s root m checked p here site q (x .entry) (x .there) fine d
+          sym ((remove-done format image s root m checked p here site q (x .entry) (x .there) fine d
           (live-nowhere (see s image) (pred (site .below)) (slotsOf (tableOf image s) (entryIn q (x .entry))) (x .there .inside) (inside-held q (x .entry) (x .there) d) h)) .done)
-      go (place.At i j) h = sym (edit-refused image s root m checked (removeDirectory p) fine refl here site 12 (rw (d .found-directory, full i j h)))
+      go (place.At i j) h = sym (edit-refused format image s root m checked (removeDirectory p) fine refl here site 12 (rw (d .found-directory, full i j h)))
 
   -- ---- what is known of an entry before it is replaced or removed: its pages land
 
   replace-lands : (time bytes : List ℕ) → static (replace p time bytes) ≡ 0 → (q : ℕ) (x : Stands q) → EditLands s image (tableOf image s) action.Replace here time bytes (entryIn q (x .entry))
   replace-lands time bytes fine q x kind room =
-      (replace-done image s root m checked p here site q (x .entry) (x .there) time bytes fine
-      (file-here image s root m checked p here site q (x .entry) (x .there) kind) (leb-true (clustersFor (length bytes)) (length (freeList (tableOf image s))) room)) .lands
+      (replace-done format image s root m checked p here site q (x .entry) (x .there) time bytes fine
+      (file-here format image s root m checked p here site q (x .entry) (x .there) kind) (leb-true (clustersFor (length bytes)) (length (freeList (tableOf image s))) room)) .lands
 
   delete-lands : (time bytes : List ℕ) → static (delete p) ≡ 0 → (q : ℕ) (x : Stands q) → EditLands s image (tableOf image s) action.Delete here time bytes (entryIn q (x .entry))
   delete-lands time bytes fine q x kind =
-      (delete-done image s root m checked p here site q (x .entry) (x .there) fine (file-here image s root m checked p here site q (x .entry) (x .there) kind)) .lands
+      (delete-done format image s root m checked p here site q (x .entry) (x .there) fine (file-here format image s root m checked p here site q (x .entry) (x .there) kind)) .lands
 
   remove-lands : (time bytes : List ℕ) → static (removeDirectory p) ≡ 0 → (q : ℕ) (x : Stands q) → EditLands s image (tableOf image s) action.Remove here time bytes (entryIn q (x .entry))
   remove-lands time bytes fine q x kind empty =
-      let d = directory-here image s root m checked p here site q (x .entry) (x .there) kind in
-      (remove-done image s root m checked p here site q (x .entry) (x .there) fine d
+      let d = directory-here format image s root m checked p here site q (x .entry) (x .there) kind in
+      (remove-done format image s root m checked p here site q (x .entry) (x .there) fine d
       (live-nowhere (see s image) (pred (site .below)) (slotsOf (tableOf image s) (entryIn q (x .entry))) (x .there .inside) (inside-held q (x .entry) (x .there) d) empty)) .lands
 
 -- ---- a change of an entry that stands: 9 where the name is absent, and else by what is done there
-module _ (image : List ℕ) (s : Superblock) (root : Root) (m : Marks) (checked : checkImage image ≡ ok (s, root, m)) (c : Change) (fine : static c ≡ 0) (standing : creates c ≡ false)
+module _ (format : Format) (image : List ℕ) (s : Superblock) (root : Root) (m : Marks) (checked : checkImage format image ≡ ok (s, root, m)) (c : Change) (fine : static c ≡ 0) (standing : creates c ≡ false)
     (missing : own c absent ≡ 9) (here : EntryAt) (site : Site (see s image) (tableOf image s) root (path c) here) (directory : isDirectory (entryOf (here .page)) ≡ true)
     (action : Action) (time bytes : List ℕ) where
-  edited-by : ((q : ℕ) (x : Stands image s root m checked (path c) here site directory q) → edited s image (tableOf image s) action here time bytes (entryIn q (x .entry)) ≡ changed c image)
-      → editedIn s image (tableOf image s) here action (lastName (path c)) time bytes ≡ changed c image
+  edited-by : ((q : ℕ) (x : Stands format image s root m checked (path c) here site directory q) → edited s image (tableOf image s) action here time bytes (entryIn q (x .entry)) ≡ changed format c image)
+      → editedIn s image (tableOf image s) here action (lastName (path c)) time bytes ≡ changed format c image
   unfolding editedIn
   edited-by does = go (placeOf (see s image) (tableOf image s) here (lastName (path c))) refl
     where
       go : (z : Place) → placeOf (see s image) (tableOf image s) here (lastName (path c)) ≡ z
-          → onEntry s image (tableOf image s) (entered (see s image) (tableOf image s) (here .first) (here .page) (lastName (path c))) (edited s image (tableOf image s) action here time bytes) ≡ changed c image
+          → onEntry s image (tableOf image s) (entered (see s image) (tableOf image s) (here .first) (here .page) (lastName (path c))) (edited s image (tableOf image s) action here time bytes) ≡ changed format c image
       go place.Nowhere e =
-          rw (arrived-nowhere image s root m checked (path c) here site directory e)
-          (sym (edit-refused image s root m checked c fine standing here site 8 (ap (own c) (absent-so image s root m checked (path c) here site directory e) ∙ missing)))
+          rw (arrived-nowhere format image s root m checked (path c) here site directory e)
+          (sym (edit-refused format image s root m checked c fine standing here site 8 (ap (own c) (absent-so format image s root m checked (path c) here site directory e) ∙ missing)))
       go (place.At k q) e =
-          let x = stands image s root m checked (path c) here site directory k q e in
+          let x = stands format image s root m checked (path c) here site directory k q e in
           ap (λ a. onEntry s image (tableOf image s) a (edited s image (tableOf image s) action here time bytes)) (x .arrives) ∙ does q x
 
   absent-at : {A : Type 0} (next : ℕ) → arrival.Absent ≡ arrival.At next → A
   absent-at next e = absurd (let z : _≡_ {A = ℕ} 0 1 = cc in omega arith)
 
-  can-by : ((q : ℕ) (x : Stands image s root m checked (path c) here site directory q) → EditLands s image (tableOf image s) action here time bytes (entryIn q (x .entry)))
+  can-by : ((q : ℕ) (x : Stands format image s root m checked (path c) here site directory q) → EditLands s image (tableOf image s) action here time bytes (entryIn q (x .entry)))
       → CanEditIn s image (tableOf image s) here action (lastName (path c)) time bytes
   can-by lands first a = go (placeOf (see s image) (tableOf image s) here (lastName (path c))) refl
     where
@@ -204,41 +206,41 @@ module _ (image : List ℕ) (s : Superblock) (root : Root) (m : Marks) (checked 
             first = first;
             page = (entered (see s image) (tableOf image s) (here .first) (here .page) (lastName (path c))) .page;
           })
-      go place.Nowhere e = absent-at first (sym (ap (λ (w : Arrived). w .arrival) (arrived-nowhere image s root m checked (path c) here site directory e)) ∙ a)
+      go place.Nowhere e = absent-at first (sym (ap (λ (w : Arrived). w .arrival) (arrived-nowhere format image s root m checked (path c) here site directory e)) ∙ a)
       go (place.At k q) e =
-          let x = stands image s root m checked (path c) here site directory k q e in
+          let x = stands format image s root m checked (path c) here site directory k q e in
           let next : arrival.At (word (x .entry) 0x10) ≡ arrival.At first = sym (ap (λ (w : Arrived). w .arrival) (x .arrives)) ∙ a in
           let same : word (x .entry) 0x10 ≡ first = cc in
-          rw (x .arrives, ← same) (record { card = record { opened = (checked-parts image s root m checked) .0; long = length-table image s }; lands = lands q x })
+          rw (x .arrives, ← same) (record { card = record { opened = own-format format image s ((checked-parts format image s root m checked) .0); long = length-table image s }; lands = lands q x })
 
-module _ (image : List ℕ) (s : Superblock) (root : Root) (m : Marks) (checked : checkImage image ≡ ok (s, root, m)) (p : Path) (here : EntryAt)
+module _ (format : Format) (image : List ℕ) (s : Superblock) (root : Root) (m : Marks) (checked : checkImage format image ≡ ok (s, root, m)) (p : Path) (here : EntryAt)
     (site : Site (see s image) (tableOf image s) root p here) (directory : isDirectory (entryOf (here .page)) ≡ true) (time bytes : List ℕ) where
-  pub replaced-here : static (replace p time bytes) ≡ 0 → editedIn s image (tableOf image s) here action.Replace (lastName p) time bytes ≡ changed (replace p time bytes) image
+  pub replaced-here : static (replace p time bytes) ≡ 0 → editedIn s image (tableOf image s) here action.Replace (lastName p) time bytes ≡ changed format (replace p time bytes) image
   replaced-here fine =
-      edited-by image s root m checked (replace p time bytes) fine refl refl here site directory action.Replace time bytes
-      (λ q x. replaced-at image s root m checked p here site directory time bytes fine q x (isDirectory (entryOf (x .entry))) refl)
+      edited-by format image s root m checked (replace p time bytes) fine refl refl here site directory action.Replace time bytes
+      (λ q x. replaced-at format image s root m checked p here site directory time bytes fine q x (isDirectory (entryOf (x .entry))) refl)
 
-  pub deleted-here : static (delete p) ≡ 0 → editedIn s image (tableOf image s) here action.Delete (lastName p) time bytes ≡ changed (delete p) image
+  pub deleted-here : static (delete p) ≡ 0 → editedIn s image (tableOf image s) here action.Delete (lastName p) time bytes ≡ changed format (delete p) image
   deleted-here fine =
-      edited-by image s root m checked (delete p) fine refl refl here site directory action.Delete time bytes
-      (λ q x. deleted-at image s root m checked p here site directory fine q x (isDirectory (entryOf (x .entry))) refl)
+      edited-by format image s root m checked (delete p) fine refl refl here site directory action.Delete time bytes
+      (λ q x. deleted-at format image s root m checked p here site directory fine q x (isDirectory (entryOf (x .entry))) refl)
 
-  pub removed-here : static (removeDirectory p) ≡ 0 → editedIn s image (tableOf image s) here action.Remove (lastName p) time bytes ≡ changed (removeDirectory p) image
+  pub removed-here : static (removeDirectory p) ≡ 0 → editedIn s image (tableOf image s) here action.Remove (lastName p) time bytes ≡ changed format (removeDirectory p) image
   removed-here fine =
-      edited-by image s root m checked (removeDirectory p) fine refl refl here site directory action.Remove time bytes
-      (λ q x. removed-at image s root m checked p here site directory fine q x (isDirectory (entryOf (x .entry))) refl)
+      edited-by format image s root m checked (removeDirectory p) fine refl refl here site directory action.Remove time bytes
+      (λ q x. removed-at format image s root m checked p here site directory fine q x (isDirectory (entryOf (x .entry))) refl)
 
   pub can-replace : static (replace p time bytes) ≡ 0 → CanEditIn s image (tableOf image s) here action.Replace (lastName p) time bytes
   can-replace fine =
-      can-by image s root m checked (replace p time bytes) fine refl refl here site directory action.Replace time bytes
-      (replace-lands image s root m checked p here site directory time bytes fine)
+      can-by format image s root m checked (replace p time bytes) fine refl refl here site directory action.Replace time bytes
+      (replace-lands format image s root m checked p here site directory time bytes fine)
 
   pub can-delete : static (delete p) ≡ 0 → CanEditIn s image (tableOf image s) here action.Delete (lastName p) time bytes
   can-delete fine =
-      can-by image s root m checked (delete p) fine refl refl here site directory action.Delete time bytes
-      (delete-lands image s root m checked p here site directory time bytes fine)
+      can-by format image s root m checked (delete p) fine refl refl here site directory action.Delete time bytes
+      (delete-lands format image s root m checked p here site directory time bytes fine)
 
   pub can-remove : static (removeDirectory p) ≡ 0 → CanEditIn s image (tableOf image s) here action.Remove (lastName p) time bytes
   can-remove fine =
-      can-by image s root m checked (removeDirectory p) fine refl refl here site directory action.Remove time bytes
-      (remove-lands image s root m checked p here site directory time bytes fine)
+      can-by format image s root m checked (removeDirectory p) fine refl refl here site directory action.Remove time bytes
+      (remove-lands format image s root m checked p here site directory time bytes fine)

@@ -52,10 +52,10 @@ module _ (table list bytes : List ℕ) (listed : list ≡ freeList table) (room 
 
   module _ (image : List ℕ) (s : Superblock) (card : Open s image table) where
     pub few-bytes : length bytes < wordLimit
-    few-bytes = omega (arith, ap length listed, free-few image table s (card .opened) (card .long))
+    few-bytes = omega (arith, ap length listed, free-few (s .geometry .format) image table s (card .opened) (card .long))
 
     pub own-low : (x : ℕ) → topBit ≤ x → times (take own list) x + 0 ≡ 0
-    own-low x h = rw taken-is (taken-low image table s (card .opened) (card .long) 0 (clustersFor (length bytes)) (freeList table) refl x h)
+    own-low x h = rw taken-is (taken-low (s .geometry .format) image table s (card .opened) (card .long) 0 (clustersFor (length bytes)) (freeList table) refl x h)
 
   pub replaced-words : (entry : EntryAt) {count size : ℕ} {after : List ℕ} → count ≡ clustersFor size → size ≡ entriesOf entry
       → after ≡ relinked (entry .first) count (take own list) 0 [] table → after ≡ replacedTable table entry bytes

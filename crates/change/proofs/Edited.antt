@@ -9,6 +9,7 @@ use native.Mathlib.Omega.{arith}
 use borrow.Author.Tests.{eq-eqb, le-leb, lt-leb}
 use lib.Dec.{eqb, leb}
 use lib.ListN.{getD, length, take}
+use Rattle.page.specs.declared.Format.{Format}
 use Rattle.layout.specs.declared.Superblock.{Superblock}
 use Rattle.layout.specs.See.{checkImage, see}
 use Rattle.layout.specs.Table.{openCard, tableOf}
@@ -54,23 +55,23 @@ entry-follows v t links e (c ∷ cs) h = go (bool (eqb (e .firstCluster) endMark
     go (inl i) h = absurd (let f : Link.last ≡ Link.next c = rw i at (h .0) in let z : _≡_ {A = ℕ} 0 1 = cc in omega arith)
     go (inr i) h = chain-follows v t links (e .firstCluster) (c ∷ cs) (rw i at h)
 
-module _ (image : List ℕ) (s : Superblock) (root : Root) (m : Marks) (checked : checkImage image ≡ ok (s, root, m)) (c : Change) (fine : static c ≡ 0) (standing : creates c ≡ false)
+module _ (format : Format) (image : List ℕ) (s : Superblock) (root : Root) (m : Marks) (checked : checkImage format image ≡ ok (s, root, m)) (c : Change) (fine : static c ≡ 0) (standing : creates c ≡ false)
     (here : EntryAt) (site : Site (see s image) (tableOf image s) root (path c) here) where
-  opened : openCard image ≡ ok s
-  opened = (checked-parts image s root m checked) .0
+  opened : openCard format image ≡ ok s
+  opened = (checked-parts format image s root m checked) .0
 
   edit-refusal : refusal (rulesOf s) c (see s image) root
       ≡ first (own c (lookIn (site .slots) (lastName (path c) ∷ []))) (cond (leb (size c + 0) (length (freeList (tableOf image s)))) 0 12)
   edit-refusal =
-      refusal-here image s root c here site fine (free-is image s opened)
+      refusal-here image s root c here site fine (free-is format image s opened)
       ∙ ap (λ b. first (own c (lookIn (site .slots) (lastName (path c) ∷ []))) (cond (leb (size c + cond b (growthWithOne (entryOf (here .page)) (site .slots)) 0) (length (freeList (tableOf image s)))) 0 12)) standing
 
   -- refused by what stands at the name, or for want of room
-  pub edit-refused : (n : ℕ) → own c (lookIn (site .slots) (lastName (path c) ∷ [])) ≡ suc n → changed c image ≡ record { answer = fault (suc n) 0; image = image }
-  edit-refused n e = (refuses image s root m checked c n (edit-refusal ∙ rw e)) .0
+  pub edit-refused : (n : ℕ) → own c (lookIn (site .slots) (lastName (path c) ∷ [])) ≡ suc n → changed format c image ≡ record { answer = fault (suc n) 0; image = image }
+  edit-refused n e = (refuses format image s root m checked c n (edit-refusal ∙ rw e)) .0
 
-  pub edit-full : own c (lookIn (site .slots) (lastName (path c) ∷ [])) ≡ 0 → length (freeList (tableOf image s)) < size c → changed c image ≡ record { answer = fault 12 0; image = image }
-  edit-full e l = (refuses image s root m checked c 11 (edit-refusal ∙ rw (e, lt-leb (size c + 0) (length (freeList (tableOf image s))) (omega arith)))) .0
+  pub edit-full : own c (lookIn (site .slots) (lastName (path c) ∷ [])) ≡ 0 → length (freeList (tableOf image s)) < size c → changed format c image ≡ record { answer = fault 12 0; image = image }
+  edit-full e l = (refuses format image s root m checked c 11 (edit-refusal ∙ rw (e, lt-leb (size c + 0) (length (freeList (tableOf image s))) (omega arith)))) .0
 
   module _ (lacks : own c (lookIn (site .slots) (lastName (path c) ∷ [])) ≡ 0) (room : size c ≤ length (freeList (tableOf image s)))
       (k : ℕ) (given : List ℕ) (f : List ℕ → Filling)
@@ -79,15 +80,15 @@ module _ (image : List ℕ) (s : Superblock) (root : Root) (m : Marks) (checked 
     none-met = edit-refusal ∙ rw (lacks, le-leb (size c + 0) (length (freeList (tableOf image s))) (omega arith))
 
     deed : Deed (rulesOf s) (see s image) root (made (rulesOf s) (see s image) (directoryAt here (site .chain)) (altering (directoryAt here (site .chain)) (site .slots) (lastName (path c)) k given f))
-    deed = deed-of image s root m checked c none-met _ plan-so
+    deed = deed-of format image s root m checked c none-met _ plan-so
 
     module _ (writes : List PageWrite) (written : pageWrites (see s image) (made (rulesOf s) (see s image) (directoryAt here (site .chain)) (altering (directoryAt here (site .chain)) (site .slots) (lastName (path c)) k given f)) ≡ writes)
         (back : ℕ) (follows : Follows (tableOf image s) back given) where
       pub edit-lands : Lands (s .end) writes
-      edit-lands = lands-as image s root m checked c none-met _ plan-so _ written
+      edit-lands = lands-as format image s root m checked c none-met _ plan-so _ written
 
-      pub edit-done : changed c image ≡ record { answer = ok tt; image = imageBy s image writes (relinked back (length given) (take k (freeList (tableOf image s))) 0 [] (tableOf image s)) }
-      edit-done = done-as image s root m checked c none-met _ plan-so _ written (relinked back (length given) (take k (freeList (tableOf image s))) 0 [] (tableOf image s)) words
+      pub edit-done : changed format c image ≡ record { answer = ok tt; image = imageBy s image writes (relinked back (length given) (take k (freeList (tableOf image s))) 0 [] (tableOf image s)) }
+      edit-done = done-as format image s root m checked c none-met _ plan-so _ written (relinked back (length given) (take k (freeList (tableOf image s))) 0 [] (tableOf image s)) words
         where
           apart : (x : ℕ) → times (here .first ∷ site .rest) x + times given x + times (take k (freeList (tableOf image s))) x ≤ 1
           apart x =
@@ -97,14 +98,14 @@ module _ (image : List ℕ) (s : Superblock) (root : Root) (m : Marks) (checked 
                 deed .fit .own x,
                 deed .fit .old x,
                 ap (λ cs. times cs x) (site .starts),
-                ap (λ l. times (take k l) x) (free-is image s opened),
+                ap (λ l. times (take k l) x) (free-is format image s opened),
               )
 
           words : (x : ℕ) → x < s .end
               → wordsAfter (made (rulesOf s) (see s image) (directoryAt here (site .chain)) (altering (directoryAt here (site .chain)) (site .slots) (lastName (path c)) k given f)) (λ d. getD (tableOf image s) d 0) x
               ≡ getD (relinked back (length given) (take k (freeList (tableOf image s))) 0 [] (tableOf image s)) x 0
           words x h =
-              ap₂ (λ cs l. chainWords (cs ++ []) (chainWords (take k l) (clearedWords given (λ d. getD (tableOf image s) d 0))) x) (site .starts) (free-is image s opened)
+              ap₂ (λ cs l. chainWords (cs ++ []) (chainWords (take k l) (clearedWords given (λ d. getD (tableOf image s) d 0))) x) (site .starts) (free-is format image s opened)
               ∙ same-words (see s image) (tableOf image s) (λ d. refl) (here .first) (site .rest) given (take k (freeList (tableOf image s))) back (rw (site .starts) at (site .linked)) follows apart
               [] (lastIn (here .first) (site .rest)) (omega arith) (λ d. omega (arith, apart d)) refl x (omega (arith, length-table image s))
 
@@ -119,7 +120,7 @@ pub record There (image : List ℕ) (s : Superblock) (below : ℕ) (pages : List
   pub held : HoldsSlot (see s image) below slot head
   pub within : HoldsSlots (see s image) (pred below) (entryPages head) inside
 
-module _ (image : List ℕ) (s : Superblock) (root : Root) (m : Marks) (checked : checkImage image ≡ ok (s, root, m)) (p : Path) (here : EntryAt)
+module _ (format : Format) (image : List ℕ) (s : Superblock) (root : Root) (m : Marks) (checked : checkImage format image ≡ ok (s, root, m)) (p : Path) (here : EntryAt)
     (site : Site (see s image) (tableOf image s) root p here) (slot : ℕ) (entry : List ℕ)
     (there : There image s (site .below) (entryPages (Slot.directory (entryOf (here .page)) (site .chain))) (site .slots) (lastName p) slot entry) where
   same-entry : (e : Entry) → (see s image) .entry slot ≡ some e → entryOf entry ≡ e
@@ -180,7 +181,7 @@ module _ (image : List ℕ) (s : Superblock) (root : Root) (m : Marks) (checked 
   -- ---- replacing
   pub record Edits (c : Change) (writes : List PageWrite) (table : List ℕ) : Type 0 where
     pub lands : Lands (s .end) writes
-    pub done : changed c image ≡ record { answer = ok tt; image = imageBy s image writes table }
+    pub done : changed format c image ≡ record { answer = ok tt; image = imageBy s image writes table }
 
   pub replace-done : (time bytes : List ℕ) → static (replace p time bytes) ≡ 0 → IsFile → clustersFor (length bytes) ≤ length (freeList (tableOf image s))
       → Edits (replace p time bytes) (replacedWrites (tableOf image s) here (entryIn slot entry) time bytes) (replacedTable (tableOf image s) (entryIn slot entry) bytes)
@@ -188,19 +189,19 @@ module _ (image : List ℕ) (s : Superblock) (root : Root) (m : Marks) (checked 
       let c = replace p time bytes in
       let stands : own (replace p time bytes) (lookIn (site .slots) (lastName p ∷ [])) ≡ 0 = rw (file .found-file) in
       let plan =
-      planned-at image s root m checked (replace p time bytes) fine here site
+      planned-at format image s root m checked (replace p time bytes) fine here site
       ∙ ap (λ g. planBy (rulesOf s) (see s image) (directoryAt here (site .chain)) (editFor (replace p time bytes) (directoryAt here (site .chain)) (site .slots) g)) (file .found-file) in
-      let written = replaced-writes image s root p here site (lastName p) slot entry (there .read) (there .placed) (free-is image s ((checked-parts image s root m checked) .0)) (file .given) time bytes in
+      let written = replaced-writes image s root p here site (lastName p) slot entry (there .read) (there .placed) (free-is format image s ((checked-parts format image s root m checked) .0)) (file .given) time bytes in
       record {
-        lands = edit-lands image s root m checked (replace p time bytes) fine refl here site stands room (clustersFor (length bytes)) (file .given) (newContents (entryOf entry) time bytes) plan _ written (word entry 0x10) (file .leads);
+        lands = edit-lands format image s root m checked (replace p time bytes) fine refl here site stands room (clustersFor (length bytes)) (file .given) (newContents (entryOf entry) time bytes) plan _ written (word entry 0x10) (file .leads);
         done =
-            edit-done image s root m checked (replace p time bytes) fine refl here site stands room (clustersFor (length bytes)) (file .given) (newContents (entryOf entry) time bytes) plan _ written (word entry 0x10) (file .leads)
+            edit-done format image s root m checked (replace p time bytes) fine refl here site stands room (clustersFor (length bytes)) (file .given) (newContents (entryOf entry) time bytes) plan _ written (word entry 0x10) (file .leads)
             ∙ ap (λ n. record { answer = ok tt; image = imageBy s image (replacedWrites (tableOf image s) here (entryIn slot entry) time bytes) (relinked (word entry 0x10) n (take (clustersFor (length bytes)) (freeList (tableOf image s))) 0 [] (tableOf image s)) }) (file .many);
       }
 
   -- ---- deleting and removing
   written-gone : (given : List ℕ) → pageWrites (see s image) (made (rulesOf s) (see s image) (directoryAt here (site .chain)) (altering (directoryAt here (site .chain)) (site .slots) (lastName p) 0 given (removal (entryOf entry)))) ≡ removedWrites here (entryIn slot entry)
-  written-gone given = removed-writes image s root p here site (lastName p) slot entry (there .read) (there .placed) (free-is image s ((checked-parts image s root m checked) .0)) given
+  written-gone given = removed-writes image s root p here site (lastName p) slot entry (there .read) (there .placed) (free-is format image s ((checked-parts format image s root m checked) .0)) given
 
   gone-as : (n k : ℕ) → n ≡ k → _≡_ {A = Outcome} (record { answer = ok tt; image = imageBy s image (removedWrites here (entryIn slot entry)) (removedTable (tableOf image s) (entryIn slot entry) n) })
       (record { answer = ok tt; image = imageBy s image (removedWrites here (entryIn slot entry)) (removedTable (tableOf image s) (entryIn slot entry) k) })
@@ -210,12 +211,12 @@ module _ (image : List ℕ) (s : Superblock) (root : Root) (m : Marks) (checked 
   delete-done fine file =
       let stands : own (delete p) (lookIn (site .slots) (lastName p ∷ [])) ≡ 0 = rw (file .found-file) in
       let plan =
-      planned-at image s root m checked (delete p) fine here site
+      planned-at format image s root m checked (delete p) fine here site
       ∙ ap (λ g. planBy (rulesOf s) (see s image) (directoryAt here (site .chain)) (editFor (delete p) (directoryAt here (site .chain)) (site .slots) g)) (file .found-file) in
       record {
-        lands = edit-lands image s root m checked (delete p) fine refl here site stands (omega arith) 0 (file .given) (removal (entryOf entry)) plan _ (written-gone (file .given)) (word entry 0x10) (file .leads);
+        lands = edit-lands format image s root m checked (delete p) fine refl here site stands (omega arith) 0 (file .given) (removal (entryOf entry)) plan _ (written-gone (file .given)) (word entry 0x10) (file .leads);
         done =
-            edit-done image s root m checked (delete p) fine refl here site stands (omega arith) 0 (file .given) (removal (entryOf entry)) plan _ (written-gone (file .given)) (word entry 0x10) (file .leads)
+            edit-done format image s root m checked (delete p) fine refl here site stands (omega arith) 0 (file .given) (removal (entryOf entry)) plan _ (written-gone (file .given)) (word entry 0x10) (file .leads)
             ∙ gone-as (length (file .given)) (clustersFor (word entry 4)) (file .many);
       }
 
@@ -224,11 +225,11 @@ module _ (image : List ℕ) (s : Superblock) (root : Root) (m : Marks) (checked 
   remove-done fine directory empty =
       let stands : own (removeDirectory p) (lookIn (site .slots) (lastName p ∷ [])) ≡ 0 = rw (directory .found-directory, eq-eqb _ _ empty) in
       let plan =
-      planned-at image s root m checked (removeDirectory p) fine here site
+      planned-at format image s root m checked (removeDirectory p) fine here site
       ∙ ap (λ g. planBy (rulesOf s) (see s image) (directoryAt here (site .chain)) (editFor (removeDirectory p) (directoryAt here (site .chain)) (site .slots) g)) (directory .found-directory) in
       record {
-        lands = edit-lands image s root m checked (removeDirectory p) fine refl here site stands (omega arith) 0 (directory .given) (removal (entryOf entry)) plan _ (written-gone (directory .given)) (word entry 0x10) (directory .leads);
+        lands = edit-lands format image s root m checked (removeDirectory p) fine refl here site stands (omega arith) 0 (directory .given) (removal (entryOf entry)) plan _ (written-gone (directory .given)) (word entry 0x10) (directory .leads);
         done =
-            edit-done image s root m checked (removeDirectory p) fine refl here site stands (omega arith) 0 (directory .given) (removal (entryOf entry)) plan _ (written-gone (directory .given)) (word entry 0x10) (directory .leads)
+            edit-done format image s root m checked (removeDirectory p) fine refl here site stands (omega arith) 0 (directory .given) (removal (entryOf entry)) plan _ (written-gone (directory .given)) (word entry 0x10) (directory .leads)
             ∙ gone-as (length (directory .given)) ((word entry 4 + 1) / 2) (directory .many);
       }

@@ -4,6 +4,7 @@ use mathlib.Core.List.{List}
 use mathlib.Core.Path.{_≡_, ap}
 use native.Mathlib.Omega.{arith}
 use lib.ListN.{drop, getD, length, length-append, length-take, take}
+use Rattle.page.specs.declared.Format.{Format}
 use Rattle.layout.specs.declared.Superblock.{Superblock}
 use Rattle.layout.specs.Table.{openCard}
 use Rattle.layout.proofs.OpenFacts.{open-facts}
@@ -36,9 +37,9 @@ few-below link (suc k) = rw (length-append (freeBelow link k) (ifFree (link k) k
 pub collected-inside : (list : List ℕ) {count : ℕ} {free : List ℕ} → count ≡ length free → take count list ≡ free → count ≤ length list
 collected-inside list {count} n t = omega (arith, ap length t, length-take count list)
 
-module _ (image table : List ℕ) (s : Superblock) (opened : openCard image ≡ ok s) (long : length table ≡ s .end) where
+module _ (format : Format) (image table : List ℕ) (s : Superblock) (opened : openCard format image ≡ ok s) (long : length table ≡ s .end) where
   pub table-small : length table ≤ mostClusters
-  table-small = omega (arith, open-facts image s opened .room, open-facts image s opened .most)
+  table-small = omega (arith, open-facts format image s opened .room, open-facts format image s opened .most)
 
   pub free-few : length (freeList table) ≤ mostClusters
   free-few = omega (arith, few-below (λ c. linkOf (getD table c 0)) (length table), table-small)

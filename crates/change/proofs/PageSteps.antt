@@ -127,13 +127,13 @@ module _ (geometry : Geometry) (clusters bytes : List ℕ) where
   none-left k image h = rw (drop-of-length-le (pagesOf clusters) {i = k} (omega (arith, length-pages clusters)))
 
   step : (k : ℕ) (image : List ℕ) → length clusters ≡ clustersFor (length bytes) → k < 2 * length clusters
-      → leftFrom k image ≡ leftFrom (k + 1) (put true (imagePage geometry (2 * getD clusters (k / 2) 0 + k % 2)) (dataPage bytes k) image)
+      → leftFrom k image ≡ leftFrom (k + 1) (put (geometry .format) true (imagePage geometry (2 * getD clusters (k / 2) 0 + k % 2)) (dataPage bytes k) image)
   step k image size h =
       let left : 2 * clustersFor (length bytes) - k ≡ suc (2 * clustersFor (length bytes) - suc k) = omega arith in
       let next : 512 * suc k ≡ 512 * k + 512 = omega arith in
       rw (add-one k, drop-cons (pagesOf clusters) k 0 (omega (arith, length-pages clusters)), left, next, ← drop-drop 512 (512 * k) bytes, getD-pages clusters k h)
 
   pub one-less : (k : ℕ) (image : List ℕ) {at : ℕ} {page after : List ℕ} → length clusters ≡ clustersFor (length bytes) → k < 2 * length clusters → page ≡ dataPage bytes k
-      → at ≡ imagePage geometry (2 * getD clusters (k / 2) 0 + k % 2) → after ≡ put true at page image → leftFrom (k + 1) after ≡ leftFrom k image
+      → at ≡ imagePage geometry (2 * getD clusters (k / 2) 0 + k % 2) → after ≡ put (geometry .format) true at page image → leftFrom (k + 1) after ≡ leftFrom k image
   one-less k image size h e p f =
-      ap (leftFrom (k + 1)) (f ∙ ap₂ (λ (q : ℕ) (d : List ℕ). put true q d image) p e) ∙ sym (step k image size h)
+      ap (leftFrom (k + 1)) (f ∙ ap₂ (λ (q : ℕ) (d : List ℕ). put (geometry .format) true q d image) p e) ∙ sym (step k image size h)

@@ -8,6 +8,7 @@ use native.Mathlib.Omega.{arith}
 use borrow.Author.Tests.{lt-ltb}
 use lib.ListN.{drop, getD, length, length-append, take}
 use lib.Seq.{drop-at, take-at}
+use Rattle.page.specs.declared.Format.{Format}
 use Rattle.layout.specs.declared.Superblock.{Superblock}
 use Rattle.layout.specs.See.{see}
 use Rattle.layout.specs.Table.{openCard, tableOf}
@@ -37,10 +38,10 @@ free-ext f g (suc k) h = ap₂ (λ l x. l ++ ifFree x k) (free-ext f g k (λ c u
 pub free-table : (table : List ℕ) → freeList table ≡ freeBelow (takeable (λ c. true) (linksOf (length table) (λ c. getD table c 0))) (length table)
 free-table table = free-ext _ _ (length table) (λ c h. rw (lt-ltb c (length table) h))
 
-module _ (image : List ℕ) (s : Superblock) (opened : openCard image ≡ ok s) where
+module _ (format : Format) (image : List ℕ) (s : Superblock) (opened : openCard format image ≡ ok s) where
   pub free-is : freeClusters (rulesOf s) (see s image) ≡ freeList (tableOf image s)
   free-is =
-      ap (freeBelow (takeable (λ c. true) ((see s image) .link))) (end-is image s opened ∙ sym (length-table image s))
+      ap (freeBelow (takeable (λ c. true) ((see s image) .link))) (end-is format image s opened ∙ sym (length-table image s))
       ∙ sym (free-table (tableOf image s))
 
   module _ (root : Root) (p : Path) (here : EntryAt) (site : Site (see s image) (tableOf image s) root p here) where

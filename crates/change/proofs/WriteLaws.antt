@@ -15,7 +15,7 @@ use Rattle.change.proofs.SiteFacts.{two-pages}
 
 pub written-append : (geometry : Geometry) (xs ys : List PageWrite) (image : List ℕ) → writePages geometry (xs ++ ys) image ≡ writePages geometry ys (writePages geometry xs image)
 written-append geometry [] ys image = refl
-written-append geometry (w ∷ xs) ys image = written-append geometry xs ys (put (w .always) (imagePage geometry (w .page)) (w .bytes) image)
+written-append geometry (w ∷ xs) ys image = written-append geometry xs ys (put (geometry .format) (w .always) (imagePage geometry (w .page)) (w .bytes) image)
 
 pub no-data : dataPages [] ≡ []
 unfolding dataPages

@@ -4,6 +4,7 @@ use Prim.Native.Nat.{ℕ, zero, suc, min}
 use mathlib.Core.List.{List, []}
 use mathlib.Core.Option.{Option, none, some}
 use native.Mathlib.Omega.{arith}
+use Rattle.page.specs.declared.Format.{Format}
 use Rattle.fields.specs.PathBytes.{pathOf}
 use Rattle.layout.specs.declared.Superblock.{Superblock}
 use Rattle.layout.specs.See.{checkImage, see}
@@ -42,8 +43,8 @@ abbrev pub changedBy : Change → List ℕ → Result (Superblock × Root × Mar
 changedBy c image (fault n p) = record { answer = fault n p; image = image }
 changedBy c image (ok x) = changedOn c image (x .0) (x .1)
 
-unfoldable pub changed : Change → List ℕ → Outcome
-changed c image = changedBy c image (checkImage image)
+unfoldable pub changed : Format → Change → List ℕ → Outcome
+changed format c image = changedBy c image (checkImage format image)
 
 -- The path that is handed in. Bytes that are no path count as `/`: a change refuses both with 8, at the same place of the order.
 abbrev pub orRoot : Option Path → Path

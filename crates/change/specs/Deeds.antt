@@ -47,13 +47,13 @@ writesOf growth taken bytes directory own =
 -- the image after pages are written and then the table
 abbrev pub imageBy : Superblock → List ℕ → List PageWrite → List ℕ → List ℕ
 imageBy s image writes table =
-    storeTable (namesOf image s) (s .end) (λ c. getD table c 0) (2 * tableClusters (s .end)) (writePages (s .geometry) writes image)
+    storeTable (s .geometry .format) (namesOf image s) (s .end) (λ c. getD table c 0) (2 * tableClusters (s .end)) (writePages (s .geometry) writes image)
 
 -- ---- what the code knows before it writes
 
 -- a card that is open, and a table of its length
 pub record Open (s : Superblock) (image table : List ℕ) : Type 0 where
-  pub opened : openCard image ≡ ok s
+  pub opened : openCard (s .geometry .format) image ≡ ok s
   pub long : length table ≡ s .end
 
 -- all free clusters in a list, and as many as are needed

@@ -7,6 +7,7 @@ use mathlib.Core.Option.{Option, none, some}
 use mathlib.Core.Path.{_≡_}
 use lib.ListN.{getD, length}
 use lib.Seq.{sets}
+use Rattle.page.specs.declared.Format.{Format}
 use Rattle.page.specs.Page.{pageAt, put}
 use Rattle.model.specs.Bytes.{littleBytes}
 use Rattle.model.specs.Plan.{Plan}
@@ -19,7 +20,7 @@ use Rattle.layout.specs.Table.{namesOf, tableClusters, tableOf, tablePage}
 -- pages of the allocatable clusters, written in turn
 abbrev pub writePages : Geometry → List PageWrite → List ℕ → List ℕ
 writePages geometry [] image = image
-writePages geometry (w ∷ ws) image = writePages geometry ws (put (w .always) (imagePage geometry (w .page)) (w .bytes) image)
+writePages geometry (w ∷ ws) image = writePages geometry ws (put (geometry .format) (w .always) (imagePage geometry (w .page)) (w .bytes) image)
 
 -- each a write of 512 bytes to a page of the allocatable clusters
 abbrev pub Lands : ℕ → List PageWrite → Type 0
@@ -36,20 +37,20 @@ abbrev pub wordsIn : ℕ → ℕ → ℕ
 wordsIn end t = min 128 (end - 128 * t)
 
 -- a page whose data, as read, is changed; an unreadable page stays, and an open card's table has none
-abbrev pub alteredBy : ℕ → (List ℕ → List ℕ) → List ℕ → Option (List ℕ) → List ℕ
-alteredBy p f image none = image
-alteredBy p f image (some page) = put false p (f page) image
+abbrev pub alteredBy : Format → ℕ → (List ℕ → List ℕ) → List ℕ → Option (List ℕ) → List ℕ
+alteredBy format p f image none = image
+alteredBy format p f image (some page) = put format false p (f page) image
 
-unfoldable pub alterPage : ℕ → (List ℕ → List ℕ) → List ℕ → List ℕ
-alterPage p f image = alteredBy p f image (pageAt image p)
+unfoldable pub alterPage : Format → ℕ → (List ℕ → List ℕ) → List ℕ → List ℕ
+alterPage format p f image = alteredBy format p f image (pageAt format image p)
 
 -- the first k pages of the table, each rewritten where its data changes
-unfoldable pub storeTable : List ℕ → ℕ → (ℕ → ℕ) → ℕ → List ℕ → List ℕ
-storeTable names end words zero image = image
-storeTable names end words (suc t) image =
-    alterPage (tablePage names t) (withWords words (128 * t) (wordsIn end t)) (storeTable names end words t image)
+unfoldable pub storeTable : Format → List ℕ → ℕ → (ℕ → ℕ) → ℕ → List ℕ → List ℕ
+storeTable format names end words zero image = image
+storeTable format names end words (suc t) image =
+    alterPage format (tablePage names t) (withWords words (128 * t) (wordsIn end t)) (storeTable format names end words t image)
 
 unfoldable pub imageAfter : Superblock → List ℕ → Plan → List ℕ
 imageAfter s image plan =
-    storeTable (namesOf image s) (s .end) (wordsAfter plan (λ c. getD (tableOf image s) c 0)) (2 * tableClusters (s .end))
+    storeTable (s .geometry .format) (namesOf image s) (s .end) (wordsAfter plan (λ c. getD (tableOf image s) c 0)) (2 * tableClusters (s .end))
     (writePages (s .geometry) (pageWrites (see s image) plan) image)

@@ -69,7 +69,7 @@ module _ (s : Superblock) (image table : List ℕ) (directory : EntryAt) (name :
 pub record Loaded (image : List ℕ) (s : Superblock) (table : List ℕ) : Type 0 where
   pub root : Root
   pub marks : Marks
-  pub checked : checkImage image ≡ ok (s, root, marks)
+  pub checked : checkImage (s .geometry .format) image ≡ ok (s, root, marks)
   pub words : table ≡ tableOf image s
 
 -- the path has that many names, at least one, and neither 8 nor 14 is met

@@ -2,6 +2,7 @@
 use Prim.Native.Nat.{ℕ, _*_}
 use mathlib.Core.List.{List, _++_}
 use lib.ListN.{drop, getD, length, take}
+use Rattle.page.specs.declared.Format.{Format}
 use Rattle.model.specs.Pages.{zeroPage}
 use Rattle.change.specs.Image.{storeTable, withWords, wordsIn}
 
@@ -14,5 +15,5 @@ abbrev pub tableIn : List ℕ → ℕ → List ℕ → List ℕ
 tableIn table t = withWords (λ c. getD table c 0) (128 * t) (wordsIn (length table) t)
 
 -- the first k pages of the table, by the names of its clusters
-abbrev pub tableStored : List ℕ → List ℕ → ℕ → List ℕ → List ℕ
-tableStored names table = storeTable names (length table) (λ c. getD table c 0)
+abbrev pub tableStored : Format → List ℕ → List ℕ → ℕ → List ℕ → List ℕ
+tableStored format names table = storeTable format names (length table) (λ c. getD table c 0)

@@ -15,6 +15,7 @@ use lookup::way::Arrival;
 use lookup::way::descend;
 use model::MOST_CLUSTERS;
 use model::MOST_NAMES;
+use page::Format;
 use tree::open_checked;
 ghost use mathlib.Core.Path.{_≡_};
 ghost use Rattle.change.specs.Answers.{Leaves};
@@ -118,7 +119,7 @@ fn change_at(
     bytes: &[u8],
 ) -> Answer
     requires { ⌜ Ready (now image) s (now table) kind (now path) count (now time) (now bytes) ⌝ }
-    ensures { λ r. ⌜ Leaves (changed (changeOf kind (pathIn (now (path .entry))) (now (time .entry)) (now (bytes .entry))) (now (image .entry))) r (now (image .exit)) ⌝ }
+    ensures { λ r. ⌜ Leaves (changed (s .geometry .format) (changeOf kind (pathIn (now (path .entry))) (now (time .entry)) (now (bytes .entry))) (now (image .entry))) r (now (image .exit)) ⌝ }
 {
     let a = descend(image, table, s.geometry, path, count - 1);
     let arrival = a.arrival;
@@ -149,7 +150,7 @@ fn change_card(
     bytes: &[u8],
 ) -> Answer
     requires { ⌜ Loaded (now image) s (now table) ⌝ }
-    ensures { λ r. ⌜ Leaves (changed (changeOf kind (pathIn (now (path .entry))) (now (time .entry)) (now (bytes .entry))) (now (image .entry))) r (now (image .exit)) ⌝ }
+    ensures { λ r. ⌜ Leaves (changed (s .geometry .format) (changeOf kind (pathIn (now (path .entry))) (now (time .entry)) (now (bytes .entry))) (now (image .entry))) r (now (image .exit)) ⌝ }
 {
     let parsed = parse_path(path);
     match parsed {
@@ -167,11 +168,18 @@ fn change_card(
 }
 
 // The whole call: the check first, and nothing is written before the last refusal is excluded.
-pub(crate) fn change(image: &mut [u8], kind: Kind, path: &[u8], time: &[u8], bytes: &[u8]) -> Answer
-    ensures { λ r. ⌜ Leaves (changed (changeOf kind (pathIn (now (path .entry))) (now (time .entry)) (now (bytes .entry))) (now (image .entry))) r (now (image .exit)) ⌝ }
+pub(crate) fn change(
+    format: Format,
+    image: &mut [u8],
+    kind: Kind,
+    path: &[u8],
+    time: &[u8],
+    bytes: &[u8],
+) -> Answer
+    ensures { λ r. ⌜ Leaves (changed format (changeOf kind (pathIn (now (path .entry))) (now (time .entry)) (now (bytes .entry))) (now (image .entry))) r (now (image .exit)) ⌝ }
 {
     let mut table = [0u32; MOST_CLUSTERS];
-    let opened = open_checked(image, &mut table);
+    let opened = open_checked(format, image, &mut table);
     match opened {
         Opened::Refused(refusal) => Answer::Refused(refusal),
         Opened::Card(s) => {

@@ -52,10 +52,11 @@ fn write_zeros(image: &mut [u8], geometry: Geometry, growth: &[u32])
     if growth.len() == 0 {
         return;
     }
+    let format = geometry.format;
     let zeros = zero_page();
     let at = image_page(geometry, 2 * (growth[0] as usize));
-    write_page(image, at, &zeros);
-    write_page(image, at + 1, &zeros);
+    write_page(format, image, at, &zeros);
+    write_page(format, image, at + 1, &zeros);
 }
 
 // Writes the page of an entry: a new one always, another where its data changes.
@@ -63,11 +64,12 @@ fn write_entry(image: &mut [u8], geometry: Geometry, write: EntryWrite)
     requires { ⌜ write .at < pageLimit ⌝ }
     ensures { λ _. ⌜ now (image .exit) ≡ writePages geometry (writeOf write ∷ []) (now (image .entry)) ⌝ }
 {
+    let format = geometry.format;
     let at = image_page(geometry, write.at);
     if write.always {
-        write_page(image, at, &write.page);
+        write_page(format, image, at, &write.page);
     } else {
-        rewrite_page(image, at, &write.page);
+        rewrite_page(format, image, at, &write.page);
     }
 }
 

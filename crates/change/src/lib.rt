@@ -12,6 +12,7 @@ mod words;
 use calls::Kind;
 use calls::change;
 use layout::Refusal;
+use page::Format;
 ghost use Rattle.model.specs.Change as is;
 ghost use Rattle.change.specs.Answers.{Leaves};
 ghost use Rattle.change.specs.Changed.{changed, pathIn};
@@ -23,36 +24,36 @@ pub enum Answer {
 }
 
 // Creates a file of these bytes at a path, with this time.
-pub fn create(image: &mut [u8], path: &[u8], time: &[u8], bytes: &[u8]) -> Answer
-    ensures { λ r. ⌜ Leaves (changed (is.create (pathIn (now (path .entry))) (now (time .entry)) (now (bytes .entry))) (now (image .entry))) r (now (image .exit)) ⌝ }
+pub fn create(format: Format, image: &mut [u8], path: &[u8], time: &[u8], bytes: &[u8]) -> Answer
+    ensures { λ r. ⌜ Leaves (changed format (is.create (pathIn (now (path .entry))) (now (time .entry)) (now (bytes .entry))) (now (image .entry))) r (now (image .exit)) ⌝ }
 {
-    change(image, Kind::Create, path, time, bytes)
+    change(format, image, Kind::Create, path, time, bytes)
 }
 
 // Replaces the bytes of the file at a path; its time of change becomes this time.
-pub fn replace(image: &mut [u8], path: &[u8], time: &[u8], bytes: &[u8]) -> Answer
-    ensures { λ r. ⌜ Leaves (changed (is.replace (pathIn (now (path .entry))) (now (time .entry)) (now (bytes .entry))) (now (image .entry))) r (now (image .exit)) ⌝ }
+pub fn replace(format: Format, image: &mut [u8], path: &[u8], time: &[u8], bytes: &[u8]) -> Answer
+    ensures { λ r. ⌜ Leaves (changed format (is.replace (pathIn (now (path .entry))) (now (time .entry)) (now (bytes .entry))) (now (image .entry))) r (now (image .exit)) ⌝ }
 {
-    change(image, Kind::Replace, path, time, bytes)
+    change(format, image, Kind::Replace, path, time, bytes)
 }
 
 // Deletes the file at a path.
-pub fn delete(image: &mut [u8], path: &[u8]) -> Answer
-    ensures { λ r. ⌜ Leaves (changed (is.delete (pathIn (now (path .entry)))) (now (image .entry))) r (now (image .exit)) ⌝ }
+pub fn delete(format: Format, image: &mut [u8], path: &[u8]) -> Answer
+    ensures { λ r. ⌜ Leaves (changed format (is.delete (pathIn (now (path .entry)))) (now (image .entry))) r (now (image .exit)) ⌝ }
 {
-    change(image, Kind::Delete, path, b"", b"")
+    change(format, image, Kind::Delete, path, b"", b"")
 }
 
 // Makes a directory at a path, with this time.
-pub fn make_dir(image: &mut [u8], path: &[u8], time: &[u8]) -> Answer
-    ensures { λ r. ⌜ Leaves (changed (is.makeDirectory (pathIn (now (path .entry))) (now (time .entry))) (now (image .entry))) r (now (image .exit)) ⌝ }
+pub fn make_dir(format: Format, image: &mut [u8], path: &[u8], time: &[u8]) -> Answer
+    ensures { λ r. ⌜ Leaves (changed format (is.makeDirectory (pathIn (now (path .entry))) (now (time .entry))) (now (image .entry))) r (now (image .exit)) ⌝ }
 {
-    change(image, Kind::Make, path, time, b"")
+    change(format, image, Kind::Make, path, time, b"")
 }
 
 // Removes the empty directory at a path.
-pub fn remove_dir(image: &mut [u8], path: &[u8]) -> Answer
-    ensures { λ r. ⌜ Leaves (changed (is.removeDirectory (pathIn (now (path .entry)))) (now (image .entry))) r (now (image .exit)) ⌝ }
+pub fn remove_dir(format: Format, image: &mut [u8], path: &[u8]) -> Answer
+    ensures { λ r. ⌜ Leaves (changed format (is.removeDirectory (pathIn (now (path .entry)))) (now (image .entry))) r (now (image .exit)) ⌝ }
 {
-    change(image, Kind::Remove, path, b"", b"")
+    change(format, image, Kind::Remove, path, b"", b"")
 }

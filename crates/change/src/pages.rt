@@ -48,12 +48,18 @@ pub(crate) fn write_data(image: &mut [u8], geometry: Geometry, clusters: &[u32],
     requires { ⌜ length (now clusters) ≡ clustersFor (length (now bytes)) ⌝ }
     ensures { λ _. ⌜ now (image .exit) ≡ writePages geometry (clusterWrites (pagesOf (now (clusters .entry))) (dataPages (now (bytes .entry)))) (now (image .entry)) ⌝ }
 {
+    let format = geometry.format;
     let count = 2 * clusters.len();
     let mut k: usize = 0;
     while k < count {
         let cluster = clusters[k / 2] as usize;
         let page = data_page(bytes, k);
-        write_page(image, image_page(geometry, 2 * cluster + k % 2), &page);
+        write_page(
+            format,
+            image,
+            image_page(geometry, 2 * cluster + k % 2),
+            &page,
+        );
         k += 1;
     }
 }

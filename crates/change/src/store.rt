@@ -2,6 +2,7 @@
 use fields::writes::put_word;
 use layout::Superblock;
 use layout::table::table_page;
+use page::Format;
 use page::read_page;
 use page::rewrite_page;
 ghost use mathlib.Core.Path.{_≡_};
@@ -45,39 +46,48 @@ fn put_words(page: &mut [u8; 512], table: &[u32], t: usize)
 }
 
 // Page t of the table, which is page p of the image, rewritten where a word of it changed.
-fn store_page(image: &mut [u8], p: usize, table: &[u32], t: usize)
+fn store_page(format: Format, image: &mut [u8], p: usize, table: &[u32], t: usize)
     requires { ⌜ t < 65536 ⌝ }
-    ensures { λ _. ⌜ now (image .exit) ≡ alterPage p (tableIn (now (table .entry)) t) (now (image .entry)) ⌝ }
+    ensures { λ _. ⌜ now (image .exit) ≡ alterPage format p (tableIn (now (table .entry)) t) (now (image .entry)) ⌝ }
 {
     let mut page = [0u8; 512];
-    if read_page(image, p, &mut page) {
+    if read_page(format, image, p, &mut page) {
         put_words(&mut page, table, t);
-        rewrite_page(image, p, &page);
+        rewrite_page(format, image, p, &page);
     }
 }
 
 // All pages of the table, by the first `count` names of the indirect cluster.
-fn store_pages(image: &mut [u8], first: &[u8; 512], second: &[u8; 512], count: usize, table: &[u32])
+fn store_pages(
+    format: Format,
+    image: &mut [u8],
+    first: &[u8; 512],
+    second: &[u8; 512],
+    count: usize,
+    table: &[u32],
+)
     requires { ⌜ count < 32768 ⌝ }
-    ensures { λ _. ⌜ now (image .exit) ≡ tableStored (tableNames (now (first .entry) ++ now (second .entry)) count) (now (table .entry)) (2 * count) (now (image .entry)) ⌝ }
+    ensures { λ _. ⌜ now (image .exit) ≡ tableStored format (tableNames (now (first .entry) ++ now (second .entry)) count) (now (table .entry)) (2 * count) (now (image .entry)) ⌝ }
 {
     let mut t: usize = 0;
     while t < 2 * count {
-        store_page(image, table_page(first, second, count, t), table, t);
+        store_page(format, image, table_page(first, second, count, t), table, t);
         t += 1;
     }
 }
 
 // Stores the table of a card whose indirect cluster is readable.
 pub(crate) fn store_table(image: &mut [u8], s: Superblock, table: &[u32])
-    requires { ⌜ (s .end ≤ mostClusters) × (length (now table) ≡ s .end) × (isSome (pageAt (now image) (2 * s .indirect)) ≡ true) × (isSome (pageAt (now image) (2 * s .indirect + 1)) ≡ true) ⌝ }
-    ensures { λ _. ⌜ now (image .exit) ≡ storeTable (namesOf (now (image .entry)) s) (s .end) (λ c. getD (now (table .entry)) c 0) (2 * tableClusters (s .end)) (now (image .entry)) ⌝ }
+    requires { ⌜ (s .end ≤ mostClusters) × (length (now table) ≡ s .end) × (isSome (pageAt (s .geometry .format) (now image) (2 * s .indirect)) ≡ true) × (isSome (pageAt (s .geometry .format) (now image) (2 * s .indirect + 1)) ≡ true) ⌝ }
+    ensures { λ _. ⌜ now (image .exit) ≡ storeTable (s .geometry .format) (namesOf (now (image .entry)) s) (s .end) (λ c. getD (now (table .entry)) c 0) (2 * tableClusters (s .end)) (now (image .entry)) ⌝ }
 {
+    let geometry = s.geometry;
+    let format = geometry.format;
     let p = 2 * (s.indirect as usize);
     let mut first = [0u8; 512];
-    read_page(image, p, &mut first);
+    read_page(format, image, p, &mut first);
     let mut second = [0u8; 512];
-    read_page(image, p + 1, &mut second);
+    read_page(format, image, p + 1, &mut second);
     let count = (s.end as usize + 255) / 256;
-    store_pages(image, &first, &second, count, table)
+    store_pages(format, image, &first, &second, count, table)
 }

@@ -5,6 +5,7 @@ use mathlib.Core.List.{List}
 use mathlib.Core.Option.{Option, none, some}
 use mathlib.Core.Path.{_∙_, _≡_, ap, refl, sym}
 use lib.ListN.{length}
+use Rattle.page.specs.declared.Format.{Format}
 use Rattle.change.proofs.ChangedLaws.{Done, accepted, answered, checked-parts, performs}
 use Rattle.change.proofs.ChangedView.{end-is, no-words}
 use Rattle.change.specs.Changed as change
@@ -37,46 +38,46 @@ use Rattle.claims.specs.Claims.{Accepts, ChangeKeeps, Commute, Demand3, 
 use Rattle.claims.specs.Seen.{freeIn, freeBy, standingIn, treeIn}
 
 -- ---- an accepted image
-pub record Card (image : List ℕ) : Type 0 where
+pub record Card (format : Format) (image : List ℕ) : Type 0 where
   pub superblock : Superblock
   pub root : Root
   pub marks : Marks
-  pub checked : checkImage image ≡ ok (superblock, root, marks)
+  pub checked : checkImage format image ≡ ok (superblock, root, marks)
 
-pub card-of : (image : List ℕ) (counts : Counts) → checkOf image ≡ ok counts → Card image
+pub card-of : (format : Format) (image : List ℕ) (counts : Counts) → checkOf format image ≡ ok counts → Card format image
 unfolding checkOf andThen
-card-of image counts e = go (checkImage image) refl e
+card-of format image counts e = go (checkImage format image) refl e
   where
-    go : (r : Result (Superblock × Root × Marks)) → checkImage image ≡ r
-        → andThen {A = Superblock × Root × Marks} {B = Counts} r (λ x. ok (countsIn (x .0 .clusters) (x .0 .end) (see (x .0) image) (x .1))) ≡ ok counts → Card image
+    go : (r : Result (Superblock × Root × Marks)) → checkImage format image ≡ r
+        → andThen {A = Superblock × Root × Marks} {B = Counts} r (λ x. ok (countsIn (x .0 .clusters) (x .0 .end) (see (x .0) image) (x .1))) ≡ ok counts → Card format image
     go (fault n p) f k = not-ok n p counts k
     go (ok x) f k = record { superblock = x .0; root = x .1; marks = x .2; checked = f }
 
 -- what is told of it, by its view
-module _ (image : List ℕ) (s : Superblock) (root : Root) (m : Marks) (checked : checkImage image ≡ ok (s, root, m)) where
-  pub counted : checkOf image ≡ ok (countsIn (s .clusters) (s .end) (see s image) root)
+module _ (format : Format) (image : List ℕ) (s : Superblock) (root : Root) (m : Marks) (checked : checkImage format image ≡ ok (s, root, m)) where
+  pub counted : checkOf format image ≡ ok (countsIn (s .clusters) (s .end) (see s image) root)
   unfolding checkOf andThen
   counted = rw checked
 
-  pub tree-is : (q : Path) → treeIn image q ≡ treeOf (see s image) q
+  pub tree-is : (q : Path) → treeIn format image q ≡ treeOf (see s image) q
   unfolding treeIn treeOf
-  tree-is q = ap (λ r. standingIn r q) checked ∙ sym (ap (λ r. standingsOf r q) ((checked-parts image s root m checked) .1))
+  tree-is q = ap (λ r. standingIn r q) checked ∙ sym (ap (λ r. standingsOf r q) ((checked-parts format image s root m checked) .1))
 
-  pub free-is : freeIn image ≡ freeOf (rulesOf s) (see s image)
+  pub free-is : freeIn format image ≡ freeOf (rulesOf s) (see s image)
   unfolding freeIn
   free-is =
       ap freeBy counted
-      ∙ ap (λ n. totalBelow (λ c. isFree ((see s image) .link c)) n) (sym (end-is image s ((checked-parts image s root m checked) .0)))
+      ∙ ap (λ n. totalBelow (λ c. isFree ((see s image) .link c)) n) (sym (end-is format image s ((checked-parts format image s root m checked) .0)))
 
-  pub long-is : length image ≡ clusterBytes * s .clusters
-  long-is = (open-facts image s ((checked-parts image s root m checked) .0)) .long
+  pub long-is : length image ≡ clusterBytes (s .geometry .format) * s .clusters
+  long-is = (open-facts format image s ((checked-parts format image s root m checked) .0)) .long
 
   -- what a change takes and gives back
-  pub taken-is : (c : Change) → takenBy c image ≡ needed c root
+  pub taken-is : (c : Change) → takenBy format c image ≡ needed c root
   unfolding takenBy
   taken-is c = ap (byTree (needed c)) checked
 
-  pub back-is : (c : Change) → givenBackBy c image ≡ givenBack (rulesOf s) c root
+  pub back-is : (c : Change) → givenBackBy format c image ≡ givenBack (rulesOf s) c root
   unfolding givenBackBy
   back-is c =
       ap (byTree (λ r. cond (creates c) 0 (tell clustersOf 0 (lookUp r (path c))))) checked
@@ -85,48 +86,48 @@ module _ (image : List ℕ) (s : Superblock) (root : Root) (m : Marks) (checked 
       go : (f : Found) → lookUp root (path c) ≡ f → tell clustersOf 0 f ≡ tell (clustersBack (rulesOf s)) 0 f
       go absent e = refl
       go (found h t) e =
-          let parts = checked-parts image s root m checked in
+          let parts = checked-parts format image s root m checked in
           let card = (check-holds (see s image) root m (parts .1)) .0 in
           sym
           (total-times (chainOf h) ((rulesOf s) .allocEnd)
-          (λ x l. not-free (see s image) root card (path c) h t e x (no-words image s (parts .0) x l)))
+          (λ x l. not-free (see s image) root card (path c) h t e x (no-words format image s (parts .0) x l)))
 
   pub room-is : (c : Change)
-      → freeIn image - takenBy c image + givenBackBy c image ≡ freeOf (rulesOf s) (see s image) - needed c root + givenBack (rulesOf s) c root
+      → freeIn format image - takenBy format c image + givenBackBy format c image ≡ freeOf (rulesOf s) (see s image) - needed c root + givenBack (rulesOf s) c root
   room-is c = rw (free-is, taken-is c, back-is c)
 
 -- ---- one change
-module _ (image : List ℕ) (s : Superblock) (root : Root) (m : Marks) (checked : checkImage image ≡ ok (s, root, m)) (c : Change) (d : Done image s root m checked c) where
-  pub left : imageLeft c image ≡ d .after
+module _ (format : Format) (image : List ℕ) (s : Superblock) (root : Root) (m : Marks) (checked : checkImage format image ≡ ok (s, root, m)) (c : Change) (d : Done format image s root m checked c) where
+  pub left : imageLeft format c image ≡ d .after
   left = ap (λ (o : change.Outcome). o .image) (d .outcome)
 
-  pub told : Accepts image c
+  pub told : Accepts format image c
   told = ap (λ (o : change.Outcome). o .answer) (d .outcome)
 
-  pub kept : Kept image c
+  pub kept : Kept format image c
   kept =
-      let parts = checked-parts image s root m checked in
-      let held : model.Accepted (rulesOf s) (see s image) = record { root = root; marks = m; checked = parts .1; noWords = no-words image s (parts .0) } in
+      let parts = checked-parts format image s root m checked in
+      let held : model.Accepted (rulesOf s) (see s image) = record { root = root; marks = m; checked = parts .1; noWords = no-words format image s (parts .0) } in
       let k = change-keeps (rulesOf s) (see s image) held c (see s (d .after)) (d .performed) in
       record {
         counts = countsIn (s .clusters) (s .end) (see s (d .after)) (d .newRoot);
-        again = ap checkOf left ∙ counted (d .after) s (d .newRoot) (d .newMarks) (d .again);
-        long = ap length left ∙ long-is (d .after) s (d .newRoot) (d .newMarks) (d .again) ∙ sym (long-is image s root m checked);
+        again = ap (checkOf format) left ∙ counted format (d .after) s (d .newRoot) (d .newMarks) (d .again);
+        long = ap length left ∙ long-is format (d .after) s (d .newRoot) (d .newMarks) (d .again) ∙ sym (long-is format image s root m checked);
         paths = λ q.
-            ap (λ i. treeIn i q) left ∙ tree-is (d .after) s (d .newRoot) (d .newMarks) (d .again) q ∙ k .paths q
-            ∙ ap (λ o. cond (samePath q (path c)) (standingAfter c o) o) (sym (tree-is image s root m checked q));
-        room = rw (taken-is image s root m checked c, free-is image s root m checked) (k .room);
-        free = ap freeIn left ∙ free-is (d .after) s (d .newRoot) (d .newMarks) (d .again) ∙ k .free ∙ sym (room-is image s root m checked c);
+            ap (λ i. treeIn format i q) left ∙ tree-is format (d .after) s (d .newRoot) (d .newMarks) (d .again) q ∙ k .paths q
+            ∙ ap (λ o. cond (samePath q (path c)) (standingAfter c o) o) (sym (tree-is format image s root m checked q));
+        room = rw (taken-is format image s root m checked c, free-is format image s root m checked) (k .room);
+        free = ap (freeIn format) left ∙ free-is format (d .after) s (d .newRoot) (d .newMarks) (d .again) ∙ k .free ∙ sym (room-is format image s root m checked c);
       }
 
 pub keeps : ChangeKeeps
-keeps image counts e c a =
-    let k = card-of image counts e in
-    kept image (k .superblock) (k .root) (k .marks) (k .checked) c (answered image (k .superblock) (k .root) (k .marks) (k .checked) c a)
+keeps format image counts e c a =
+    let k = card-of format image counts e in
+    kept format image (k .superblock) (k .root) (k .marks) (k .checked) c (answered format image (k .superblock) (k .root) (k .marks) (k .checked) c a)
 
 pub refusal-leaves : RefusalLeaves
 unfolding changed
-refusal-leaves image c n p e = go (checkImage image) e
+refusal-leaves format image c n p e = go (checkImage format image) e
   where
     by-number : (s : Superblock) (k : ℕ) (plan : Option Plan) → (decided k image (outcomeWith s image plan)) .answer ≡ fault n p
         → (decided k image (outcomeWith s image plan)) .image ≡ image
@@ -140,17 +141,17 @@ refusal-leaves image c n p e = go (checkImage image) e
         by-number (x .0) (refusal (rulesOf (x .0)) c (see (x .0) image) (x .1)) (planOf (rulesOf (x .0)) c (see (x .0) image) (x .1)) e
 
 -- ---- demand 3
-module _ (image : List ℕ) (s : Superblock) (root : Root) (m : Marks) (checked : checkImage image ≡ ok (s, root, m)) where
+module _ (format : Format) (image : List ℕ) (s : Superblock) (root : Root) (m : Marks) (checked : checkImage format image ≡ ok (s, root, m)) where
   -- both calls of an order that is accepted to its end
   pub record Both (a b : Change) : Type 0 where
-    pub one : Done image s root m checked a
-    pub other : Done (one .after) s (one .newRoot) (one .newMarks) (one .again) b
+    pub one : Done format image s root m checked a
+    pub other : Done format (one .after) s (one .newRoot) (one .newMarks) (one .again) b
 
-  both : (a b : Change) → Order image a b → Both a b
+  both : (a b : Change) → Order format image a b → Both a b
   both a b o =
-      let d = answered image s root m checked a (o .first) in
-      let second : Accepts (d .after) b = rw (left image s root m checked a d) at (o .second) in
-      record { one = d; other = answered (d .after) s (d .newRoot) (d .newMarks) (d .again) b second }
+      let d = answered format image s root m checked a (o .first) in
+      let second : Accepts format (d .after) b = rw (left format image s root m checked a d) at (o .second) in
+      record { one = d; other = answered format (d .after) s (d .newRoot) (d .newMarks) (d .again) b second }
 
   module _ (a b : Change) (w : Both a b) where
     abbrev view-order : model.ViewOrder (rulesOf s) (see s image) a b
@@ -162,29 +163,29 @@ module _ (image : List ℕ) (s : Superblock) (root : Root) (m : Marks) (checked 
           thenDone = w .other .performed;
         }
 
-    ends : final image a b ≡ w .other .after
-    ends = ap (imageLeft b) (left image s root m checked a (w .one)) ∙ left (w .one .after) s (w .one .newRoot) (w .one .newMarks) (w .one .again) b (w .other)
+    ends : final format image a b ≡ w .other .after
+    ends = ap (imageLeft format b) (left format image s root m checked a (w .one)) ∙ left format (w .one .after) s (w .one .newRoot) (w .one .newMarks) (w .one .again) b (w .other)
 
-    end-tree : (q : Path) → treeIn (final image a b) q ≡ treeOf (see s (w .other .after)) q
-    end-tree q = ap (λ i. treeIn i q) ends ∙ tree-is (w .other .after) s (w .other .newRoot) (w .other .newMarks) (w .other .again) q
+    end-tree : (q : Path) → treeIn format (final format image a b) q ≡ treeOf (see s (w .other .after)) q
+    end-tree q = ap (λ i. treeIn format i q) ends ∙ tree-is format (w .other .after) s (w .other .newRoot) (w .other .newMarks) (w .other .again) q
 
-    end-free : freeIn (final image a b) ≡ freeOf (rulesOf s) (see s (w .other .after))
-    end-free = ap freeIn ends ∙ free-is (w .other .after) s (w .other .newRoot) (w .other .newMarks) (w .other .again)
+    end-free : freeIn format (final format image a b) ≡ freeOf (rulesOf s) (see s (w .other .after))
+    end-free = ap (freeIn format) ends ∙ free-is format (w .other .after) s (w .other .newRoot) (w .other .newMarks) (w .other .again)
 
   same-done : (u w : View) → done u ≡ done w → u ≡ w
   same-done u w e = cc
 
-  image-order : (a b : Change) → model.ViewOrder (rulesOf s) (see s image) a b → Order image a b
+  image-order : (a b : Change) → model.ViewOrder (rulesOf s) (see s image) a b → Order format image a b
   image-order a b o =
-      let d = performs image s root m checked a (o .between) (o .firstDone) in
+      let d = performs format image s root m checked a (o .between) (o .firstDone) in
       let same : o .between ≡ see s (d .after) = same-done _ _ (sym (o .firstDone) ∙ d .performed) in
       let then : perform (rulesOf s) b (see s (d .after)) ≡ done (o .final) = rw same at (o .thenDone) in
-      let e = performs (d .after) s (d .newRoot) (d .newMarks) (d .again) b (o .final) then in
-      record { first = told image s root m checked a d; second = rw (left image s root m checked a d) (told (d .after) s (d .newRoot) (d .newMarks) (d .again) b e) }
+      let e = performs format (d .after) s (d .newRoot) (d .newMarks) (d .again) b (o .final) then in
+      record { first = told format image s root m checked a d; second = rw (left format image s root m checked a d) (told format (d .after) s (d .newRoot) (d .newMarks) (d .again) b e) }
 
-  pub commute : (a b : Change) → beginning (path a) (path b) ≡ false → beginning (path b) (path a) ≡ false → Commute image a b
+  pub commute : (a b : Change) → beginning (path a) (path b) ≡ false → beginning (path b) (path a) ≡ false → Commute format image a b
   commute a b h k =
-      let view = demand-3-holds (rulesOf s) (see s image) (accepted image s root m checked) a b h k in
+      let view = demand-3-holds (rulesOf s) (see s image) (accepted format image s root m checked) a b h k in
       record {
         tree = λ o p q. let x = both a b o in let z = both b a p in
             end-tree a b x q ∙ view .tree (view-order a b x) (view-order b a z) q ∙ sym (end-tree b a z q);
@@ -195,4 +196,4 @@ module _ (image : List ℕ) (s : Superblock) (root : Root) (m : Marks) (checked 
       }
 
 pub demand-3 : Demand3
-demand-3 image counts e a b h k = let c = card-of image counts e in commute image (c .superblock) (c .root) (c .marks) (c .checked) a b h k
+demand-3 format image counts e a b h k = let c = card-of format image counts e in commute format image (c .superblock) (c .root) (c .marks) (c .checked) a b h k

@@ -6,3 +6,7 @@ pub mod ImageClaims
 pub mod Witness
 pub mod FilePages
 pub mod ReadsTree
+pub mod OpenAlike
+pub mod ChangeAlike
+pub mod FormatsAlike
+pub mod Conversions

@@ -9,9 +9,11 @@ use native.Mathlib.Omega.{arith}
 use borrow.Author.Tests.{le-leb, le-ltb, ltb-false}
 use lib.Dec.{ltb}
 use lib.ListN.{getD, length, take}
+use Rattle.page.specs.declared.Format.{Format}
 use Rattle.change.proofs.ChangedLaws.{checked-parts}
 use Rattle.fields.specs.PathBytes.{pathOf}
 use Rattle.layout.specs.declared.Superblock.{Superblock}
+use Rattle.layout.proofs.OpenFacts.{open-format}
 use Rattle.layout.specs.See.{checkImage, imagePage, onImage, pageIn, see}
 use Rattle.layout.specs.Table.{tableOf}
 use Rattle.lookup.proofs.Arrivals.{arrive}
@@ -75,11 +77,11 @@ module _ (image : List ℕ) (s : Superblock) where
   room-for : (e : Entry) (cs : List ℕ) → length cs ≡ fileClusters e → e .length ≤ 512 * length (pagesOf cs)
   room-for e cs h = omega (arith, length-pages cs)
 
-  unreadable : (cs : List ℕ) → Used cs → (p : ℕ) → 1 ≤ times (pagesOf cs) p → v .page p ≡ none → pageAt image (imagePage (s .geometry) p) ≡ none
+  unreadable : (cs : List ℕ) → Used cs → (p : ℕ) → 1 ≤ times (pagesOf cs) p → v .page p ≡ none → pageAt (s .geometry .format) image (imagePage (s .geometry) p) ≡ none
   unfolding pageIn
   unreadable cs used p h e = go (ltb p (2 * length (tableOf image s))) refl e
     where
-      go : (b : Bool) → ltb p (2 * length (tableOf image s)) ≡ b → cond b (pageAt image (imagePage (s .geometry) p)) none ≡ none → pageAt image (imagePage (s .geometry) p) ≡ none
+      go : (b : Bool) → ltb p (2 * length (tableOf image s)) ≡ b → cond b (pageAt (s .geometry .format) image (imagePage (s .geometry) p)) none ≡ none → pageAt (s .geometry .format) image (imagePage (s .geometry) p) ≡ none
       go true t x = x
       go false t x =
           let past : length (tableOf image s) ≤ p / 2 = omega (arith, ltb-false p (2 * length (tableOf image s)) t) in
@@ -91,7 +93,7 @@ module _ (image : List ℕ) (s : Superblock) where
   pageOfFile e cs k = onImage (s .geometry) (readFrom (512 * k) 512 (Slot.file e cs (map (v .page) (pagesOf cs))) Tree.end)
 
   whole-told : (e : Entry) (cs : List ℕ) → length cs ≡ fileClusters e → Used cs → (k : ℕ) (w : Option (List ℕ)) (r : Result (List ℕ)) → Whole (v .page) sized (pagesOf cs) (e .length) k w r
-      → BytesOr2 image (pageOfFile e cs) k w (onImage (s .geometry) (andThen r (λ bytes. ok (take (e .length) bytes))))
+      → BytesOr2 (s .geometry .format) image (pageOfFile e cs) k w (onImage (s .geometry) (andThen r (λ bytes. ok (take (e .length) bytes))))
   unfolding andThen
   whole-told e cs long used k none (fault m p) x =
       let u : v .page (getD (pagesOf cs) k 0) ≡ none = rw (x .4) (x .1) in
@@ -102,7 +104,7 @@ module _ (image : List ℕ) (s : Superblock) where
   whole-told e cs long used k (some bytes) (ok gathered) x = ap {B = Result (List ℕ)} ok x
 
   read-tells : (f : Found) (r : Result (Slot × Tree)) → Met v f r → ((h : Slot) (t : Tree) → f ≡ found h t → Used (chainOf h)) → (room : ℕ)
-      → ReadTells image (λ k. onImage (s .geometry) (andThen r (λ x. readFrom (512 * k) 512 (x .0) (x .1)))) room (tell standing none f)
+      → ReadTells (s .geometry .format) image (λ k. onImage (s .geometry) (andThen r (λ x. readFrom (512 * k) 512 (x .0) (x .1)))) room (tell standing none f)
       (onImage (s .geometry) (andThen r (λ x. readFrom 0 room (x .0) (x .1))))
   unfolding andThen
   read-tells absent (fault n p) m used room = ⊎-elim (λ (e : n ≡ 9). inl (rw (m .0, e))) (λ (e : n ≡ 10). inr (rw (m .0, e))) (m .1)
@@ -111,7 +113,7 @@ module _ (image : List ℕ) (s : Superblock) where
   read-tells (found h t) (ok x) m used room = rw (m .0, m .1) (go h (m .2) (used h t refl))
     where
       go : (h : Slot) → Kinded v h → Used (chainOf h)
-          → ReadTells image (λ k. onImage (s .geometry) (readFrom (512 * k) 512 h t)) room (standing h t) (onImage (s .geometry) (readFrom 0 room h t))
+          → ReadTells (s .geometry .format) image (λ k. onImage (s .geometry) (readFrom (512 * k) 512 h t)) room (standing h t) (onImage (s .geometry) (readFrom 0 room h t))
       go Slot.dead k u = absurd k
       go (Slot.file e cs ds) k u = λ fits.
           rw (k .2, le-leb 0 (e .length) (omega arith), copy-all (e .length) room fits, read-all (v .page) sized (e .length) cs)
@@ -141,53 +143,53 @@ module _ (image : List ℕ) (s : Superblock) where
 
 -- ---- the claim
 
-module _ (image : List ℕ) (s : Superblock) (root : Root) (m : Marks) (checked : checkImage image ≡ ok (s, root, m)) (path : List ℕ) (names : Path) (parsed : pathOf path ≡ some names) where
+module _ (format : Format) (image : List ℕ) (s : Superblock) (root : Root) (m : Marks) (checked : checkImage format image ≡ ok (s, root, m)) (path : List ℕ) (names : Path) (parsed : pathOf path ≡ some names) where
   card : HoldsCard (see s image) root
-  card = (check-holds (see s image) root m ((checked-parts image s root m checked) .1)) .0
+  card = (check-holds (see s image) root m ((checked-parts format image s root m checked) .1)) .0
 
   abbrev there : Result (Slot × Tree)
   there = arrive (rootSlot root) (root .slots) names
 
-  tree-at : treeIn image names ≡ tell standing none (lookUp root names)
+  tree-at : treeIn format image names ≡ tell standing none (lookUp root names)
   unfolding treeIn
   tree-at = ap (λ r. standingIn r names) checked
 
-  found-at : findOf image path ≡ andThen there (λ x. foundEntry (x .0) (x .1))
-  found-at = call-accepted image path (λ s. findIn) s root m checked ∙ ap (λ o. withPath o (findIn root)) parsed ∙ at-path foundEntry root names
+  found-at : findOf format image path ≡ andThen there (λ x. foundEntry (x .0) (x .1))
+  found-at = call-accepted format image path (λ s. findIn) s root m checked ∙ ap (λ o. withPath o (findIn root)) parsed ∙ at-path foundEntry root names
 
-  read-at : (from room : ℕ) → readOf image path from room ≡ onImage (s .geometry) (andThen there (λ x. readFrom from room (x .0) (x .1)))
+  read-at : (from room : ℕ) → readOf format image path from room ≡ onImage (s .geometry) (andThen there (λ x. readFrom from room (x .0) (x .1)))
   read-at from room =
-      call-accepted image path (λ t r q. onImage (t .geometry) (readIn r q from room)) s root m checked
+      call-accepted format image path (λ t r q. onImage (t .geometry) (readIn r q from room)) s root m checked
       ∙ ap (λ o. withPath o (λ q. onImage (s .geometry) (readIn root q from room))) parsed
       ∙ ap (onImage (s .geometry)) (at-path (readFrom from room) root names)
 
-  page-at : pageRead image path ≡ (λ k. onImage (s .geometry) (andThen there (λ x. readFrom (512 * k) 512 (x .0) (x .1))))
+  page-at : pageRead format image path ≡ (λ k. onImage (s .geometry) (andThen there (λ x. readFrom (512 * k) 512 (x .0) (x .1))))
   page-at = λ i k. read-at (512 * k) 512 i
 
-  pub reads : Reads image path names
+  pub reads : Reads format image path names
   reads =
       let arrived = met (see s image) root card names in
       record {
         find = rw (tree-at, found-at) (find-tells (see s image) (lookUp root names) there arrived);
         read = λ room.
-            rw (tree-at, read-at 0 room, page-at)
+            rw (tree-at, read-at 0 room, page-at, open-format format image s ((checked-parts format image s root m checked) .0))
             (read-tells image s (lookUp root names) there arrived (λ h t e. not-free (see s image) root card names h t e) room);
         tree = tree-at ∙ tree-tells image s (lookUp root names) there arrived ∙ sym (ap₂ standingBy found-at page-at);
       }
 
-module _ (image : List ℕ) (s : Superblock) (root : Root) (m : Marks) (checked : checkImage image ≡ ok (s, root, m)) where
-  pub handed : (names : Path) (there : Standing) → treeIn image names ≡ some there → (path : List ℕ) × (pathOf path ≡ some names)
+module _ (format : Format) (image : List ℕ) (s : Superblock) (root : Root) (m : Marks) (checked : checkImage format image ≡ ok (s, root, m)) where
+  pub handed : (names : Path) (there : Standing) → treeIn format image names ≡ some there → (path : List ℕ) × (pathOf path ≡ some names)
   unfolding treeIn
   handed names there e = go (lookUp root names) refl (sym (ap (λ r. standingIn r names) checked) ∙ e)
     where
       go : (f : Found) → lookUp root names ≡ f → tell standing none f ≡ some there → (path : List ℕ) × (pathOf path ≡ some names)
       go absent i k = absurd (let z : _≡_ {A = ℕ} 0 1 = cc in omega arith)
-      go (found h t) i k = path-there (see s image) root ((check-holds (see s image) root m ((checked-parts image s root m checked) .1)) .0) names h t i
+      go (found h t) i k = path-there (see s image) root ((check-holds (see s image) root m ((checked-parts format image s root m checked) .1)) .0) names h t i
 
 pub tree-is-reading : TreeIsReading
-tree-is-reading image counts e =
-    let c = card-of image counts e in
+tree-is-reading format image counts e =
+    let c = card-of format image counts e in
     record {
-      everywhere = reads image (c .superblock) (c .root) (c .marks) (c .checked);
-      handed = handed image (c .superblock) (c .root) (c .marks) (c .checked);
+      everywhere = reads format image (c .superblock) (c .root) (c .marks) (c .checked);
+      handed = handed format image (c .superblock) (c .root) (c .marks) (c .checked);
     }

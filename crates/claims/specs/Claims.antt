@@ -5,6 +5,7 @@ use mathlib.Core.List.{List}
 use mathlib.Core.Logic.{_↔_}
 use mathlib.Core.Path.{_≡_}
 use lib.ListN.{length}
+use Rattle.page.specs.declared.Format.{Format}
 use Rattle.change.specs.Changed.{changed}
 use Rattle.layout.specs.declared.Superblock.{Superblock}
 use Rattle.layout.specs.See.{checkImage}
@@ -21,11 +22,11 @@ use Rattle.claims.specs.Seen.{freeIn, treeIn}
 -- ---- one change
 
 -- the image that a change leaves, accepted or refused
-abbrev pub imageLeft : Change → List ℕ → List ℕ
-imageLeft c image = (changed c image) .image
+abbrev pub imageLeft : Format → Change → List ℕ → List ℕ
+imageLeft format c image = (changed format c image) .image
 
-abbrev pub Accepts : List ℕ → Change → Type 0
-Accepts image c = (changed c image) .answer ≡ ok tt
+abbrev pub Accepts : Format → List ℕ → Change → Type 0
+Accepts format image c = (changed format c image) .answer ≡ ok tt
 
 -- a number by the tree that the check gives
 abbrev pub byTree : (Root → ℕ) → Result (Superblock × Root × Marks) → ℕ
@@ -33,54 +34,54 @@ byTree count (fault n p) = 0
 byTree count (ok x) = count (x .1)
 
 -- The clusters that a change takes: for its data, one for a new directory, none for a removal, and its directory's growth.
-unfoldable pub takenBy : Change → List ℕ → ℕ
-takenBy c image = byTree (needed c) (checkImage image)
+unfoldable pub takenBy : Format → Change → List ℕ → ℕ
+takenBy format c image = byTree (needed c) (checkImage format image)
 
 -- The clusters that come back: those of the chain that was at the path, where the change is no creation.
 abbrev pub clustersOf : Slot → Tree → ℕ
 clustersOf slot inside = length (chainOf slot)
 
-unfoldable pub givenBackBy : Change → List ℕ → ℕ
-givenBackBy c image = byTree (λ root. cond (creates c) 0 (tell clustersOf 0 (lookUp root (path c)))) (checkImage image)
+unfoldable pub givenBackBy : Format → Change → List ℕ → ℕ
+givenBackBy format c image = byTree (λ root. cond (creates c) 0 (tell clustersOf 0 (lookUp root (path c)))) (checkImage format image)
 
 -- The image is accepted again and has its length; the change's own path is what the rules say, and every other path stays;
 -- as many clusters were free as it takes, and the free count is then the old one less those, plus what came back.
-pub record Kept (image : List ℕ) (c : Change) : Type 0 where
+pub record Kept (format : Format) (image : List ℕ) (c : Change) : Type 0 where
   pub counts : Counts
-  pub again : checkOf (imageLeft c image) ≡ ok counts
-  pub long : length (imageLeft c image) ≡ length image
-  pub paths : (q : Path) → treeIn (imageLeft c image) q ≡ cond (samePath q (path c)) (standingAfter c (treeIn image q)) (treeIn image q)
-  pub room : takenBy c image ≤ freeIn image
-  pub free : freeIn (imageLeft c image) ≡ freeIn image - takenBy c image + givenBackBy c image
+  pub again : checkOf format (imageLeft format c image) ≡ ok counts
+  pub long : length (imageLeft format c image) ≡ length image
+  pub paths : (q : Path) → treeIn format (imageLeft format c image) q ≡ cond (samePath q (path c)) (standingAfter c (treeIn format image q)) (treeIn format image q)
+  pub room : takenBy format c image ≤ freeIn format image
+  pub free : freeIn format (imageLeft format c image) ≡ freeIn format image - takenBy format c image + givenBackBy format c image
 
 abbrev pub ChangeKeeps : Type 0
-ChangeKeeps = (image : List ℕ) (counts : Counts) → checkOf image ≡ ok counts → (c : Change) → Accepts image c → Kept image c
+ChangeKeeps = (format : Format) (image : List ℕ) (counts : Counts) → checkOf format image ≡ ok counts → (c : Change) → Accepts format image c → Kept format image c
 
 -- A refusal leaves the image as it was.
 abbrev pub RefusalLeaves : Type 0
-RefusalLeaves = (image : List ℕ) (c : Change) (n p : ℕ) → (changed c image) .answer ≡ fault n p → imageLeft c image ≡ image
+RefusalLeaves = (format : Format) (image : List ℕ) (c : Change) (n p : ℕ) → (changed format c image) .answer ≡ fault n p → imageLeft format c image ≡ image
 
 -- ---- demand 3
 
 -- Two changes in this order, accepted to its end: the second gets the image as the first left it.
-pub record Order (image : List ℕ) (a b : Change) : Type 0 where
-  pub first : Accepts image a
-  pub second : Accepts (imageLeft a image) b
+pub record Order (format : Format) (image : List ℕ) (a b : Change) : Type 0 where
+  pub first : Accepts format image a
+  pub second : Accepts format (imageLeft format a image) b
 
 -- each order on its own copy of the image
-abbrev pub final : List ℕ → Change → Change → List ℕ
-final image a b = imageLeft b (imageLeft a image)
+abbrev pub final : Format → List ℕ → Change → Change → List ℕ
+final format image a b = imageLeft format b (imageLeft format a image)
 
-pub record Commute (image : List ℕ) (a b : Change) : Type 0 where
+pub record Commute (format : Format) (image : List ℕ) (a b : Change) : Type 0 where
   -- where all four calls are accepted both orders end with the same tree
-  pub tree : Order image a b → Order image b a → (q : Path) → treeIn (final image a b) q ≡ treeIn (final image b a) q
+  pub tree : Order format image a b → Order format image b a → (q : Path) → treeIn format (final format image a b) q ≡ treeIn format (final format image b a) q
   -- and the same free count, unless one creates and the other removes in the same directory
-  pub free : Order image a b → Order image b a → ¬ Crossed a b → freeIn (final image a b) ≡ freeIn (final image b a)
+  pub free : Order format image a b → Order format image b a → ¬ Crossed a b → freeIn format (final format image a b) ≡ freeIn format (final format image b a)
   -- of two creations one order is accepted to its end exactly when the other is
-  pub creations : creates a ≡ true → creates b ≡ true → Order image a b ↔ Order image b a
+  pub creations : creates a ≡ true → creates b ≡ true → Order format image a b ↔ Order format image b a
 
 -- Any two changes at different paths, neither a beginning of the other, commute on any accepted card.
 abbrev pub Demand3 : Type 0
 Demand3 =
-    (image : List ℕ) (counts : Counts) → checkOf image ≡ ok counts → (a b : Change)
-    → beginning (path a) (path b) ≡ false → beginning (path b) (path a) ≡ false → Commute image a b
+    (format : Format) (image : List ℕ) (counts : Counts) → checkOf format image ≡ ok counts → (a b : Change)
+    → beginning (path a) (path b) ≡ false → beginning (path b) (path a) ≡ false → Commute format image a b

@@ -4,3 +4,5 @@ pub mod Witness
 pub mod Numbers
 pub mod ReadsTree
 pub mod Claims
+pub mod Formats
+pub mod Conversions

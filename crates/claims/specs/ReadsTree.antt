@@ -5,6 +5,7 @@ use mathlib.Core.List.{List, [], _∷_, _++_}
 use mathlib.Core.Logic.{_⊎_}
 use mathlib.Core.Option.{Option, none, some}
 use mathlib.Core.Path.{_≡_}
+use Rattle.page.specs.declared.Format.{Format}
 use Rattle.fields.specs.PathBytes.{pathOf}
 use Rattle.lookup.specs.Find.{findOf}
 use Rattle.lookup.specs.Read.{readOf}
@@ -48,16 +49,16 @@ firstUnreadable (none ∷ pages) = 0
 firstUnreadable (some bytes ∷ pages) = suc (firstUnreadable pages)
 
 -- The file's bytes; or 2 with a page of the image that is unreadable, the one that a read of the file's first unreadable page alone tells.
-abbrev pub BytesOr2 : List ℕ → (ℕ → Result (List ℕ)) → ℕ → Option (List ℕ) → Result (List ℕ) → Type 0
-BytesOr2 image page k (some bytes) answer = answer ≡ ok bytes
-BytesOr2 image page k none answer = (p : ℕ) × (answer ≡ fault 2 p) × (page k ≡ fault 2 p) × (pageAt image p ≡ none)
+abbrev pub BytesOr2 : Format → List ℕ → (ℕ → Result (List ℕ)) → ℕ → Option (List ℕ) → Result (List ℕ) → Type 0
+BytesOr2 format image page k (some bytes) answer = answer ≡ ok bytes
+BytesOr2 format image page k none answer = (p : ℕ) × (answer ≡ fault 2 p) × (page k ≡ fault 2 p) × (pageAt format image p ≡ none)
 
 -- A read from the start into a buffer with room for the file answers its bytes; reading a directory is 10.
 -- `page k` is what a read of the file's page k answers.
-abbrev pub ReadTells : List ℕ → (ℕ → Result (List ℕ)) → ℕ → Option Standing → Result (List ℕ) → Type 0
-ReadTells image page room none answer = NothingThere answer
-ReadTells image page room (some (Standing.file f c)) answer = c .size ≤ room → BytesOr2 image page (firstUnreadable (c .pages)) (wholeOf (c .pages)) answer
-ReadTells image page room (some (Standing.directory f)) answer = answer ≡ fault 10 0
+abbrev pub ReadTells : Format → List ℕ → (ℕ → Result (List ℕ)) → ℕ → Option Standing → Result (List ℕ) → Type 0
+ReadTells format image page room none answer = NothingThere answer
+ReadTells format image page room (some (Standing.file f c)) answer = c .size ≤ room → BytesOr2 format image page (firstUnreadable (c .pages)) (wholeOf (c .pages)) answer
+ReadTells format image page room (some (Standing.directory f)) answer = answer ≡ fault 10 0
 
 -- ---- the tree from the answers
 
@@ -81,18 +82,18 @@ standingBy (ok e) page =
 -- ---- the claim
 
 -- a read of the 512 bytes of a file's page k, or of as many as it has there
-abbrev pub pageRead : List ℕ → List ℕ → ℕ → Result (List ℕ)
-pageRead image path k = readOf image path (512 * k) 512
+abbrev pub pageRead : Format → List ℕ → List ℕ → ℕ → Result (List ℕ)
+pageRead format image path k = readOf format image path (512 * k) 512
 
-pub record Reads (image path : List ℕ) (names : Path) : Type 0 where
-  pub find : FindTells (treeIn image names) (findOf image path)
-  pub read : (room : ℕ) → ReadTells image (pageRead image path) room (treeIn image names) (readOf image path 0 room)
-  pub tree : treeIn image names ≡ standingBy (findOf image path) (pageRead image path)
+pub record Reads (format : Format) (image path : List ℕ) (names : Path) : Type 0 where
+  pub find : FindTells (treeIn format image names) (findOf format image path)
+  pub read : (room : ℕ) → ReadTells format image (pageRead format image path) room (treeIn format image names) (readOf format image path 0 room)
+  pub tree : treeIn format image names ≡ standingBy (findOf format image path) (pageRead format image path)
 
 -- At every path that can be handed in; and where something stands, there is such a path.
-pub record ReadsAll (image : List ℕ) : Type 0 where
-  pub everywhere : (path : List ℕ) (names : Path) → pathOf path ≡ some names → Reads image path names
-  pub handed : (names : Path) (there : Standing) → treeIn image names ≡ some there → (path : List ℕ) × (pathOf path ≡ some names)
+pub record ReadsAll (format : Format) (image : List ℕ) : Type 0 where
+  pub everywhere : (path : List ℕ) (names : Path) → pathOf path ≡ some names → Reads format image path names
+  pub handed : (names : Path) (there : Standing) → treeIn format image names ≡ some there → (path : List ℕ) × (pathOf path ≡ some names)
 
 abbrev pub TreeIsReading : Type 0
-TreeIsReading = (image : List ℕ) (counts : Counts) → checkOf image ≡ ok counts → ReadsAll image
+TreeIsReading = (format : Format) (image : List ℕ) (counts : Counts) → checkOf format image ≡ ok counts → ReadsAll format image

@@ -2,6 +2,7 @@
 use Prim.Native.Nat.{ℕ}
 use mathlib.Core.List.{List}
 use mathlib.Core.Option.{Option, none}
+use Rattle.page.specs.declared.Format.{Format}
 use Rattle.layout.specs.declared.Superblock.{Superblock}
 use Rattle.layout.specs.See.{checkImage}
 use Rattle.model.specs.Check.{Marks, Result, fault, ok}
@@ -16,13 +17,13 @@ abbrev pub standingIn : Result (Superblock × Root × Marks) → Path → Option
 standingIn (fault n p) q = none
 standingIn (ok x) q = standsAt (x .1) q
 
-unfoldable pub treeIn : List ℕ → Path → Option Standing
-treeIn image q = standingIn (checkImage image) q
+unfoldable pub treeIn : Format → List ℕ → Path → Option Standing
+treeIn format image q = standingIn (checkImage format image) q
 
 -- how many of the alloc_end table words are free
 abbrev pub freeBy : Result Counts → ℕ
 freeBy (fault n p) = 0
 freeBy (ok c) = c .free
 
-unfoldable pub freeIn : List ℕ → ℕ
-freeIn image = freeBy (checkOf image)
+unfoldable pub freeIn : Format → List ℕ → ℕ
+freeIn format image = freeBy (checkOf format image)

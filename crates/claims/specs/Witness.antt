@@ -4,6 +4,7 @@ use Prim.Native.Nat.{ℕ, _*_}
 use mathlib.Core.List.{List, [], _∷_, _++_}
 use mathlib.Core.Path.{_≡_}
 use lib.ListN.{length, replicate}
+use Rattle.page.specs.declared.Format.{Format}
 use Rattle.change.specs.Changed.{changed}
 use Rattle.layout.specs.Superblock.{formatText, versionText}
 use Rattle.model.specs.Bench.{benchTime, bytes, pathA}
@@ -64,14 +65,14 @@ benchDot length n = newEntry directoryMode length 0 0 benchTime n
 
 -- ---- the image
 
--- A card as it is erased: every byte is ones, which are also the code of a chunk of ones.
-unfoldable pub erased : ℕ → List ℕ
-erased clusters = replicate (clusterBytes * clusters) 0xFF
+-- A card as it is erased: every byte is ones, which in a raw image are also the code of a chunk of ones.
+unfoldable pub erased : Format → ℕ → List ℕ
+erased format clusters = replicate (clusterBytes format * clusters) 0xFF
 
 -- pages with their data, written in turn
-abbrev pub writeAll : List (ℕ × List ℕ) → List ℕ → List ℕ
-writeAll [] image = image
-writeAll (w ∷ ws) image = writeAll ws (written image (w .0) (w .1))
+abbrev pub writeAll : Format → List (ℕ × List ℕ) → List ℕ → List ℕ
+writeAll format [] image = image
+writeAll format (w ∷ ws) image = writeAll format ws (written format image (w .0) (w .1))
 
 unfoldable pub benchPages : List (ℕ × List ℕ)
 benchPages =
@@ -84,11 +85,14 @@ benchPages =
     ∷ (21, newPage (benchDot 0 dotDotName))
     ∷ []
 
-unfoldable pub benchImage : List ℕ
-benchImage = writeAll benchPages (erased 56)
+unfoldable pub benchImage : Format → List ℕ
+benchImage format = writeAll format benchPages (erased format 56)
 
--- The check accepts it, with the counts to meet; a file that fills the card is accepted, and one byte more is 12.
-pub record BenchAccepted : Type 0 where
-  pub counts : checkOf benchImage ≡ ok (record { clusters = 56; free = 29; reached = 1; orphaned = 0 })
-  pub full : (changed (create pathA benchTime (bytes 28672)) benchImage) .answer ≡ ok tt
-  pub tooMuch : (changed (create pathA benchTime (bytes 28673)) benchImage) .answer ≡ fault 12 0
+-- In both formats the check accepts it, with the counts to meet; a file that fills the card is accepted, and one byte more is 12.
+pub record AcceptedIn (format : Format) : Type 0 where
+  pub counts : checkOf format (benchImage format) ≡ ok (record { clusters = 56; free = 29; reached = 1; orphaned = 0 })
+  pub full : (changed format (create pathA benchTime (bytes 28672)) (benchImage format)) .answer ≡ ok tt
+  pub tooMuch : (changed format (create pathA benchTime (bytes 28673)) (benchImage format)) .answer ≡ fault 12 0
+
+abbrev pub BenchAccepted : Type 0
+BenchAccepted = (format : Format) → AcceptedIn format

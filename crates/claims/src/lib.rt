@@ -1,6 +1,8 @@
 // What is claimed of images. Each function does nothing; its contract is the claim.
 ghost use Rattle.ecc.specs.Claims.{TwoFlipsUnreadable};
 ghost use Rattle.tree.specs.Counted.{CountsAddUp};
+ghost use Rattle.claims.specs.Conversions.{ConversionExact, ConversionKeeps, ConversionReturns};
+ghost use Rattle.claims.specs.Formats.{FormatsAlike};
 ghost use Rattle.claims.specs.Numbers.{MarkedNumbers};
 ghost use Rattle.claims.specs.ReadsTree.{TreeIsReading};
 ghost use Rattle.claims.specs.Witness.{BenchAccepted};
@@ -44,4 +46,24 @@ pub fn bench_accepted()
 // The tree of an accepted image is what find and reads answer at every path.
 pub fn tree_is_reading()
     ensures { λ _. ⌜ TreeIsReading ⌝ }
+{}
+
+// Every call answers the same on a raw image and on a plain one with the same data, and leaves the same data.
+pub fn formats_alike()
+    ensures { λ _. ⌜ FormatsAlike ⌝ }
+{}
+
+// An image is converted exactly where its length is a card's, the output as long as needed and every page readable.
+pub fn conversion_exact()
+    ensures { λ _. ⌜ ConversionExact ⌝ }
+{}
+
+// A conversion keeps the data, and a raw outcome is freshly coded.
+pub fn conversion_keeps()
+    ensures { λ _. ⌜ ConversionKeeps ⌝ }
+{}
+
+// What is converted comes back: a plain image with its bytes, a raw one with its data and codes that match.
+pub fn conversion_returns()
+    ensures { λ _. ⌜ ConversionReturns ⌝ }
 {}

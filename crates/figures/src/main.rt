@@ -1,6 +1,7 @@
 // Runs the figures (RULES, "Numbers to meet") on the bench card, each on a fresh copy of it.
 use change::Answer;
 use lookup::reading::ReadOutcome;
+use page::Format;
 use tree::Checked;
 
 const BYTES: usize = 59136;
@@ -27,7 +28,7 @@ fn tell(what: &[u8], answer: Answer) {
 }
 
 fn tell_free(image: &[u8; BYTES]) {
-    match tree::check(image) {
+    match tree::check(Format::Raw, image) {
         Checked::Refused(refusal) => say_number(b"refused ", refusal.number() as usize),
         Checked::Card(counts) => say_number(b"free ", counts.free),
     }
@@ -35,13 +36,13 @@ fn tell_free(image: &[u8; BYTES]) {
 
 fn tell_listing(image: &[u8; BYTES]) {
     let mut text = [0u8; 1024];
-    let length = listing::list(image, &mut text);
+    let length = listing::list(Format::Raw, image, &mut text);
     say(listing::written(&text, length));
 }
 
 fn tell_read(image: &[u8; BYTES], path: &[u8], from: usize) {
     let mut out = [0u8; 16];
-    match lookup::reading::read(image, path, from, &mut out) {
+    match lookup::reading::read(Format::Raw, image, path, from, &mut out) {
         ReadOutcome::Bytes(count) => say_number(b"read ", count),
         ReadOutcome::Refused(refusal) => say_number(b"read refused ", refusal.number() as usize),
     }
@@ -50,25 +51,28 @@ fn tell_read(image: &[u8; BYTES], path: &[u8], from: usize) {
 // One change, told.
 fn create(image: &mut [u8; BYTES], what: &[u8], path: &[u8], bytes: &[u8]) {
     let time = TIME;
-    tell(what, change::create(image, path, &time, bytes));
+    tell(what, change::create(Format::Raw, image, path, &time, bytes));
 }
 
 fn replace(image: &mut [u8; BYTES], what: &[u8], path: &[u8], bytes: &[u8]) {
     let time = TIME;
-    tell(what, change::replace(image, path, &time, bytes));
+    tell(
+        what,
+        change::replace(Format::Raw, image, path, &time, bytes),
+    );
 }
 
 fn delete(image: &mut [u8; BYTES], what: &[u8], path: &[u8]) {
-    tell(what, change::delete(image, path));
+    tell(what, change::delete(Format::Raw, image, path));
 }
 
 fn make_dir(image: &mut [u8; BYTES], what: &[u8], path: &[u8]) {
     let time = TIME;
-    tell(what, change::make_dir(image, path, &time));
+    tell(what, change::make_dir(Format::Raw, image, path, &time));
 }
 
 fn remove_dir(image: &mut [u8; BYTES], what: &[u8], path: &[u8]) {
-    tell(what, change::remove_dir(image, path));
+    tell(what, change::remove_dir(Format::Raw, image, path));
 }
 
 // The greatest file: 28,672 bytes, before and after it was removed.

@@ -2,13 +2,14 @@
 use Prim.Native.Nat.{ℕ, _+_, _*_, _/_, _%_, _≤_, _<_}
 use mathlib.Core.Bool.{true}
 use mathlib.Core.List.{List, [], _∷_, _++_}
-use mathlib.Core.Path.{_∙_, _≡_, ap, sym}
+use mathlib.Core.Path.{_∙_, _≡_, ap, subst, sym}
 use native.Mathlib.Omega.{arith}
 use borrow.Author.Tests.{eqb-true, leb-true, ltb-true}
 use lib.Dec.{eqb, leb, ltb}
 use lib.ListN.{length, getD}
+use Rattle.page.specs.declared.Format.{Format}
 use Rattle.page.specs.Page.{clusterBytes, pageAt, pagesIn}
-use Rattle.page.proofs.Laws.{cluster-pages}
+use Rattle.page.proofs.Formats.{cluster-pages, whole-clusters}
 use Rattle.model.specs.Bytes.{word}
 use Rattle.model.specs.Check.{ok}
 use Rattle.model.specs.Tree.{times}
@@ -27,30 +28,30 @@ use Rattle.layout.proofs.UpTo.{length-upTo}
 -- ---- the guards that an open card passed
 pub record GoodTable (image : List ℕ) (s : Superblock) : Type 0 where
   pub indirect-good : inRange (s .geometry .offset) (s .indirect) ≡ true
-  pub first-read : Readable image (2 * s .indirect)
-  pub second-read : Readable image (2 * s .indirect + 1)
+  pub first-read : Readable (s .geometry .format) image (2 * s .indirect)
+  pub second-read : Readable (s .geometry .format) image (2 * s .indirect + 1)
   pub names-good : goodTableNames (s .geometry .offset) (s .indirect ∷ []) (namesOf image s) ≡ true
-  pub table-read : (t : ℕ) → t < 2 * tableClusters (s .end) → Readable image (tablePage (namesOf image s) t)
+  pub table-read : (t : ℕ) → t < 2 * tableClusters (s .end) → Readable (s .geometry .format) image (tablePage (namesOf image s) t)
 
-pub record GoodCard (image : List ℕ) (s : Superblock) : Type 0 where
-  pub length-good : goodLength (length image) ≡ true
-  pub page-read : Readable image 0
-  pub text-good : goodText (dataOf (pageAt image 0)) ≡ true
-  pub numbers-good : goodSuperblock (clustersIn (length image)) (dataOf (pageAt image 0)) ≡ true
-  pub superblock : superblockOf (dataOf (pageAt image 0)) ≡ s
+pub record GoodCard (format : Format) (image : List ℕ) (s : Superblock) : Type 0 where
+  pub length-good : goodLength format (length image) ≡ true
+  pub page-read : Readable format image 0
+  pub text-good : goodText (dataOf (pageAt format image 0)) ≡ true
+  pub numbers-good : goodSuperblock format (clustersIn format (length image)) (dataOf (pageAt format image 0)) ≡ true
+  pub superblock : superblockOf format (dataOf (pageAt format image 0)) ≡ s
   pub table : GoodTable image s
 
 many : (image : List ℕ) (s : Superblock) → length (namesOf image s) ≡ tableClusters (s .end)
-many image s = length-upTo (λ i. word (dataOf (pageAt image (2 * s .indirect)) ++ dataOf (pageAt image (2 * s .indirect + 1))) (4 * i)) (tableClusters (s .end))
+many image s = length-upTo (λ i. word (dataOf (pageAt (s .geometry .format) image (2 * s .indirect)) ++ dataOf (pageAt (s .geometry .format) image (2 * s .indirect + 1))) (4 * i)) (tableClusters (s .end))
 
 pub table-good : (image : List ℕ) (s a : Superblock) → openTable image s ≡ ok a → (s ≡ a) × GoodTable image s
 unfolding openTable
 table-good image s a e =
     let name = unless-ok (inRange (s .geometry .offset) (s .indirect)) 5 _ a e in
-    let first = page-ok (2 * s .indirect) (pageAt image (2 * s .indirect)) _ a (name .1) in
-    let second = page-ok (2 * s .indirect + 1) (pageAt image (2 * s .indirect + 1)) _ a (first .1) in
+    let first = page-ok (2 * s .indirect) (pageAt (s .geometry .format) image (2 * s .indirect)) _ a (name .1) in
+    let second = page-ok (2 * s .indirect + 1) (pageAt (s .geometry .format) image (2 * s .indirect + 1)) _ a (first .1) in
     let names = unless-ok (goodTableNames (s .geometry .offset) (s .indirect ∷ []) (namesOf image s)) 5 _ a (second .1) in
-    let pages = pages-ok image (pagesOf (namesOf image s)) (ok s) a (names .1) in (
+    let pages = pages-ok (s .geometry .format) image (pagesOf (namesOf image s)) (ok s) a (names .1) in (
       same-ok s a (pages .0),
       record {
         indirect-good = name .0;
@@ -63,14 +64,14 @@ table-good image s a e =
       },
     )
 
-pub card-good : (image : List ℕ) (s : Superblock) → openCard image ≡ ok s → GoodCard image s
+pub card-good : (format : Format) (image : List ℕ) (s : Superblock) → openCard format image ≡ ok s → GoodCard format image s
 unfolding openCard
-card-good image s e =
-    let size = unless-ok (goodLength (length image)) 1 _ s e in
-    let page = page-ok 0 (pageAt image 0) _ s (size .1) in
-    let text = unless-ok (goodText (dataOf (pageAt image 0))) 3 _ s (page .1) in
-    let numbers = unless-ok (goodSuperblock (clustersIn (length image)) (dataOf (pageAt image 0))) 4 _ s (text .1) in
-    let rest = table-good image (superblockOf (dataOf (pageAt image 0))) s (numbers .1) in
+card-good format image s e =
+    let size = unless-ok (goodLength format (length image)) 1 _ s e in
+    let page = page-ok 0 (pageAt format image 0) _ s (size .1) in
+    let text = unless-ok (goodText (dataOf (pageAt format image 0))) 3 _ s (page .1) in
+    let numbers = unless-ok (goodSuperblock format (clustersIn format (length image)) (dataOf (pageAt format image 0))) 4 _ s (text .1) in
+    let rest = table-good image (superblockOf format (dataOf (pageAt format image 0))) s (numbers .1) in
     record {
       length-good = size .0;
       page-read = page .0;
@@ -84,58 +85,68 @@ pub good-table : (image : List ℕ) (s : Superblock) → GoodTable image s → o
 unfolding openTable unless withPage
 good-table image s g =
     rw (g .indirect-good, g .first-read, g .second-read, g .names-good)
-    (pages-pass image (pagesOf (namesOf image s)) (ok s) (λ i h.
+    (pages-pass (s .geometry .format) image (pagesOf (namesOf image s)) (ok s) (λ i h.
     let inside : i < 2 * length (namesOf image s) = omega (arith, length-pages (namesOf image s)) in
     rw (getD-pages (namesOf image s) i inside) (g .table-read i (omega (arith, many image s)))))
 
-pub good-card : (image : List ℕ) (s : Superblock) → GoodCard image s → openCard image ≡ ok s
+pub good-card : (format : Format) (image : List ℕ) (s : Superblock) → GoodCard format image s → openCard format image ≡ ok s
 unfolding openCard unless withPage
-good-card image s g =
+good-card format image s g =
     rw (g .length-good, g .page-read, g .text-good, g .numbers-good, g .superblock) (good-table image s (g .table))
 
 -- ---- the numbers
-pub record Numbers (bytes : ℕ) (s : Superblock) : Type 0 where
-  pub long : bytes ≡ clusterBytes * s .clusters
-  pub pages : pagesIn bytes ≡ 2 * s .clusters
+pub record Numbers (format : Format) (bytes : ℕ) (s : Superblock) : Type 0 where
+  pub long : bytes ≡ clusterBytes format * s .clusters
+  pub pages : pagesIn format bytes ≡ 2 * s .clusters
   pub least : leastClusters ≤ s .clusters
   pub most : s .clusters ≤ mostClusters
   pub some-end : 1 ≤ s .end
   pub room : s .geometry .offset + s .end ≤ s .clusters
 
-numbers : (bytes : ℕ) (page : List ℕ) → goodLength bytes ≡ true → goodSuperblock (clustersIn bytes) page ≡ true → Numbers bytes (superblockOf page)
-numbers bytes page l n = go (superblockOf page) (and-r (fixedNumbers page) _ (and-r (goodVersion page) _ n))
+numbers : (format : Format) (bytes : ℕ) (page : List ℕ) → goodLength format bytes ≡ true → goodSuperblock format (clustersIn format bytes) page ≡ true → Numbers format bytes (superblockOf format page)
+numbers format bytes page l n = go (superblockOf format page) (and-r (fixedNumbers page) _ (and-r (goodVersion page) _ n))
   where
-    go : (s : Superblock) → goodNumbers (clustersIn bytes) s ≡ true → Numbers bytes s
+    go : (s : Superblock) → goodNumbers (clustersIn format bytes) s ≡ true → Numbers format bytes s
     go s g =
-        let whole : bytes % clusterBytes ≡ 0 = eqb-true (bytes % clusterBytes) 0 (and-l _ _ l) in
-        let range = and-r (eqb (bytes / clusterBytes % 8) 0) _ (and-r (eqb (bytes % clusterBytes) 0) _ l) in
-        let low : 32 ≤ bytes / clusterBytes = leb-true 32 (bytes / clusterBytes) (and-l _ _ range) in
-        let high : bytes / clusterBytes ≤ 8192 = leb-true (bytes / clusterBytes) 8192 (and-r (leb 32 (bytes / clusterBytes)) _ range) in
-        let count : s .clusters ≡ bytes / clusterBytes = eqb-true (s .clusters) (bytes / clusterBytes) (and-l _ _ g) in
-        let more = and-r (eqb (s .clusters) (bytes / clusterBytes)) _ g in
+        let whole : bytes % clusterBytes format ≡ 0 = eqb-true (bytes % clusterBytes format) 0 (and-l _ _ l) in
+        let range = and-r (eqb (bytes / clusterBytes format % 8) 0) _ (and-r (eqb (bytes % clusterBytes format) 0) _ l) in
+        let low : 32 ≤ bytes / clusterBytes format = leb-true 32 (bytes / clusterBytes format) (and-l _ _ range) in
+        let high : bytes / clusterBytes format ≤ 8192 = leb-true (bytes / clusterBytes format) 8192 (and-r (leb 32 (bytes / clusterBytes format)) _ range) in
+        let count : s .clusters ≡ bytes / clusterBytes format = eqb-true (s .clusters) (bytes / clusterBytes format) (and-l _ _ g) in
+        let more = and-r (eqb (s .clusters) (bytes / clusterBytes format)) _ g in
         let some : 1 ≤ s .end = leb-true 1 (s .end) (and-l _ _ more) in
-        let fits : s .geometry .offset + s .end ≤ bytes / clusterBytes = leb-true (s .geometry .offset + s .end) (bytes / clusterBytes) (and-l _ _ (and-r (leb 1 (s .end)) _ more)) in
+        let fits : s .geometry .offset + s .end ≤ bytes / clusterBytes format = leb-true (s .geometry .offset + s .end) (bytes / clusterBytes format) (and-l _ _ (and-r (leb 1 (s .end)) _ more)) in
         record {
-          long = omega arith;
-          pages = cluster-pages bytes whole ∙ ap (λ n. 2 * n) (sym count);
+          long = whole-clusters format bytes whole ∙ ap (λ n. clusterBytes format * n) (sym count);
+          pages = cluster-pages format bytes whole ∙ ap (λ n. 2 * n) (sym count);
           least = omega arith;
           most = omega arith;
           some-end = some;
           room = omega arith;
         }
 
-pub end-most : (bytes : ℕ) (page : List ℕ) → goodLength bytes ≡ true → goodSuperblock (clustersIn bytes) page ≡ true
-    → superblockOf page .end ≤ mostClusters
-end-most bytes page l n = let z = numbers bytes page l n in omega (arith, z .room, z .most)
+pub end-most : (format : Format) (bytes : ℕ) (page : List ℕ) → goodLength format bytes ≡ true → goodSuperblock format (clustersIn format bytes) page ≡ true
+    → superblockOf format page .end ≤ mostClusters
+end-most format bytes page l n = let z = numbers format bytes page l n in omega (arith, z .room, z .most)
 
-card-numbers : (image : List ℕ) (s : Superblock) → GoodCard image s → Numbers (length image) s
-card-numbers image s g = rw (g .superblock) at (numbers (length image) (dataOf (pageAt image 0)) (g .length-good) (g .numbers-good))
+card-numbers : (format : Format) (image : List ℕ) (s : Superblock) → GoodCard format image s → Numbers format (length image) s
+card-numbers format image s g = rw (g .superblock) at (numbers format (length image) (dataOf (pageAt format image 0)) (g .length-good) (g .numbers-good))
+
+-- the card's numbers tell its image's format
+in-format : (format : Format) (image : List ℕ) (s : Superblock) → GoodCard format image s → format ≡ s .geometry .format
+in-format format image s g = ap (λ (x : Superblock). x .geometry .format) (g .superblock)
+
+pub open-format : (format : Format) (image : List ℕ) (s : Superblock) → openCard format image ≡ ok s → format ≡ s .geometry .format
+open-format format image s e = in-format format image s (card-good format image s e)
+
+pub own-format : (format : Format) (image : List ℕ) (s : Superblock) → openCard format image ≡ ok s → openCard (s .geometry .format) image ≡ ok s
+own-format format image s e = subst (λ (f : Format). openCard f image ≡ ok s) (open-format format image s e) e
 
 -- ---- all that is known of an open card
 pub record OpenFacts (image : List ℕ) (s : Superblock) : Type 0 where
   -- N clusters, two pages to each
-  pub long : length image ≡ clusterBytes * s .clusters
-  pub pages : pagesIn (length image) ≡ 2 * s .clusters
+  pub long : length image ≡ clusterBytes (s .geometry .format) * s .clusters
+  pub pages : pagesIn (s .geometry .format) (length image) ≡ 2 * s .clusters
   pub least : leastClusters ≤ s .clusters
   pub most : s .clusters ≤ mostClusters
   -- the allocatable clusters lie in the image
@@ -150,18 +161,20 @@ pub record OpenFacts (image : List ℕ) (s : Superblock) : Type 0 where
   pub once : (i j : ℕ) → i < tableClusters (s .end) → j < tableClusters (s .end)
       → getD (namesOf image s) i 0 ≡ getD (namesOf image s) j 0 → i ≡ j
   -- every page of them that the check needs is readable
-  pub superblock-read : Readable image 0
-  pub superblock-is : superblockOf (dataOf (pageAt image 0)) ≡ s
-  pub first-read : Readable image (2 * s .indirect)
-  pub second-read : Readable image (2 * s .indirect + 1)
-  pub table-read : (t : ℕ) → t < 2 * tableClusters (s .end) → Readable image (tablePage (namesOf image s) t)
+  pub superblock-read : Readable (s .geometry .format) image 0
+  pub superblock-is : superblockOf (s .geometry .format) (dataOf (pageAt (s .geometry .format) image 0)) ≡ s
+  pub first-read : Readable (s .geometry .format) image (2 * s .indirect)
+  pub second-read : Readable (s .geometry .format) image (2 * s .indirect + 1)
+  pub table-read : (t : ℕ) → t < 2 * tableClusters (s .end) → Readable (s .geometry .format) image (tablePage (namesOf image s) t)
 
-pub open-facts : (image : List ℕ) (s : Superblock) → openCard image ≡ ok s → OpenFacts image s
-open-facts image s e = go (card-good image s e)
+pub open-facts : (format : Format) (image : List ℕ) (s : Superblock) → openCard format image ≡ ok s → OpenFacts image s
+open-facts format image s e =
+    let g = card-good format image s e in
+    go (subst (λ (f : Format). GoodCard f image s) (in-format format image s g) g)
   where
-    go : GoodCard image s → OpenFacts image s
+    go : GoodCard (s .geometry .format) image s → OpenFacts image s
     go g =
-        let n = card-numbers image s g in
+        let n = card-numbers (s .geometry .format) image s g in
         let t = g .table in
         let size = many image s in
         let name : (i : ℕ) → i < tableClusters (s .end) → Named (s .geometry .offset) (s .indirect ∷ []) (getD (namesOf image s) i 0) =
@@ -187,17 +200,20 @@ open-facts image s e = go (card-good image s e)
         }
 
 -- ---- an image that keeps what the check up to the table goes by
-pub names-kept : (image other : List ℕ) (s : Superblock) → pageAt other (2 * s .indirect) ≡ pageAt image (2 * s .indirect)
-    → pageAt other (2 * s .indirect + 1) ≡ pageAt image (2 * s .indirect + 1) → namesOf other s ≡ namesOf image s
+pub names-kept : (image other : List ℕ) (s : Superblock) → pageAt (s .geometry .format) other (2 * s .indirect) ≡ pageAt (s .geometry .format) image (2 * s .indirect)
+    → pageAt (s .geometry .format) other (2 * s .indirect + 1) ≡ pageAt (s .geometry .format) image (2 * s .indirect + 1) → namesOf other s ≡ namesOf image s
 names-kept image other s first second = rw (first, second)
 
 -- The check up to the table goes by the image's length, page 0, the indirect cluster's pages, and that the table's pages are readable.
-pub open-kept : (image other : List ℕ) (s : Superblock) → openCard image ≡ ok s → length other ≡ length image → pageAt other 0 ≡ pageAt image 0
-    → pageAt other (2 * s .indirect) ≡ pageAt image (2 * s .indirect) → pageAt other (2 * s .indirect + 1) ≡ pageAt image (2 * s .indirect + 1)
-    → ((t : ℕ) → t < 2 * tableClusters (s .end) → Readable other (tablePage (namesOf image s) t)) → openCard other ≡ ok s
-open-kept image other s e size zero first second reads = good-card other s (go (card-good image s e))
+pub open-kept : (format : Format) (image other : List ℕ) (s : Superblock) → openCard format image ≡ ok s → length other ≡ length image → pageAt (s .geometry .format) other 0 ≡ pageAt (s .geometry .format) image 0
+    → pageAt (s .geometry .format) other (2 * s .indirect) ≡ pageAt (s .geometry .format) image (2 * s .indirect) → pageAt (s .geometry .format) other (2 * s .indirect + 1) ≡ pageAt (s .geometry .format) image (2 * s .indirect + 1)
+    → ((t : ℕ) → t < 2 * tableClusters (s .end) → Readable (s .geometry .format) other (tablePage (namesOf image s) t)) → openCard format other ≡ ok s
+open-kept format image other s e size zero first second reads =
+    let g = card-good format image s e in
+    let f = in-format format image s g in
+    good-card format other s (subst (λ (x : Format). GoodCard x other s) (sym f) (go (subst (λ (x : Format). GoodCard x image s) f g)))
   where
-    go : GoodCard image s → GoodCard other s
+    go : GoodCard (s .geometry .format) image s → GoodCard (s .geometry .format) other s
     go g =
         let t = g .table in
         record {

@@ -6,13 +6,14 @@ use mathlib.Core.Option.{Option, none, some}
 use mathlib.Core.Path.{_≡_, refl}
 use native.Mathlib.Omega.{arith}
 use lib.ListN.{length, getD}
+use Rattle.page.specs.declared.Format.{Format}
 use Rattle.page.specs.Page.{pageAt, isSome, orKept}
 use Rattle.model.specs.Check.{Result, fault, ok}
 use Rattle.layout.specs.Table.{unless, withPage, needPages, dataOf}
 
 -- a page that is there
-abbrev pub Readable : List ℕ → ℕ → Type 0
-Readable image p = pageAt image p ≡ some (dataOf (pageAt image p))
+abbrev pub Readable : Format → List ℕ → ℕ → Type 0
+Readable format image p = pageAt format image p ≡ some (dataOf (pageAt format image p))
 
 pub there : (o : Option (List ℕ)) → isSome o ≡ true → o ≡ some (dataOf o)
 there none e = let z : _≡_ {A = ℕ} 0 1 = cc in absurd (omega arith)
@@ -41,20 +42,20 @@ module _ {A : Type 0} where
   page-ok p none rest a e = not-ok 2 p a e
   page-ok p (some page) rest a e = (refl, e)
 
-  pub pages-ok : (image ps : List ℕ) (rest : Result A) (a : A) → needPages image ps rest ≡ ok a
-      → (rest ≡ ok a) × ((i : ℕ) → i < length ps → Readable image (getD ps i 0))
+  pub pages-ok : (format : Format) (image ps : List ℕ) (rest : Result A) (a : A) → needPages format image ps rest ≡ ok a
+      → (rest ≡ ok a) × ((i : ℕ) → i < length ps → Readable format image (getD ps i 0))
   unfolding needPages
-  pages-ok image [] rest a e = (e, λ i h. absurd (omega arith))
-  pages-ok image (p ∷ ps) rest a e =
-      let first = page-ok p (pageAt image p) (λ page. needPages image ps rest) a e in
-      let later = pages-ok image ps rest a (first .1) in
+  pages-ok format image [] rest a e = (e, λ i h. absurd (omega arith))
+  pages-ok format image (p ∷ ps) rest a e =
+      let first = page-ok p (pageAt format image p) (λ page. needPages format image ps rest) a e in
+      let later = pages-ok format image ps rest a (first .1) in
       (later .0, each (first .0) (later .1))
     where
-      each : Readable image p → ((i : ℕ) → i < length ps → Readable image (getD ps i 0)) → (i : ℕ) → i < length (p ∷ ps) → Readable image (getD (p ∷ ps) i 0)
+      each : Readable format image p → ((i : ℕ) → i < length ps → Readable format image (getD ps i 0)) → (i : ℕ) → i < length (p ∷ ps) → Readable format image (getD (p ∷ ps) i 0)
       each f g zero h = f
       each f g (suc i) h = g i (omega arith)
 
-  pub pages-pass : (image ps : List ℕ) (rest : Result A) → ((i : ℕ) → i < length ps → Readable image (getD ps i 0)) → needPages image ps rest ≡ rest
+  pub pages-pass : (format : Format) (image ps : List ℕ) (rest : Result A) → ((i : ℕ) → i < length ps → Readable format image (getD ps i 0)) → needPages format image ps rest ≡ rest
   unfolding needPages withPage
-  pages-pass image [] rest h = refl
-  pages-pass image (p ∷ ps) rest h = rw (h 0 (omega arith)) (pages-pass image ps rest (λ i l. h (suc i) (omega arith)))
+  pages-pass format image [] rest h = refl
+  pages-pass format image (p ∷ ps) rest h = rw (h 0 (omega arith)) (pages-pass format image ps rest (λ i l. h (suc i) (omega arith)))

@@ -7,6 +7,7 @@ use native.Mathlib.Numerals.{add-one}
 use native.Mathlib.Omega.{arith}
 use lib.ListN.{length, getD, drop, drop-of-length-le}
 use lib.Seq.{drop-cons}
+use Rattle.page.specs.declared.Format.{Format}
 use Rattle.page.specs.Page.{pageAt}
 use Rattle.model.specs.Check.{Result, fault}
 use Rattle.model.specs.View.{pagesOf}
@@ -22,12 +23,12 @@ getD-pages (n ∷ ns) (suc (suc t)) h =
     let side : suc (suc t) % 2 ≡ t % 2 = omega arith in
     rw (half, side) (getD-pages ns t (omega arith))
 
-module _ {A : Type 0} (image names : List ℕ) (result : Result A) where
+module _ {A : Type 0} (format : Format) (image names : List ℕ) (result : Result A) where
   -- what is left to judge from page t of the table on
   abbrev pub pagesFrom : ℕ → Result A
-  pagesFrom t = needPages image (drop t (pagesOf names)) result
+  pagesFrom t = needPages format image (drop t (pagesOf names)) result
 
-  step : (t : ℕ) → t < 2 * length names → (o : Option (List ℕ)) → pageAt image (tablePage names t) ≡ o
+  step : (t : ℕ) → t < 2 * length names → (o : Option (List ℕ)) → pageAt format image (tablePage names t) ≡ o
       → pagesFrom t ≡ withPage (tablePage names t) o (λ page. pagesFrom (suc t))
   unfolding needPages
   step t h o e =
@@ -36,11 +37,11 @@ module _ {A : Type 0} (image names : List ℕ) (result : Result A) where
       rw (next, e)
 
   module _ (t : ℕ) (h : t < 2 * length names) where
-    pub pages-stop : pageAt image (tablePage names t) ≡ none → pagesFrom t ≡ fault 2 (tablePage names t)
+    pub pages-stop : pageAt format image (tablePage names t) ≡ none → pagesFrom t ≡ fault 2 (tablePage names t)
     unfolding withPage
     pages-stop e = step t h none e
 
-    pub pages-more : {page : List ℕ} → pageAt image (tablePage names t) ≡ some page → pagesFrom t ≡ pagesFrom (t + 1)
+    pub pages-more : {page : List ℕ} → pageAt format image (tablePage names t) ≡ some page → pagesFrom t ≡ pagesFrom (t + 1)
     unfolding withPage
     pages-more {page} e = rw (add-one t) (step t h (some page) e)
 

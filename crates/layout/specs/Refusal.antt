@@ -19,6 +19,7 @@ numberOf is.Exists = 11
 numberOf is.NotEmpty = 13
 numberOf is.BadOffset = 15
 numberOf is.NoRoom = 12
+numberOf is.WrongOutput = 23
 
 abbrev pub pageOf : Refusal → ℕ
 pageOf is.BadLength = 0
@@ -36,3 +37,4 @@ pageOf is.Exists = 0
 pageOf is.NotEmpty = 0
 pageOf is.BadOffset = 0
 pageOf is.NoRoom = 0
+pageOf is.WrongOutput = 0

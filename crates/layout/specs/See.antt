@@ -5,6 +5,7 @@ use mathlib.Core.List.{List}
 use mathlib.Core.Option.{Option, none}
 use lib.Dec.{eqb, ltb}
 use lib.ListN.{length, getD}
+use Rattle.page.specs.declared.Format.{Format}
 use Rattle.page.specs.Page.{pageAt}
 use Rattle.model.specs.Check.{Result, fault, ok, andThen, checkTree, Marks}
 use Rattle.model.specs.Pages.{decoded}
@@ -21,7 +22,7 @@ imagePage geometry a = 2 * geometry .offset + a
 
 -- a page of the allocatable clusters, which are `count` many
 unfoldable pub pageIn : Geometry → ℕ → List ℕ → ℕ → Option (List ℕ)
-pageIn geometry count image a = cond (ltb a (2 * count)) (pageAt image (imagePage geometry a)) none
+pageIn geometry count image a = cond (ltb a (2 * count)) (pageAt (geometry .format) image (imagePage geometry a)) none
 
 -- The view by where the pages lie and the table's words: an entry is what its page says, a link what its word says.
 abbrev pub viewBy : Geometry → List ℕ → List ℕ → View
@@ -45,5 +46,5 @@ module _ {A : Type 0} where
 abbrev pub checkedBy : List ℕ → Superblock → Result (Superblock × Root × Marks)
 checkedBy image s = andThen (onImage (s .geometry) (checkTree (see s image))) (λ x. ok (s, x .0, x .1))
 
-unfoldable pub checkImage : List ℕ → Result (Superblock × Root × Marks)
-checkImage image = andThen (openCard image) (checkedBy image)
+unfoldable pub checkImage : Format → List ℕ → Result (Superblock × Root × Marks)
+checkImage format image = andThen (openCard format image) (checkedBy image)

@@ -3,23 +3,24 @@ use Prim.Native.Nat.{ℕ, _+_, _*_, _/_, _%_}
 use mathlib.Core.Bool.{Bool, not, _&&_, _||_}
 use mathlib.Core.List.{List, [], _∷_}
 use lib.Dec.{eqb, leb, ltb}
+use Rattle.page.specs.declared.Format.{Format}
 use Rattle.page.specs.Page.{clusterBytes}
 use Rattle.model.specs.Bytes.{slice, half, word}
 use Rattle.model.specs.Names.{sameName}
 use Rattle.model.specs.View.{mostClusters}
 use Rattle.layout.specs.declared.Superblock.{Superblock}
 
--- The image has N clusters, 1,056 bytes each; N is a multiple of 8 from 32 to 8,192.
+-- The image has N clusters, as many bytes each as its format has; N is a multiple of 8 from 32 to 8,192.
 abbrev pub leastClusters : ℕ
 leastClusters = 32
 
-abbrev pub clustersIn : ℕ → ℕ
-clustersIn bytes = bytes / clusterBytes
+abbrev pub clustersIn : Format → ℕ → ℕ
+clustersIn format bytes = bytes / clusterBytes format
 
-abbrev pub goodLength : ℕ → Bool
-goodLength bytes =
-    eqb (bytes % clusterBytes) 0
-    && (eqb (clustersIn bytes % 8) 0 && (leb leastClusters (clustersIn bytes) && leb (clustersIn bytes) mostClusters))
+abbrev pub goodLength : Format → ℕ → Bool
+goodLength format bytes =
+    eqb (bytes % clusterBytes format) 0
+    && (eqb (clustersIn format bytes % 8) 0 && (leb leastClusters (clustersIn format bytes) && leb (clustersIn format bytes) mostClusters))
 
 -- `Sony PS2 Memory Card Format `, with its last space
 abbrev pub formatText : List ℕ
@@ -42,11 +43,11 @@ abbrev pub fixedNumbers : List ℕ → Bool
 fixedNumbers page = eqb (half page 0x28) 512 && (eqb (half page 0x2A) 2 && (eqb (half page 0x2C) 16 && eqb (word page 0x3C) 0))
 
 -- 0x30 N, 0x34 alloc_offset, 0x38 alloc_end, 0x40 and 0x44 the backup blocks, 0x50 the indirect cluster
-abbrev pub superblockOf : List ℕ → Superblock
-superblockOf page =
+abbrev pub superblockOf : Format → List ℕ → Superblock
+superblockOf format page =
     record {
       clusters = word page 0x30;
-      geometry = record { offset = word page 0x34 };
+      geometry = record { format = format; offset = word page 0x34 };
       end = word page 0x38;
       backup1 = word page 0x40;
       backup2 = word page 0x44;
@@ -67,5 +68,5 @@ goodNumbers n s =
     && leb (s .geometry .offset + s .end) (8 * s .backup2)))))))
 
 -- every rule of number 4
-abbrev pub goodSuperblock : ℕ → List ℕ → Bool
-goodSuperblock n page = goodVersion page && (fixedNumbers page && goodNumbers n (superblockOf page))
+abbrev pub goodSuperblock : Format → ℕ → List ℕ → Bool
+goodSuperblock format n page = goodVersion page && (fixedNumbers page && goodNumbers n (superblockOf format page))

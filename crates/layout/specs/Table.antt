@@ -5,6 +5,7 @@ use mathlib.Core.List.{List, [], _∷_, _++_}
 use mathlib.Core.Option.{Option, none, some}
 use lib.Dec.{eqb, leb, ltb}
 use lib.ListN.{length, getD, drop}
+use Rattle.page.specs.declared.Format.{Format}
 use Rattle.page.specs.Page.{pageAt}
 use Rattle.model.specs.Bytes.{word}
 use Rattle.model.specs.Check.{Result, fault, ok}
@@ -50,30 +51,30 @@ module _ {A : Type 0} where
   withPage p none rest = fault 2 p
   withPage p (some page) rest = rest page
 
-  abbrev pub needPage : List ℕ → ℕ → (List ℕ → Result A) → Result A
-  needPage image p rest = withPage p (pageAt image p) rest
+  abbrev pub needPage : Format → List ℕ → ℕ → (List ℕ → Result A) → Result A
+  needPage format image p rest = withPage p (pageAt format image p) rest
 
-  unfoldable pub needPages : List ℕ → List ℕ → Result A → Result A
-  needPages image [] rest = rest
-  needPages image (p ∷ ps) rest = needPage image p (λ page. needPages image ps rest)
+  unfoldable pub needPages : Format → List ℕ → List ℕ → Result A → Result A
+  needPages format image [] rest = rest
+  needPages format image (p ∷ ps) rest = needPage format image p (λ page. needPages format image ps rest)
 
 -- The indirect cluster's name is judged before its pages are read; both its pages, all its names, then both pages of each table cluster in turn.
 unfoldable pub openTable : List ℕ → Superblock → Result Superblock
 openTable image s =
     unless (inRange (s .geometry .offset) (s .indirect)) 5
-    (needPage image (2 * s .indirect) (λ first.
-    needPage image (2 * s .indirect + 1) (λ second.
+    (needPage (s .geometry .format) image (2 * s .indirect) (λ first.
+    needPage (s .geometry .format) image (2 * s .indirect + 1) (λ second.
     unless (goodTableNames (s .geometry .offset) (s .indirect ∷ []) (tableNames (first ++ second) (tableClusters (s .end)))) 5
-    (needPages image (pagesOf (tableNames (first ++ second) (tableClusters (s .end)))) (ok s)))))
+    (needPages (s .geometry .format) image (pagesOf (tableNames (first ++ second) (tableClusters (s .end)))) (ok s)))))
 
 -- Length, page 0, format text, the other superblock rules, the table.
-unfoldable pub openCard : List ℕ → Result Superblock
-openCard image =
-    unless (goodLength (length image)) 1
-    (needPage image 0 (λ page.
+unfoldable pub openCard : Format → List ℕ → Result Superblock
+openCard format image =
+    unless (goodLength format (length image)) 1
+    (needPage format image 0 (λ page.
     unless (goodText page) 3
-    (unless (goodSuperblock (clustersIn (length image)) page) 4
-    (openTable image (superblockOf page)))))
+    (unless (goodSuperblock format (clustersIn format (length image)) page) 4
+    (openTable image (superblockOf format page)))))
 
 -- what the answer of a call says
 abbrev pub toldOpened : Opened → Result Superblock
@@ -88,18 +89,18 @@ dataOf (some page) = page
 
 abbrev pub namesOf : List ℕ → Superblock → List ℕ
 namesOf image s =
-    tableNames (dataOf (pageAt image (2 * s .indirect)) ++ dataOf (pageAt image (2 * s .indirect + 1))) (tableClusters (s .end))
+    tableNames (dataOf (pageAt (s .geometry .format) image (2 * s .indirect)) ++ dataOf (pageAt (s .geometry .format) image (2 * s .indirect + 1))) (tableClusters (s .end))
 
 -- Word c of the table: 128 words to a page, two pages to a table cluster.
 abbrev pub tablePage : List ℕ → ℕ → ℕ
 tablePage names t = 2 * getD names (t / 2) 0 + t % 2
 
-abbrev pub tableWord : List ℕ → List ℕ → ℕ → ℕ
-tableWord image names c = word (dataOf (pageAt image (tablePage names (c / 128)))) (4 * (c % 128))
+abbrev pub tableWord : Format → List ℕ → List ℕ → ℕ → ℕ
+tableWord format image names c = word (dataOf (pageAt format image (tablePage names (c / 128)))) (4 * (c % 128))
 
 -- one word for each allocatable cluster
 unfoldable pub tableOf : List ℕ → Superblock → List ℕ
-tableOf image s = upTo (tableWord image (namesOf image s)) (s .end)
+tableOf image s = upTo (tableWord (s .geometry .format) image (namesOf image s)) (s .end)
 
 -- what a lent table holds after the card was opened: the words first; on a refusal what it held
 abbrev pub tableAfter : List ℕ → Result Superblock → List ℕ → List ℕ

@@ -3,8 +3,9 @@ pub mod page0;
 pub mod table;
 
 use model::MOST_CLUSTERS;
-use page::CLUSTER_BYTES;
+use page::Format;
 use page::read_page;
+use page0::clusters_in;
 use page0::good_length;
 use page0::good_superblock;
 use page0::good_text;
@@ -34,6 +35,7 @@ pub enum Refusal {
     NotEmpty,
     BadOffset,
     NoRoom,
+    WrongOutput,
 }
 
 impl Refusal {
@@ -57,6 +59,7 @@ impl Refusal {
             Refusal::NotEmpty => 13,
             Refusal::BadOffset => 15,
             Refusal::NoRoom => 12,
+            Refusal::WrongOutput => 23,
         }
     }
 
@@ -80,12 +83,15 @@ impl Refusal {
             Refusal::NotEmpty => 0,
             Refusal::BadOffset => 0,
             Refusal::NoRoom => 0,
+            Refusal::WrongOutput => 0,
         }
     }
 }
 
-// Where the pages of a card's allocatable clusters lie in its image: from cluster alloc_offset on.
+// Where the pages of a card's allocatable clusters lie in its image, and how they are kept: from cluster alloc_offset on,
+// in the image's format.
 pub struct Geometry {
+    pub format: Format,
     pub offset: u32,
 }
 
@@ -113,31 +119,31 @@ pub fn image_page(geometry: Geometry, page: usize) -> usize
 }
 
 // The check up to the table: length, page 0, format text, the other superblock rules, the table.
-fn judge_card(image: &[u8]) -> Opened
-    ensures { λ r. ⌜ toldOpened r ≡ openCard (now (image .entry)) ⌝ }
+fn judge_card(format: Format, image: &[u8]) -> Opened
+    ensures { λ r. ⌜ toldOpened r ≡ openCard format (now (image .entry)) ⌝ }
 {
-    if !good_length(image.len()) {
+    if !good_length(format, image.len()) {
         return Opened::Refused(Refusal::BadLength);
     }
     let mut page = [0u8; 512];
-    if !read_page(image, 0, &mut page) {
+    if !read_page(format, image, 0, &mut page) {
         return Opened::Refused(Refusal::UnreadablePage(0));
     }
     if !good_text(&page) {
         return Opened::Refused(Refusal::BadText);
     }
-    if !good_superblock(image.len() / CLUSTER_BYTES, &page) {
+    if !good_superblock(format, clusters_in(format, image.len()), &page) {
         return Opened::Refused(Refusal::BadSuperblock);
     }
-    judge_table(image, superblock_of(&page))
+    judge_table(image, superblock_of(format, &page))
 }
 
 // Checks the card up to its table, and loads the table's words. A refusal leaves the lent table as it was.
-pub fn open_card(image: &[u8], table: &mut [u32; MOST_CLUSTERS]) -> Opened
-    ensures opened { λ r. ⌜ toldOpened r ≡ openCard (now (image .entry)) ⌝ }
-    ensures loaded { λ _. ⌜ now (table .exit) ≡ tableAfter (now (image .entry)) (openCard (now (image .entry))) (now (table .entry)) ⌝ }
+pub fn open_card(format: Format, image: &[u8], table: &mut [u32; MOST_CLUSTERS]) -> Opened
+    ensures opened { λ r. ⌜ toldOpened r ≡ openCard format (now (image .entry)) ⌝ }
+    ensures loaded { λ _. ⌜ now (table .exit) ≡ tableAfter (now (image .entry)) (openCard format (now (image .entry))) (now (table .entry)) ⌝ }
 {
-    let opened = judge_card(image);
+    let opened = judge_card(format, image);
     match opened {
         Opened::Card(s) => {
             load_table(image, s, table);

@@ -4,21 +4,29 @@ use crate::Superblock;
 use fields::numbers::half_at;
 use fields::numbers::word_at;
 use model::MOST_CLUSTERS;
-use page::CLUSTER_BYTES;
+use page::Format;
+use page::cluster_bytes;
 ghost use mathlib.Core.Path.{_≡_};
 ghost use Prim.Native.Nat.{_+_, _≤_};
 ghost use lib.ListN.{length};
 ghost use Rattle.model.specs.Bytes.{slice};
 ghost use Rattle.model.specs.Names.{sameName};
-ghost use Rattle.layout.specs.Superblock.{goodLength, goodText, goodVersion, fixedNumbers, superblockOf, goodNumbers, goodSuperblock};
+ghost use Rattle.layout.specs.Superblock.{clustersIn, goodLength, goodText, goodVersion, fixedNumbers, superblockOf, goodNumbers, goodSuperblock};
 
 const LEAST_CLUSTERS: usize = 32;
 
-pub fn good_length(bytes: usize) -> bool
-    ensures { λ r. ⌜ r ≡ goodLength bytes ⌝ }
+// How many clusters that many bytes of an image hold whole.
+pub fn clusters_in(format: Format, bytes: usize) -> usize
+    ensures { λ r. ⌜ r ≡ clustersIn format bytes ⌝ }
 {
-    let clusters = bytes / CLUSTER_BYTES;
-    (bytes % CLUSTER_BYTES == 0)
+    bytes / cluster_bytes(format)
+}
+
+pub fn good_length(format: Format, bytes: usize) -> bool
+    ensures { λ r. ⌜ r ≡ goodLength format bytes ⌝ }
+{
+    let clusters = clusters_in(format, bytes);
+    (bytes % cluster_bytes(format) == 0)
         & ((clusters % 8 == 0) & ((LEAST_CLUSTERS <= clusters) & (clusters <= MOST_CLUSTERS)))
 }
 
@@ -50,12 +58,13 @@ pub fn fixed_numbers(page: &[u8; 512]) -> bool
         & ((half_at(page, 0x2A) == 2) & ((half_at(page, 0x2C) == 16) & (word_at(page, 0x3C) == 0)))
 }
 
-pub fn superblock_of(page: &[u8; 512]) -> Superblock
-    ensures { λ r. ⌜ r ≡ superblockOf (now (page .entry)) ⌝ }
+pub fn superblock_of(format: Format, page: &[u8; 512]) -> Superblock
+    ensures { λ r. ⌜ r ≡ superblockOf format (now (page .entry)) ⌝ }
 {
     Superblock {
         clusters: word_at(page, 0x30),
         geometry: Geometry {
+            format: format,
             offset: word_at(page, 0x34),
         },
         end: word_at(page, 0x38),
@@ -81,8 +90,8 @@ pub fn good_numbers(n: usize, s: Superblock) -> bool
 }
 
 // Every rule of page 0 but its text.
-pub fn good_superblock(n: usize, page: &[u8; 512]) -> bool
-    ensures { λ r. ⌜ r ≡ goodSuperblock n (now (page .entry)) ⌝ }
+pub fn good_superblock(format: Format, n: usize, page: &[u8; 512]) -> bool
+    ensures { λ r. ⌜ r ≡ goodSuperblock format n (now (page .entry)) ⌝ }
 {
-    good_version(page) & (fixed_numbers(page) & good_numbers(n, superblock_of(page)))
+    good_version(page) & (fixed_numbers(page) & good_numbers(n, superblock_of(format, page)))
 }

@@ -4,6 +4,7 @@ use crate::Refusal;
 use crate::Superblock;
 use fields::numbers::word_at;
 use fields::numbers::word_in;
+use page::Format;
 use page::read_page;
 ghost use mathlib.Core.Path.{_≡_};
 ghost use mathlib.Core.List.{_++_, _∷_, []};
@@ -102,13 +103,15 @@ fn judge_pages(
     s: Superblock,
 ) -> Opened
     requires { ⌜ count ≤ 256 ⌝ }
-    ensures { λ r. ⌜ toldOpened r ≡ needPages (now (image .entry)) (pagesOf (tableNames (now (first .entry) ++ now (second .entry)) count)) (ok s) ⌝ }
+    ensures { λ r. ⌜ toldOpened r ≡ needPages (s .geometry .format) (now (image .entry)) (pagesOf (tableNames (now (first .entry) ++ now (second .entry)) count)) (ok s) ⌝ }
 {
+    let geometry = s.geometry;
+    let format = geometry.format;
     let mut page = [0u8; 512];
     let mut t = 0;
     while t < 2 * count {
         let p = table_page(first, second, count, t);
-        if !read_page(image, p, &mut page) {
+        if !read_page(format, image, p, &mut page) {
             return Opened::Refused(Refusal::UnreadablePage(p));
         }
         t += 1;
@@ -121,7 +124,9 @@ pub(crate) fn judge_table(image: &[u8], s: Superblock) -> Opened
     requires { ⌜ s .end ≤ mostClusters ⌝ }
     ensures { λ r. ⌜ toldOpened r ≡ openTable (now (image .entry)) s ⌝ }
 {
-    let offset = s.geometry.offset;
+    let geometry = s.geometry;
+    let format = geometry.format;
+    let offset = geometry.offset;
     let indirect = s.indirect;
     let end = s.end as usize;
     if !in_range(offset, indirect) {
@@ -129,11 +134,11 @@ pub(crate) fn judge_table(image: &[u8], s: Superblock) -> Opened
     }
     let p = 2 * (indirect as usize);
     let mut first = [0u8; 512];
-    if !read_page(image, p, &mut first) {
+    if !read_page(format, image, p, &mut first) {
         return Opened::Refused(Refusal::UnreadablePage(p));
     }
     let mut second = [0u8; 512];
-    if !read_page(image, p + 1, &mut second) {
+    if !read_page(format, image, p + 1, &mut second) {
         return Opened::Refused(Refusal::UnreadablePage(p + 1));
     }
     let count = (end + 255) / 256;
@@ -144,16 +149,28 @@ pub(crate) fn judge_table(image: &[u8], s: Superblock) -> Opened
 }
 
 // The words of the clusters below `end`, from the table's pages in turn; each page was judged readable.
-fn load_words(image: &[u8], first: &[u8; 512], second: &[u8; 512], end: usize, table: &mut [u32])
-    requires { ⌜ (end ≤ mostClusters) × (end ≤ length (now table)) × ((t : ℕ) → t < 2 * tableClusters end → isSome (pageAt (now image) (tablePage (tableNames (now first ++ now second) (tableClusters end)) t)) ≡ true) ⌝ }
-    ensures { λ _. ⌜ now (table .exit) ≡ upTo (tableWord (now (image .entry)) (tableNames (now (first .entry) ++ now (second .entry)) (tableClusters end))) end ++ drop end (now (table .entry)) ⌝ }
+fn load_words(
+    format: Format,
+    image: &[u8],
+    first: &[u8; 512],
+    second: &[u8; 512],
+    end: usize,
+    table: &mut [u32],
+)
+    requires { ⌜ (end ≤ mostClusters) × (end ≤ length (now table)) × ((t : ℕ) → t < 2 * tableClusters end → isSome (pageAt format (now image) (tablePage (tableNames (now first ++ now second) (tableClusters end)) t)) ≡ true) ⌝ }
+    ensures { λ _. ⌜ now (table .exit) ≡ upTo (tableWord format (now (image .entry)) (tableNames (now (first .entry) ++ now (second .entry)) (tableClusters end))) end ++ drop end (now (table .entry)) ⌝ }
 {
     let count = (end + 255) / 256;
     let mut page = [0u8; 512];
     let mut c = 0;
     while c < end {
         if c % 128 == 0 {
-            read_page(image, table_page(first, second, count, c / 128), &mut page);
+            read_page(
+                format,
+                image,
+                table_page(first, second, count, c / 128),
+                &mut page,
+            );
         }
         table[c] = word_at(&page, 4 * (c % 128));
         c += 1;
@@ -162,13 +179,15 @@ fn load_words(image: &[u8], first: &[u8; 512], second: &[u8; 512], end: usize, t
 
 // Loads the table of a card that passed the check.
 pub(crate) fn load_table(image: &[u8], s: Superblock, table: &mut [u32])
-    requires { ⌜ (openCard (now image) ≡ ok s) × (s .end ≤ length (now table)) ⌝ }
+    requires { ⌜ (openCard (s .geometry .format) (now image) ≡ ok s) × (s .end ≤ length (now table)) ⌝ }
     ensures { λ _. ⌜ now (table .exit) ≡ tableOf (now (image .entry)) s ++ drop (s .end) (now (table .entry)) ⌝ }
 {
+    let geometry = s.geometry;
+    let format = geometry.format;
     let p = 2 * (s.indirect as usize);
     let mut first = [0u8; 512];
-    read_page(image, p, &mut first);
+    read_page(format, image, p, &mut first);
     let mut second = [0u8; 512];
-    read_page(image, p + 1, &mut second);
-    load_words(image, &first, &second, s.end as usize, table);
+    read_page(format, image, p + 1, &mut second);
+    load_words(format, image, &first, &second, s.end as usize, table);
 }

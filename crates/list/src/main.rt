@@ -1,4 +1,5 @@
 // Reads an image of at most 59,136 bytes from standard input and writes its listing.
+use page::Format;
 
 // The most bytes that are read; longer input is refused as an image of no allowed length.
 const MOST_BYTES: usize = 59136;
@@ -8,7 +9,7 @@ const ROOM: usize = 16384;
 
 fn show(image: &[u8]) {
     let mut text = [0u8; ROOM];
-    let length = listing::list(image, &mut text);
+    let length = listing::list(Format::Raw, image, &mut text);
     io::write_all(1, listing::written(&text, length));
 }
 

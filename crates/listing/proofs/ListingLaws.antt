@@ -2,6 +2,7 @@
 use Prim.Native.Nat.{ℕ}
 use mathlib.Core.List.{List, [], _++_}
 use mathlib.Core.Path.{_∙_, _≡_, refl, sym}
+use Rattle.page.specs.declared.Format.{Format}
 use Rattle.layout.specs.See.{checkImage, onImage, see}
 use Rattle.layout.specs.Table.{openCard}
 use Rattle.layout.specs.declared.Superblock.{Superblock}
@@ -15,25 +16,25 @@ use Rattle.tree.specs.Counted.{checkOf, countsIn, superblockIn}
 use Rattle.tree.specs.declared.Counts.{Counts}
 use Rattle.listing.specs.Text.{countsText, listingOf, refusalText, textOf, treeText}
 
-module _ (image : List ℕ) where
+module _ (format : Format) (image : List ℕ) where
   abbrev told-all : Superblock × Root × Marks → Result Counts
   told-all x = ok (countsIn (x .0 .clusters) (x .0 .end) (see (x .0) image) (x .1))
 
-  pub listing-refused : (n p : ℕ) → fault n p ≡ checkOf image → refusalText n p ≡ listingOf image
+  pub listing-refused : (n p : ℕ) → fault n p ≡ checkOf format image → refusalText n p ≡ listingOf format image
   unfolding checkOf listingOf andThen
-  listing-refused n p h = go (checkImage image) h
+  listing-refused n p h = go (checkImage format image) h
     where
       go : (r : Result (Superblock × Root × Marks)) → fault n p ≡ andThen r told-all → refusalText n p ≡ textOf image r
       go (fault m q) e = let a : _≡_ {A = ℕ} n m = cc in let b : _≡_ {A = ℕ} p q = cc in rw (a, b)
       go (ok x) e = fault-ok n p (countsIn (x .0 .clusters) (x .0 .end) (see (x .0) image) (x .1)) e
 
-  module _ (counts : Counts) (passed : ok counts ≡ checkOf image) where
+  module _ (counts : Counts) (passed : ok counts ≡ checkOf format image) where
     -- a card that passed the check opens
-    pub opens : {A : Type 0} (n p : ℕ) → fault n p ≡ openCard image → A
-    opens n p e = fault-ok n p counts (check-bad image n p e ∙ sym passed)
+    pub opens : {A : Type 0} (n p : ℕ) → fault n p ≡ openCard format image → A
+    opens n p e = fault-ok n p counts (check-bad format image n p e ∙ sym passed)
 
-    module _ (s : Superblock) (opened : ok s ≡ openCard image) where
-      pub passes : ok s ≡ superblockIn (checkImage image)
+    module _ (s : Superblock) (opened : ok s ≡ openCard format image) where
+      pub passes : ok s ≡ superblockIn (checkImage format image)
       unfolding checkImage checkOf andThen
       passes = rw (← opened) (go (checkTree (see s image)) (rw (← opened) at passed))
         where
@@ -42,9 +43,9 @@ module _ (image : List ℕ) where
           go (fault n p) e = fault-ok _ _ counts (sym e)
           go (ok x) e = refl
 
-      pub listing-card : countsText counts ++ treeText [] ((accepted image s passes) .root .slots) ≡ listingOf image
+      pub listing-card : countsText counts ++ treeText [] ((accepted format image s passes) .root .slots) ≡ listingOf format image
       unfolding checkOf listingOf andThen
       listing-card =
-          let y = accepted image s passes in
+          let y = accepted format image s passes in
           let same : counts ≡ countsIn (s .clusters) (s .end) (see s image) (y .root) = ok-inj _ _ (rw (y .checked) at passed) in
           rw (y .checked, ← same)

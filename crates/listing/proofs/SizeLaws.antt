@@ -7,6 +7,7 @@ use native.Mathlib.Omega.{arith}
 use borrow.Author.Tests.{le-ltb, ltb-true}
 use lib.Dec.{eqb, ltb}
 use lib.ListN.{length, length-append, length-drop, length-take, take}
+use Rattle.page.specs.declared.Format.{Format}
 use Rattle.layout.proofs.TableLaws.{length-table}
 use Rattle.layout.specs.See.{checkImage, see}
 use Rattle.layout.specs.Table.{tableOf}
@@ -142,17 +143,17 @@ card-short v r n x high =
 
 -- ---- the listing
 
-pub listing-short : (image : List ℕ) → length (listingOf image) ≤ most
+pub listing-short : (format : Format) (image : List ℕ) → length (listingOf format image) ≤ most
 unfolding listingOf
-listing-short image = go (checkImage image) refl
+listing-short format image = go (checkImage format image) refl
   where
-    go : (c : Result (Superblock × Root × Marks)) → checkImage image ≡ c → length (textOf image c) ≤ most
+    go : (c : Result (Superblock × Root × Marks)) → checkImage format image ≡ c → length (textOf image c) ≤ most
     go (fault n p) e = omega (arith, refusal-short n p)
     go (ok x) e =
-        let y = accepted image (x .0) (sym (ap superblockIn e)) in
+        let y = accepted format image (x .0) (sym (ap superblockIn e)) in
         let same : x .1 ≡ y .root = ap (λ (z : Superblock × Root × Marks). z .1) (ok-inj x (x .0, y .root, y .marks) (sym e ∙ y .checked)) in
         let high : (c : ℕ) → x .0 .end ≤ c → (see (x .0) image) .link c ≡ Link.free =
         λ c l. rw (le-ltb c (length (tableOf image (x .0))) (omega (arith, length-table image (x .0)))) in
         let tree = card-short (see (x .0) image) (x .1) (x .0 .end) (rw same (y .holds)) high in
         let all = countsIn (x .0 .clusters) (x .0 .end) (see (x .0) image) (x .1) in
-        omega (arith, length-append (countsText all) (treeText [] (x .1 .slots)), counts-short all, tree, end-fits image (x .0) (y .opened))
+        omega (arith, length-append (countsText all) (treeText [] (x .1 .slots)), counts-short all, tree, end-fits format image (x .0) (y .opened))

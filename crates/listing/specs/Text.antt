@@ -4,6 +4,7 @@ use mathlib.Core.Bool.{cond}
 use mathlib.Core.List.{List, [], _++_, _∷_}
 use lib.Dec.{eqb, ltb}
 use lib.ListN.{drop, length, take}
+use Rattle.page.specs.declared.Format.{Format}
 use Rattle.layout.specs.See.{checkImage, see}
 use Rattle.layout.specs.declared.Superblock.{Superblock}
 use Rattle.model.specs.Check.{Marks, Result, fault, ok}
@@ -96,8 +97,8 @@ abbrev pub textOf : List ℕ → Result (Superblock × Root × Marks) → List �
 textOf image (fault number page) = refusalText number page
 textOf image (ok x) = cardText (countsIn (x .0 .clusters) (x .0 .end) (see (x .0) image) (x .1)) (x .1)
 
-unfoldable pub listingOf : List ℕ → List ℕ
-listingOf image = textOf image (checkImage image)
+unfoldable pub listingOf : Format → List ℕ → List ℕ
+listingOf format image = textOf image (checkImage format image)
 
 -- what a lent buffer holds afterwards: as much of the text as fits, and behind a shorter text what it held
 abbrev pub fitted : List ℕ → List ℕ → List ℕ

@@ -11,6 +11,7 @@ use layout::open_card;
 use lines::put_counts;
 use lines::put_refusal;
 use model::MOST_CLUSTERS;
+use page::Format;
 use tree::Checked;
 use tree::Counts;
 use tree::check;
@@ -41,16 +42,17 @@ fn list_words(
 
 // A card that the check accepts, with room for its table. It opens, since the check opened it.
 fn list_card(
+    format: Format,
     image: &[u8],
     table: &mut [u32; MOST_CLUSTERS],
     counts: Counts,
     out: &mut [u8],
 ) -> usize
-    requires { ⌜ ok counts ≡ checkOf (now image) ⌝ }
-    ensures { λ r. ⌜ Wrote (now (out .entry)) 0 (listingOf (now (image .entry))) (now (out .exit)) r ⌝ }
+    requires { ⌜ ok counts ≡ checkOf format (now image) ⌝ }
+    ensures { λ r. ⌜ Wrote (now (out .entry)) 0 (listingOf format (now (image .entry))) (now (out .exit)) r ⌝ }
 {
     let at = put_counts(out, 0, counts);
-    let opened = open_card(image, table);
+    let opened = open_card(format, image, table);
     match opened {
         Opened::Refused(_) => at,
         Opened::Card(s) => list_words(image, table, s.end as usize, s.geometry, out, at),
@@ -58,16 +60,16 @@ fn list_card(
 }
 
 // Writes as much of the listing as fits, and tells how long the whole of it is.
-pub fn list(image: &[u8], out: &mut [u8]) -> usize
-    ensures length { λ r. ⌜ r ≡ length (listingOf (now (image .entry))) ⌝ }
-    ensures text { λ r. ⌜ now (out .exit) ≡ fitted (now (out .entry)) (listingOf (now (image .entry))) ⌝ }
+pub fn list(format: Format, image: &[u8], out: &mut [u8]) -> usize
+    ensures length { λ r. ⌜ r ≡ length (listingOf format (now (image .entry))) ⌝ }
+    ensures text { λ r. ⌜ now (out .exit) ≡ fitted (now (out .entry)) (listingOf format (now (image .entry))) ⌝ }
 {
-    let checked = check(image);
+    let checked = check(format, image);
     match checked {
         Checked::Refused(refusal) => put_refusal(out, refusal),
         Checked::Card(counts) => {
             let mut table = [0u32; MOST_CLUSTERS];
-            list_card(image, &mut table, counts, out)
+            list_card(format, image, &mut table, counts, out)
         }
     }
 }

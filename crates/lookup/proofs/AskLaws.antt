@@ -5,6 +5,7 @@ use mathlib.Core.Option.{Option, none, some}
 use mathlib.Core.Path.{_∙_, _≡_, ap, refl, sym}
 use native.Mathlib.Omega.{arith}
 use lib.ListN.{drop, length, length-append, length-drop, take}
+use Rattle.page.specs.declared.Format.{Format}
 use Rattle.fields.specs.PathBytes.{pathOf}
 use Rattle.layout.specs.Refusal.{numberOf, pageOf}
 use Rattle.layout.specs.See.{checkImage, onImage, viewBy}
@@ -59,29 +60,29 @@ fits-of card (stood.At s first) o h = rw o h
 pub fits-at : (st : Standing) (s : Superblock) (first : ℕ) → Fits st → st ≡ stood.At s first → s .end ≤ mostClusters
 fits-at st s first f e = rw e at f
 
-module _ (image bytes before words : List ℕ) (l : words ≡ tableAfter image (openCard image) before) (r : Stood) where
-  pub stand-refused : (f : Refusal) → r ≡ refusedAs f → fault (numberOf f) (pageOf f) ≡ superblockIn (checkImage image)
-      → TellsStood words image bytes r × ((words ≡ tableAfter image (openCard image) before) × Fits (r .standing))
-  stand-refused f e h = rw (e, call-refused image bytes foundAt (numberOf f) (pageOf f) h) ((refl, refl, refl), (l, tt))
+module _ (format : Format) (image bytes before words : List ℕ) (l : words ≡ tableAfter image (openCard format image) before) (r : Stood) where
+  pub stand-refused : (f : Refusal) → r ≡ refusedAs f → fault (numberOf f) (pageOf f) ≡ superblockIn (checkImage format image)
+      → TellsStood format words image bytes r × ((words ≡ tableAfter image (openCard format image) before) × Fits (r .standing))
+  stand-refused f e h = rw (e, call-refused format image bytes foundAt (numberOf f) (pageOf f) h) ((refl, refl, refl), (l, tt))
 
-  pub stand-accepted : (s : Superblock) (h : ok s ≡ superblockIn (checkImage image)) → TellsWay (viewBy (s .geometry) (take (s .end) words) image) s bytes r
-      → TellsStood words image bytes r × ((words ≡ tableAfter image (openCard image) before) × Fits (r .standing))
+  pub stand-accepted : (s : Superblock) (h : ok s ≡ superblockIn (checkImage format image)) → TellsWay (viewBy (s .geometry) (take (s .end) words) image) s bytes r
+      → TellsStood format words image bytes r × ((words ≡ tableAfter image (openCard format image) before) × Fits (r .standing))
   stand-accepted s h w =
-      let y = accepted image s h in
-      let facts = open-facts image s (sym (y .opened)) in (
-        as-stood s words image (standingOf image bytes) (r .standing) (r .page) (w .1)
-            (rw (call-accepted image bytes foundAt s (y .root) (y .marks) (y .checked)) (w .0 (y .root) (words-hold image s h before words l))),
+      let y = accepted format image s h in
+      let facts = open-facts format image s (sym (y .opened)) in (
+        as-stood s words image (standingOf format image bytes) (r .standing) (r .page) (w .1)
+            (rw (call-accepted format image bytes foundAt s (y .root) (y .marks) (y .checked)) (w .0 (y .root) (words-hold format image s h before words l))),
         (l, fits-of s (r .standing) (w .1) (omega (arith, facts .room, facts .most))),
       )
 
 -- the room keeps its length
-pub room-length : (image before words : List ℕ) → words ≡ tableAfter image (openCard image) before → length before ≡ mostClusters → length words ≡ mostClusters
-room-length image before words l e = go (openCard image) refl l
+pub room-length : (format : Format) (image before words : List ℕ) → words ≡ tableAfter image (openCard format image) before → length before ≡ mostClusters → length words ≡ mostClusters
+room-length format image before words l e = go (openCard format image) refl l
   where
-    go : (o : Result Superblock) → openCard image ≡ o → words ≡ tableAfter image o before → length words ≡ mostClusters
+    go : (o : Result Superblock) → openCard format image ≡ o → words ≡ tableAfter image o before → length words ≡ mostClusters
     go (fault n p) f h = ap length h ∙ e
     go (ok s) f h =
-        let facts = open-facts image s f in
+        let facts = open-facts format image s f in
         ap length h ∙ length-append (tableOf image s) (drop (s .end) before) ∙ omega (arith, length-table image s, length-drop (s .end) before, facts .room, facts .most)
 
 -- ---- what is asked
@@ -100,31 +101,31 @@ module _ {A : Type 0} (ask : Superblock → Slot → Tree → Result A) where
   at-bytes s root none = refl
   at-bytes s root (some q) = at-tree s (way (lookUp root) q) (lookUp root q)
 
-  asked : (image bytes : List ℕ) → onCard image bytes (λ s root q. atPath root q (ask s)) ≡ andThen (standingOf image bytes) onward
+  asked : (format : Format) (image bytes : List ℕ) → onCard format image bytes (λ s root q. atPath root q (ask s)) ≡ andThen (standingOf format image bytes) onward
   unfolding andThen onCard
-  asked image bytes = go (checkImage image)
+  asked format image bytes = go (checkImage format image)
     where
       go : (r : Result (Superblock × Root × Marks))
           → andThen r (λ x. withPath (pathOf bytes) (λ q. atPath (x .1) q (ask (x .0)))) ≡ andThen (andThen r (λ x. withPath (pathOf bytes) (foundAt (x .0) (x .1)))) onward
       go (fault n p) = refl
       go (ok x) = at-bytes (x .0) (x .1) (pathOf bytes)
 
-  module _ (words image bytes : List ℕ) (r : Stood) (told : TellsStood words image bytes r) where
-    pub ask-refused : (f : Refusal) → r .standing ≡ stood.Refused f → onCard image bytes (λ s root q. atPath root q (ask s)) ≡ fault (numberOf f) (pageOf f)
+  module _ (format : Format) (words image bytes : List ℕ) (r : Stood) (told : TellsStood format words image bytes r) where
+    pub ask-refused : (f : Refusal) → r .standing ≡ stood.Refused f → onCard format image bytes (λ s root q. atPath root q (ask s)) ≡ fault (numberOf f) (pageOf f)
     unfolding andThen
-    ask-refused f e = asked image bytes ∙ go (standingOf image bytes) (rw e at told)
+    ask-refused f e = asked format image bytes ∙ go (standingOf format image bytes) (rw e at told)
       where
         go : (x : Result (Superblock × Slot × Tree)) → TellsAs (viewIn words image (stood.Refused f)) x (stood.Refused f) (r .page) → andThen x onward ≡ fault (numberOf f) (pageOf f)
         go (fault n p) y = rw (y .0, y .1)
         go (ok x) y = absurd y
 
     pub ask-at : (s : Superblock) (first : ℕ) → r .standing ≡ stood.At s first
-        → (h : Slot) × (t : Tree) × Stands (viewBy (s .geometry) (take (s .end) words) image) first (entryOf (r .page)) h t × (onCard image bytes (λ s root q. atPath root q (ask s)) ≡ ask s h t)
+        → (h : Slot) × (t : Tree) × Stands (viewBy (s .geometry) (take (s .end) words) image) first (entryOf (r .page)) h t × (onCard format image bytes (λ s root q. atPath root q (ask s)) ≡ ask s h t)
     unfolding andThen
-    ask-at s first e = go (standingOf image bytes) (rw e at told) (asked image bytes)
+    ask-at s first e = go (standingOf format image bytes) (rw e at told) (asked format image bytes)
       where
-        go : (x : Result (Superblock × Slot × Tree)) → TellsAs (viewBy (s .geometry) (take (s .end) words) image) x (stood.At s first) (r .page) → onCard image bytes (λ s root q. atPath root q (ask s)) ≡ andThen x onward
-            → (h : Slot) × (t : Tree) × Stands (viewBy (s .geometry) (take (s .end) words) image) first (entryOf (r .page)) h t × (onCard image bytes (λ s root q. atPath root q (ask s)) ≡ ask s h t)
+        go : (x : Result (Superblock × Slot × Tree)) → TellsAs (viewBy (s .geometry) (take (s .end) words) image) x (stood.At s first) (r .page) → onCard format image bytes (λ s root q. atPath root q (ask s)) ≡ andThen x onward
+            → (h : Slot) × (t : Tree) × Stands (viewBy (s .geometry) (take (s .end) words) image) first (entryOf (r .page)) h t × (onCard format image bytes (λ s root q. atPath root q (ask s)) ≡ ask s h t)
         go (fault n p) y z = absurd y
         go (ok x) y z = (x .1, x .2, y .1, z ∙ ap (λ a. ask a (x .1) (x .2)) (y .0))
 
@@ -148,10 +149,10 @@ module _ {A : Type 0} (geometry : Geometry) (ask : Slot → Tree → Result A) w
   image-path root q =
       ap (onImage geometry) (at-path ask root q) ∙ through (rootSlot root) (root .slots) q ∙ sym (at-path (λ h t. onImage geometry (ask h t)) root q)
 
-pub read-so : (image bytes : List ℕ) (from room : ℕ)
-    → readOf image bytes from room ≡ onCard image bytes (λ s root q. atPath root q (λ h t. onImage (s .geometry) (readFrom from room h t)))
+pub read-so : (format : Format) (image bytes : List ℕ) (from room : ℕ)
+    → readOf format image bytes from room ≡ onCard format image bytes (λ s root q. atPath root q (λ h t. onImage (s .geometry) (readFrom from room h t)))
 unfolding onCard andThen
-read-so image bytes from room = go (checkImage image)
+read-so format image bytes from room = go (checkImage format image)
   where
     path : (s : Superblock) (root : Root) (o : Option Path) → withPath o (λ q. onImage (s .geometry) (readIn root q from room))
         ≡ withPath o (λ q. atPath root q (λ h t. onImage (s .geometry) (readFrom from room h t)))

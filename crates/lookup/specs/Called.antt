@@ -3,6 +3,8 @@ use Prim.Native.Nat.{ℕ, _≤_}
 use mathlib.Core.List.{List, []}
 use mathlib.Core.Path.{_≡_}
 use lib.ListN.{length, replicate, take}
+use Rattle.page.specs.declared.Format.{Format}
+use Rattle.page.specs.declared.Format.the-variants.{Raw}
 use Rattle.fields.specs.PathBytes.{pathOf}
 use Rattle.layout.specs.Refusal.{numberOf, pageOf}
 use Rattle.layout.specs.See.{onImage, viewBy}
@@ -28,7 +30,7 @@ use Rattle.lookup.specs.declared.stepping.SteppedEntry.{SteppedEntry}
 -- the view of a card that stands open, by the words that the lent room has
 abbrev pub viewIn : List ℕ → List ℕ → Standing → View
 viewIn words image (stood.At s first) = viewBy (s .geometry) (take (s .end) words) image
-viewIn words image (stood.Refused f) = viewBy (record { offset = 0 }) [] image
+viewIn words image (stood.Refused f) = viewBy (record { format = Raw; offset = 0 }) [] image
 
 abbrev pub refusedAs : Refusal → Stood
 refusedAs f = record { standing = stood.Refused f; page = replicate 512 0 }
@@ -50,8 +52,8 @@ abbrev pub TellsWay : View → Superblock → List ℕ → Stood → Type 0
 TellsWay v card bytes r = ((root : Root) → HoldsCard v root → TellsAs v (withPath (pathOf bytes) (foundAt card root)) (r .standing) (r .page)) × Of card (r .standing)
 
 -- of a whole call, with the words in the room
-abbrev pub TellsStood : List ℕ → List ℕ → List ℕ → Stood → Type 0
-TellsStood words image bytes r = TellsAs (viewIn words image (r .standing)) (standingOf image bytes) (r .standing) (r .page)
+abbrev pub TellsStood : Format → List ℕ → List ℕ → List ℕ → Stood → Type 0
+TellsStood format words image bytes r = TellsAs (viewIn words image (r .standing)) (standingOf format image bytes) (r .standing) (r .page)
 
 -- the card's words fit the room
 abbrev pub Fits : Standing → Type 0

@@ -1,6 +1,7 @@
 -- Finding answers the entry, for the root its first one (RULES, "What the build covers").
 use Prim.Native.Nat.{ℕ}
 use mathlib.Core.List.{List}
+use Rattle.page.specs.declared.Format.{Format}
 use Rattle.model.specs.Check.{Result, fault, ok}
 use Rattle.model.specs.Entry.{Entry}
 use Rattle.model.specs.Names.{Path}
@@ -16,5 +17,5 @@ foundEntry (Slot.directory e chain) inside = ok e
 abbrev pub findIn : Root → Path → Result Entry
 findIn root path = atPath root path foundEntry
 
-abbrev pub findOf : List ℕ → List ℕ → Result Entry
-findOf image bytes = onCard image bytes (λ s. findIn)
+abbrev pub findOf : Format → List ℕ → List ℕ → Result Entry
+findOf format image bytes = onCard format image bytes (λ s. findIn)

@@ -2,6 +2,7 @@
 use Prim.Native.Nat.{ℕ, suc, zero}
 use mathlib.Core.List.{List}
 use mathlib.Core.Option.{Option, none, some}
+use Rattle.page.specs.declared.Format.{Format}
 use Rattle.fields.specs.PathBytes.{pathOf}
 use Rattle.layout.specs.See.{checkImage}
 use Rattle.layout.specs.declared.Superblock.{Superblock}
@@ -27,8 +28,8 @@ module _ {A : Type 0} where
   withPath (some path) ask = ask path
 
   -- a whole call: the check (1 to 7), the path (8), then what is asked of the tree
-  unfoldable pub onCard : List ℕ → List ℕ → (Superblock → Root → Path → Result A) → Result A
-  onCard image bytes ask = andThen (checkImage image) (λ x. withPath (pathOf bytes) (ask (x .0) (x .1)))
+  unfoldable pub onCard : Format → List ℕ → List ℕ → (Superblock → Root → Path → Result A) → Result A
+  onCard format image bytes ask = andThen (checkImage format image) (λ x. withPath (pathOf bytes) (ask (x .0) (x .1)))
 
 -- what a call finds: the card's superblock, and what stands at the path
 abbrev pub standsThere : Superblock → Slot → Tree → Result (Superblock × Slot × Tree)
@@ -37,5 +38,5 @@ standsThere s h inside = ok (s, h, inside)
 abbrev pub foundAt : Superblock → Root → Path → Result (Superblock × Slot × Tree)
 foundAt s root path = atPath root path (standsThere s)
 
-abbrev pub standingOf : List ℕ → List ℕ → Result (Superblock × Slot × Tree)
-standingOf image bytes = onCard image bytes foundAt
+abbrev pub standingOf : Format → List ℕ → List ℕ → Result (Superblock × Slot × Tree)
+standingOf format image bytes = onCard format image bytes foundAt

@@ -6,6 +6,7 @@ use mathlib.Core.List.{List, [], _++_, _∷_}
 use mathlib.Core.Option.{Option, none, some}
 use lib.Dec.{eqb, leb}
 use lib.ListN.{drop, take}
+use Rattle.page.specs.declared.Format.{Format}
 use Rattle.layout.specs.See.{onImage}
 use Rattle.model.specs.Bytes.{slice}
 use Rattle.model.specs.Check.{Result, andThen, fault, ok}
@@ -45,5 +46,5 @@ abbrev pub readIn : Root → Path → ℕ → ℕ → Result (List ℕ)
 readIn root path offset count = atPath root path (readFrom offset count)
 
 -- the page that goes with number 2 is the image's
-abbrev pub readOf : List ℕ → List ℕ → ℕ → ℕ → Result (List ℕ)
-readOf image bytes offset count = onCard image bytes (λ s root path. onImage (s .geometry) (readIn root path offset count))
+abbrev pub readOf : Format → List ℕ → List ℕ → ℕ → ℕ → Result (List ℕ)
+readOf format image bytes offset count = onCard format image bytes (λ s root path. onImage (s .geometry) (readIn root path offset count))

@@ -4,6 +4,7 @@ use mathlib.Core.Bool.{cond}
 use mathlib.Core.List.{List}
 use mathlib.Core.Option.{Option, none, some}
 use lib.Dec.{leb}
+use Rattle.page.specs.declared.Format.{Format}
 use Rattle.model.specs.Check.{Result, fault, ok}
 use Rattle.model.specs.Entry.{Entry}
 use Rattle.model.specs.Names.{Path}
@@ -26,5 +27,5 @@ stepFrom slot (Slot.directory e chain) inside = ok (liveFrom slot 2 inside)
 abbrev pub stepIn : Root → Path → ℕ → Result (Option (ℕ × Entry))
 stepIn root path slot = atPath root path (stepFrom slot)
 
-abbrev pub stepOf : List ℕ → List ℕ → ℕ → Result (Option (ℕ × Entry))
-stepOf image bytes slot = onCard image bytes (λ s root path. stepIn root path slot)
+abbrev pub stepOf : Format → List ℕ → List ℕ → ℕ → Result (Option (ℕ × Entry))
+stepOf format image bytes slot = onCard format image bytes (λ s root path. stepIn root path slot)

@@ -7,6 +7,7 @@ use layout::Opened;
 use layout::Refusal;
 use layout::Superblock;
 use model::MOST_CLUSTERS;
+use page::Format;
 use tree::open_checked;
 ghost use mathlib.Core.Path.{_≡_};
 ghost use Prim.Native.Nat.{_≤_};
@@ -72,12 +73,17 @@ fn stand_words(image: &[u8], table: &[u32], card: Superblock, path: &[u8]) -> St
 }
 
 // The check, then 8, 9 and 10. The lent room has the table's words for the questions that go on from here.
-pub(crate) fn stand(image: &[u8], path: &[u8], room: &mut [u32; MOST_CLUSTERS]) -> Stood
-    ensures told { λ r. ⌜ TellsStood (now (room .exit)) (now (image .entry)) (now (path .entry)) r ⌝ }
-    ensures working_room { λ _. ⌜ now (room .exit) ≡ tableAfter (now (image .entry)) (openCard (now (image .entry))) (now (room .entry)) ⌝ }
+pub(crate) fn stand(
+    format: Format,
+    image: &[u8],
+    path: &[u8],
+    room: &mut [u32; MOST_CLUSTERS],
+) -> Stood
+    ensures told { λ r. ⌜ TellsStood format (now (room .exit)) (now (image .entry)) (now (path .entry)) r ⌝ }
+    ensures working_room { λ _. ⌜ now (room .exit) ≡ tableAfter (now (image .entry)) (openCard format (now (image .entry))) (now (room .entry)) ⌝ }
     ensures fits { λ r. ⌜ Fits (r .standing) ⌝ }
 {
-    let opened = open_checked(image, room);
+    let opened = open_checked(format, image, room);
     match opened {
         Opened::Refused(refusal) => refused(refusal),
         Opened::Card(s) => stand_words(image, room, s, path),

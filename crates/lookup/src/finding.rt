@@ -5,6 +5,7 @@ use fields::entries::Entry;
 use fields::entries::entry_of;
 use layout::Refusal;
 use model::MOST_CLUSTERS;
+use page::Format;
 ghost use mathlib.Core.Path.{_≡_};
 ghost use Rattle.lookup.specs.Answers.{TellsEntry, blankEntry};
 ghost use Rattle.lookup.specs.Find.{findOf};
@@ -41,11 +42,11 @@ pub(crate) fn no_entry() -> Entry
 }
 
 // The entry at a path, for `/` the root's first one: the check first, then 8, 9 and 10.
-pub fn find(image: &[u8], path: &[u8]) -> FoundEntry
-    ensures { λ r. ⌜ TellsEntry (findOf (now (image .entry)) (now (path .entry))) r ⌝ }
+pub fn find(format: Format, image: &[u8], path: &[u8]) -> FoundEntry
+    ensures { λ r. ⌜ TellsEntry (findOf format (now (image .entry)) (now (path .entry))) r ⌝ }
 {
     let mut room = [0u32; MOST_CLUSTERS];
-    let stood = stand(image, path, &mut room);
+    let stood = stand(format, image, path, &mut room);
     let standing = stood.standing;
     match standing {
         Standing::Refused(refusal) => FoundEntry {

@@ -7,6 +7,7 @@ use layout::Geometry;
 use layout::Refusal;
 use layout::image_page;
 use model::MOST_CLUSTERS;
+use page::Format;
 use tree::along::Place;
 use tree::along::cluster_at;
 use tree::along::first_unreadable;
@@ -162,11 +163,11 @@ fn read_words(
 }
 
 // Copies bytes of the file at a path, from the offset `from` until the file or the buffer ends, and tells how many.
-pub fn read(image: &[u8], path: &[u8], from: usize, out: &mut [u8]) -> ReadOutcome
-    ensures { λ r. ⌜ TellsRead (readOf (now (image .entry)) (now (path .entry)) from (length (now (out .entry)))) r (now (out .entry)) (now (out .exit)) ⌝ }
+pub fn read(format: Format, image: &[u8], path: &[u8], from: usize, out: &mut [u8]) -> ReadOutcome
+    ensures { λ r. ⌜ TellsRead (readOf format (now (image .entry)) (now (path .entry)) from (length (now (out .entry)))) r (now (out .entry)) (now (out .exit)) ⌝ }
 {
     let mut room = [0u32; MOST_CLUSTERS];
-    let stood = stand(image, path, &mut room);
+    let stood = stand(format, image, path, &mut room);
     let standing = stood.standing;
     match standing {
         Standing::Refused(refusal) => ReadOutcome::Refused(refusal),

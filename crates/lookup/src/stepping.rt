@@ -9,6 +9,7 @@ use fields::numbers::word_at;
 use layout::Geometry;
 use layout::Refusal;
 use model::MOST_CLUSTERS;
+use page::Format;
 use tree::along::Place;
 use tree::along::first_live;
 use tree::slots::next_of;
@@ -97,11 +98,11 @@ fn step_words(
 }
 
 // The first live entry of the directory at a path from a slot on, never before slot 2, or the end.
-pub fn step(image: &[u8], path: &[u8], slot: u32) -> SteppedEntry
-    ensures { λ r. ⌜ TellsStep (stepOf (now (image .entry)) (now (path .entry)) slot) r ⌝ }
+pub fn step(format: Format, image: &[u8], path: &[u8], slot: u32) -> SteppedEntry
+    ensures { λ r. ⌜ TellsStep (stepOf format (now (image .entry)) (now (path .entry)) slot) r ⌝ }
 {
     let mut room = [0u32; MOST_CLUSTERS];
-    let stood = stand(image, path, &mut room);
+    let stood = stand(format, image, path, &mut room);
     let standing = stood.standing;
     match standing {
         Standing::Refused(refusal) => SteppedEntry {

@@ -1,5 +1,7 @@
 pub mod Lists
 pub mod Chunks
-pub mod Raw
+pub mod Coded
+pub mod Formats
 pub mod Puts
 pub mod Laws
+pub mod Twins

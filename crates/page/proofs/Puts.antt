@@ -4,13 +4,14 @@ use mathlib.Core.Bool.{Bool, true, false, cond, not, _&&_, _||_}
 use mathlib.Core.Logic.{_⊎_, inl, inr, ⊎-elim}
 use mathlib.Core.List.{List, [], _∷_}
 use mathlib.Core.Option.{Option, none, some}
-use Prim.Native.Nat.{ℕ, _+_, _*_, _≤_}
+use Prim.Native.Nat.{ℕ, _+_, _≤_, _<_}
 use native.Mathlib.Omega.{arith}
 use borrow.Author.Tests.{ltb-true, lt-ltb, le-ltb, eqb-true, eq-eqb}
 use lib.Dec.{eqb}
 use lib.ListN.{length}
-use Rattle.page.specs.Page.{putAt, rawPage, isInside, readRaw, pageAt, pagesIn, Read, codedPage, sameBytes, holds, isPut, put}
-use Rattle.page.specs.PageLaws.{Inside}
+use Rattle.page.specs.declared.Format.{Format}
+use Rattle.page.specs.Page.{putAt, storedPage, isInside, readStored, pageAt, pageBytes, pagesIn, pageStart, Read, storedAs, sameBytes, holds, isPut, put}
+use Rattle.page.proofs.Formats.{inside-whole, whole-inside}
 
 pub true-or-false : (b : Bool) → (b ≡ true) ⊎ (b ≡ false)
 true-or-false true = inl refl
@@ -53,60 +54,69 @@ read-none none e f = refl
 read-none (some d) e f = tf (e .readable) f
 
 -- ---- the sealed definitions, opened for this crate's proofs alone
-pub page-is : (image : List ℕ) (p : ℕ) → pageAt image p ≡ cond (isInside image p) (readRaw (rawPage image p)) none
-unfolding pageAt
-page-is image p = refl
+module _ (format : Format) where
+  -- the page in its place
+  abbrev pub placed : List ℕ → ℕ → List ℕ → List ℕ
+  placed image p bytes = putAt image (pageStart format p) (storedAs format (storedPage format image p) bytes)
 
-pub put-is : (always : Bool) (p : ℕ) (bytes image : List ℕ)
-    → put always p bytes image ≡ cond (isPut always p bytes image) (putAt image (528 * p) (codedPage (rawPage image p) bytes)) image
-unfolding put
-put-is always p bytes image = refl
+  -- the page's bytes all lie in the image
+  abbrev pub Whole : List ℕ → ℕ → Type 0
+  Whole image p = pageStart format p + pageBytes format ≤ length image
 
--- ---- in the image
-pub inside-whole : (image : List ℕ) (p : ℕ) → Inside image p → 528 * p + 528 ≤ length image
-unfolding pagesIn
-inside-whole image p h = omega arith
+  pub page-is : (image : List ℕ) (p : ℕ) → pageAt format image p ≡ cond (isInside format image p) (readStored format (storedPage format image p)) none
+  unfolding pageAt
+  page-is image p = refl
 
-pub whole-inside : (image : List ℕ) (p : ℕ) → 528 * p + 528 ≤ length image → Inside image p
-unfolding pagesIn
-whole-inside image p h = omega arith
+  pub put-is : (always : Bool) (p : ℕ) (bytes image : List ℕ)
+      → put format always p bytes image ≡ cond (isPut format always p bytes image) (placed image p bytes) image
+  unfolding put
+  put-is always p bytes image = refl
 
-pub inside : (image : List ℕ) (p : ℕ) → 528 * p + 528 ≤ length image → isInside image p ≡ true
-inside image p h = lt-ltb p (pagesIn (length image)) (whole-inside image p h)
+  -- ---- in the image
+  pub inside : (image : List ℕ) (p : ℕ) → Whole image p → isInside format image p ≡ true
+  inside image p h = lt-ltb p (pagesIn format (length image)) (whole-inside format (length image) p h)
 
-pub inside-true : (image : List ℕ) (p : ℕ) → isInside image p ≡ true → 528 * p + 528 ≤ length image
-inside-true image p e = inside-whole image p (ltb-true p (pagesIn (length image)) e)
+  pub inside-true : (image : List ℕ) (p : ℕ) → isInside format image p ≡ true → Whole image p
+  inside-true image p e = inside-whole format (length image) p (ltb-true p (pagesIn format (length image)) e)
 
-pub page-inside : (image : List ℕ) (p : ℕ) → 528 * p + 528 ≤ length image → pageAt image p ≡ readRaw (rawPage image p)
-page-inside image p h = page-is image p ∙ rw (inside image p h)
+  -- what the code knows of a page below the count, and of the part that it lends
+  pub counted-whole : (image : List ℕ) (p : ℕ) {count : ℕ} → count ≡ pagesIn format (length image) → p < count → Whole image p
+  counted-whole image p e h = inside-whole format (length image) p (rw e at h)
 
-pub page-outside : (image : List ℕ) (p : ℕ) → pagesIn (length image) ≤ p → pageAt image p ≡ none
-page-outside image p h = page-is image p ∙ rw (le-ltb p (pagesIn (length image)) h)
+  pub lent-whole : (image : List ℕ) (p : ℕ) {count from size : ℕ} → count ≡ pagesIn format (length image) → p < count
+      → from ≡ pageStart format p → size ≡ pageBytes format → from + size ≤ length image
+  lent-whole image p e h f g = rw (f, g) (counted-whole image p e h)
 
--- ---- the cases of `put`
-pub put-written : (p : ℕ) (bytes image : List ℕ) → 528 * p + 528 ≤ length image
-    → put true p bytes image ≡ putAt image (528 * p) (codedPage (rawPage image p) bytes)
-put-written p bytes image h = put-is true p bytes image ∙ rw (inside image p h)
+  pub page-inside : (image : List ℕ) (p : ℕ) → Whole image p → pageAt format image p ≡ readStored format (storedPage format image p)
+  page-inside image p h = page-is image p ∙ rw (inside image p h)
 
-pub put-outside : (always : Bool) (p : ℕ) (bytes image : List ℕ) → pagesIn (length image) ≤ p → put always p bytes image ≡ image
-put-outside always p bytes image h = put-is always p bytes image ∙ rw (le-ltb p (pagesIn (length image)) h)
+  pub page-outside : (image : List ℕ) (p : ℕ) → pagesIn format (length image) ≤ p → pageAt format image p ≡ none
+  page-outside image p h = page-is image p ∙ rw (le-ltb p (pagesIn format (length image)) h)
 
-pub put-held : (p : ℕ) (bytes image : List ℕ) → holds (pageAt image p) bytes ≡ true → put false p bytes image ≡ image
-put-held p bytes image e = put-is false p bytes image ∙ rw e (go (isInside image p))
-  where
-    go : (b : Bool) → cond (b && false) (putAt image (528 * p) (codedPage (rawPage image p) bytes)) image ≡ image
-    go true = refl
-    go false = refl
+  -- ---- the cases of `put`
+  pub put-written : (p : ℕ) (bytes image : List ℕ) → Whole image p → put format true p bytes image ≡ placed image p bytes
+  put-written p bytes image h = put-is true p bytes image ∙ rw (inside image p h)
 
-pub put-changed : (p : ℕ) (bytes image : List ℕ) → holds (pageAt image p) bytes ≡ false → put false p bytes image ≡ put true p bytes image
-put-changed p bytes image e = put-is false p bytes image ∙ rw e (sym (put-is true p bytes image))
+  pub put-outside : (always : Bool) (p : ℕ) (bytes image : List ℕ) → pagesIn format (length image) ≤ p → put format always p bytes image ≡ image
+  put-outside always p bytes image h = put-is always p bytes image ∙ rw (le-ltb p (pagesIn format (length image)) h)
 
--- the image as it is, or, in the image, the page in its place
-pub put-either : (C : List ℕ → Type 0) (always : Bool) (p : ℕ) (bytes image : List ℕ) → C image
-    → (528 * p + 528 ≤ length image → C (putAt image (528 * p) (codedPage (rawPage image p) bytes))) → C (put always p bytes image)
-put-either C always p bytes image kept done = rw (put-is always p bytes image) (go (isInside image p) refl (always || not (holds (pageAt image p) bytes)))
-  where
-    go : (b : Bool) → isInside image p ≡ b → (x : Bool) → C (cond (b && x) (putAt image (528 * p) (codedPage (rawPage image p) bytes)) image)
-    go true e true = done (inside-true image p e)
-    go true e false = kept
-    go false e x = kept
+  pub put-held : (p : ℕ) (bytes image : List ℕ) → holds (pageAt format image p) bytes ≡ true → put format false p bytes image ≡ image
+  put-held p bytes image e = put-is false p bytes image ∙ rw e (go (isInside format image p))
+    where
+      go : (b : Bool) → cond (b && false) (placed image p bytes) image ≡ image
+      go true = refl
+      go false = refl
+
+  pub put-changed : (p : ℕ) (bytes image : List ℕ) → holds (pageAt format image p) bytes ≡ false → put format false p bytes image ≡ put format true p bytes image
+  put-changed p bytes image e = put-is false p bytes image ∙ rw e (sym (put-is true p bytes image))
+
+  -- the image as it is, or, in the image, the page in its place
+  pub put-either : (C : List ℕ → Type 0) (always : Bool) (p : ℕ) (bytes image : List ℕ) → C image
+      → (Whole image p → C (placed image p bytes)) → C (put format always p bytes image)
+  put-either C always p bytes image kept done =
+      rw (put-is always p bytes image) (go (isInside format image p) refl (always || not (holds (pageAt format image p) bytes)))
+    where
+      go : (b : Bool) → isInside format image p ≡ b → (x : Bool) → C (cond (b && x) (placed image p bytes) image)
+      go true e true = done (inside-true image p e)
+      go true e false = kept
+      go false e x = kept

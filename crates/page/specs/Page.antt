@@ -1,5 +1,5 @@
--- Pages of a raw card image and their code (RULES, "Pages and their code"). Each rule speaks of one raw page;
--- only `pagesIn`, `pageAt` and `put` know where in the image it lies. No crate above opens them: it goes by PageLaws.
+-- Pages of a card image and their code (RULES, "Pages and their code"). Each rule speaks of one page; only `pagesIn`,
+-- `pageAt` and `put` know how an image of each format keeps it. No crate above opens them: it goes by PageLaws.
 use mathlib.Core.Path.{_≡_}
 use mathlib.Core.Bool.{Bool, true, false, cond, not, _&&_, _||_}
 use mathlib.Core.List.{List, [], _∷_, _++_}
@@ -12,6 +12,8 @@ use Rattle.ecc.specs.declared.Verdict.{Verdict}
 use Rattle.ecc.specs.declared.Verdict.the-variants.{Good, DataBit, CodeBit, Unreadable}
 use Rattle.ecc.specs.Code.{codeOf}
 use Rattle.ecc.specs.Judge.{judge, corrected}
+use Rattle.page.specs.declared.Format.{Format}
+use Rattle.page.specs.declared.Format.the-variants.{Plain, Raw}
 
 -- `count` elements of a list, from index `from` on
 abbrev pub part : List ℕ → ℕ → ℕ → List ℕ
@@ -21,24 +23,34 @@ part list from count = take count (drop from list)
 abbrev pub putAt : List ℕ → ℕ → List ℕ → List ℕ
 putAt list from bytes = take from list ++ (bytes ++ drop (from + length bytes) list)
 
--- A page is 512 data bytes and 16 spare bytes; two pages make a cluster.
-abbrev pub pageBytes : ℕ
-pageBytes = 528
+-- ---- where a page lies
 
-abbrev pub clusterBytes : ℕ
-clusterBytes = 1056
+-- A page is 512 data bytes, in a raw image with 16 spare bytes after them, in a plain one with none. Two pages make a cluster.
+abbrev pub pageBytes : Format → ℕ
+pageBytes Raw = 528
+pageBytes Plain = 512
+
+abbrev pub clusterBytes : Format → ℕ
+clusterBytes Raw = 1056
+clusterBytes Plain = 1024
 
 -- how many pages that many bytes hold whole
-unfoldable pub pagesIn : ℕ → ℕ
-pagesIn bytes = bytes / pageBytes
+unfoldable pub pagesIn : Format → ℕ → ℕ
+pagesIn format bytes = bytes / pageBytes format
 
--- the bytes of raw page p
-abbrev pub rawPage : List ℕ → ℕ → List ℕ
-rawPage image p = part image (pageBytes * p) pageBytes
+-- pages lie one after the other, from the image's first byte on
+unfoldable pub pageStart : Format → ℕ → ℕ
+pageStart format p = pageBytes format * p
+
+-- the bytes that the image keeps of page p
+abbrev pub storedPage : Format → List ℕ → ℕ → List ℕ
+storedPage format image p = part image (pageStart format p) (pageBytes format)
 
 -- the image holds page p whole
-abbrev pub isInside : List ℕ → ℕ → Bool
-isInside image p = ltb p (pagesIn (length image))
+abbrev pub isInside : Format → List ℕ → ℕ → Bool
+isInside format image p = ltb p (pagesIn format (length image))
+
+-- ---- a raw page that is read
 
 -- Chunk k of a raw page, or of a page's data: the data bytes 128k to 128k+127.
 abbrev pub chunkOf : List ℕ → ℕ → List ℕ
@@ -80,9 +92,16 @@ dataBy page v0 v1 v2 v3 =
 unfoldable pub readRaw : List ℕ → Option (List ℕ)
 readRaw page = dataBy page (verdictOf page 0) (verdictOf page 1) (verdictOf page 2) (verdictOf page 3)
 
+-- ---- a page that is read
+
+-- A plain page is its data: none is unreadable.
+abbrev pub readStored : Format → List ℕ → Option (List ℕ)
+readStored Raw page = readRaw page
+readStored Plain page = some page
+
 -- The data of page p as read; none where it is unreadable or the image does not hold it.
-unfoldable pub pageAt : List ℕ → ℕ → Option (List ℕ)
-pageAt image p = cond (isInside image p) (readRaw (rawPage image p)) none
+unfoldable pub pageAt : Format → List ℕ → ℕ → Option (List ℕ)
+pageAt format image p = cond (isInside format image p) (readStored format (storedPage format image p)) none
 
 abbrev pub isSome : Option (List ℕ) → Bool
 isSome none = false
@@ -97,7 +116,9 @@ pub record Read (found : Option (List ℕ)) (before : List ℕ) (answer : Bool) 
   pub readable : answer ≡ isSome found
   pub buffer : after ≡ orKept found before
 
--- Every written page gets a fresh code for each chunk; spare bytes 12 to 15 of the old raw page are kept.
+-- ---- a page that is written
+
+-- Every written raw page gets a fresh code for each chunk; spare bytes 12 to 15 of the old raw page are kept.
 abbrev pub codeBytes : Code → List ℕ
 codeBytes code = code .byte0 ∷ code .byte1 ∷ code .byte2 ∷ []
 
@@ -107,6 +128,16 @@ freshCode bytes k = codeBytes (codeOf (chunkOf bytes k))
 unfoldable pub codedPage : List ℕ → List ℕ → List ℕ
 codedPage old bytes =
     bytes ++ (freshCode bytes 0 ++ (freshCode bytes 1 ++ (freshCode bytes 2 ++ (freshCode bytes 3 ++ part old 524 4))))
+
+-- what an image keeps of a page that is written: its data alone in a plain one
+abbrev pub storedAs : Format → List ℕ → List ℕ → List ℕ
+storedAs Raw old bytes = codedPage old bytes
+storedAs Plain old bytes = bytes
+
+-- how many bytes of a page a write sets: all but spare bytes 12 to 15
+abbrev pub writtenBytes : Format → ℕ
+writtenBytes Raw = 524
+writtenBytes Plain = 512
 
 -- two lists are equal, as a test
 abbrev pub sameBytes : List ℕ → List ℕ → Bool
@@ -121,19 +152,19 @@ holds none bytes = false
 holds (some old) bytes = sameBytes old bytes
 
 -- a page of the image is to be written: always, or only where its data, as read, changes
-abbrev pub isPut : Bool → ℕ → List ℕ → List ℕ → Bool
-isPut always p bytes image = isInside image p && (always || not (holds (pageAt image p) bytes))
+abbrev pub isPut : Format → Bool → ℕ → List ℕ → List ℕ → Bool
+isPut format always p bytes image = isInside format image p && (always || not (holds (pageAt format image p) bytes))
 
--- The image with `bytes` as the data of page p, freshly coded, and nothing else changed; where page p
+-- The image with `bytes` as the data of page p, in a raw one freshly coded, and nothing else changed; where page p
 -- is not to be written, the image as it is.
-unfoldable pub put : Bool → ℕ → List ℕ → List ℕ → List ℕ
-put always p bytes image =
-    cond (isPut always p bytes image) (putAt image (pageBytes * p) (codedPage (rawPage image p) bytes)) image
+unfoldable pub put : Format → Bool → ℕ → List ℕ → List ℕ → List ℕ
+put format always p bytes image =
+    cond (isPut format always p bytes image) (putAt image (pageStart format p) (storedAs format (storedPage format image p) bytes)) image
 
 -- A page of a newly taken cluster and a new entry's page are written in any case.
-abbrev pub written : List ℕ → ℕ → List ℕ → List ℕ
-written image p bytes = put true p bytes image
+abbrev pub written : Format → List ℕ → ℕ → List ℕ → List ℕ
+written format image p bytes = put format true p bytes image
 
 -- Any other page only where its data, as read, changes: a flipped bit in data that stays is left as it is.
-abbrev pub rewritten : List ℕ → ℕ → List ℕ → List ℕ
-rewritten image p bytes = put false p bytes image
+abbrev pub rewritten : Format → List ℕ → ℕ → List ℕ → List ℕ
+rewritten format image p bytes = put format false p bytes image

@@ -1,160 +1,108 @@
-// Reading and writing the pages of a raw card image, 512 data bytes and 16 spare bytes each.
-use ecc::Code;
-use ecc::Verdict;
-ghost use mathlib.Core.Path.{_≡_};
-ghost use Prim.Native.Nat.{_+_, _*_, _^_, _<_};
-ghost use lib.ListN.{length};
-ghost use Rattle.ecc.specs.Judge.{corrected, flipAt};
-ghost use Rattle.page.specs.Page.{pagesIn, putAt, chunkOf, verdictOf, isReadable, Placed, correctedData, readRaw, Read, pageAt, freshCode, codedPage, sameBytes, holds, written, rewritten};
-ghost use Rattle.page.specs.PageLaws.{PageLaws};
+// Reading and writing the pages of a card image: 512 data bytes each, in a raw image with 16 spare bytes after them.
+mod raw;
 
-// Two pages of 528 bytes each.
-pub const CLUSTER_BYTES: usize = 1056;
+use raw::read_raw;
+use raw::write_raw;
+ghost use mathlib.Core.Path.{_≡_};
+ghost use Prim.Native.Nat.{_^_, _<_};
+ghost use lib.ListN.{length};
+ghost use Rattle.page.specs.Page.{pageBytes, clusterBytes, pagesIn, pageStart, readStored, Read, pageAt, storedAs, sameBytes, holds, written, rewritten};
+ghost use Rattle.page.specs.PageLaws.{LawsOfPages};
+ghost use Rattle.page.specs.Twins.{TwinLaws};
+
+// How an image keeps its pages: raw with their spare bytes, as a card does, or plain without them, as emulators do.
+pub enum Format {
+    Raw,
+    Plain,
+}
+
+fn page_bytes(format: Format) -> usize
+    ensures { λ r. ⌜ r ≡ pageBytes format ⌝ }
+{
+    match format {
+        Format::Raw => 528,
+        Format::Plain => 512,
+    }
+}
+
+// The bytes of two pages.
+pub fn cluster_bytes(format: Format) -> usize
+    ensures { λ r. ⌜ (r ≡ clusterBytes format) × (0 < r) × (r < 2 ^ 32) ⌝ }
+{
+    match format {
+        Format::Raw => 1056,
+        Format::Plain => 1024,
+    }
+}
 
 // How many pages an image holds whole. They are few enough to be added to without a carry.
-pub fn page_count(image: &[u8]) -> usize
-    ensures { λ r. ⌜ (r ≡ pagesIn (length (now (image .entry)))) × (r < 2 ^ 63) ⌝ }
+pub fn page_count(format: Format, image: &[u8]) -> usize
+    ensures { λ r. ⌜ (r ≡ pagesIn format (length (now (image .entry)))) × (r < 2 ^ 63) ⌝ }
 {
-    image.len() / 528
-}
-
-// The verdict on chunk k of a raw page: the chunk is lent as a part of the page, beside its code bytes.
-fn judge_part(page: &[u8], k: usize) -> Verdict
-    requires { ⌜ (length (now page) ≡ 528) × (k < 4) ⌝ }
-    ensures { λ r. ⌜ r ≡ verdictOf (now (page .entry)) k ⌝ }
-{
-    let from = 128 * k;
-    let to = from + 128;
-    let at = 512 + 3 * k;
-    let stored = Code {
-        byte0: page[at],
-        byte1: page[at + 1],
-        byte2: page[at + 2],
-    };
-    ecc::judge_chunk(&page[from..to], stored)
-}
-
-fn is_readable(verdict: Verdict) -> bool
-    ensures { λ r. ⌜ r ≡ isReadable verdict ⌝ }
-{
-    match verdict {
-        Verdict::Good => true,
-        Verdict::DataBit { byte: _, bit: _ } => true,
-        Verdict::CodeBit => true,
-        Verdict::Unreadable => false,
+    match format {
+        Format::Raw => image.len() / 528,
+        Format::Plain => image.len() / 512,
     }
 }
 
-// Bit `bit` of byte `byte` is flipped.
-fn flip_bit(chunk: &mut [u8], byte: usize, bit: u8)
-    requires { ⌜ (byte < length (now chunk)) × (bit < 8) ⌝ }
-    ensures { λ _. ⌜ now (chunk .exit) ≡ flipAt (now (chunk .entry)) byte bit ⌝ }
+// The place of a page's first byte in an image that holds the page.
+fn page_start(format: Format, page: usize) -> usize
+    requires { ⌜ pageStart format page < 2 ^ 64 ⌝ }
+    ensures { λ r. ⌜ r ≡ pageStart format page ⌝ }
 {
-    chunk[byte] = chunk[byte] ^ (1 << bit);
-}
-
-// The bit that the verdict names is flipped.
-fn correct(chunk: &mut [u8], verdict: Verdict)
-    requires { ⌜ (length (now chunk) ≡ 128) × Placed verdict ⌝ }
-    ensures { λ _. ⌜ now (chunk .exit) ≡ corrected verdict (now (chunk .entry)) ⌝ }
-{
-    if let Verdict::DataBit { byte, bit } = verdict {
-        flip_bit(chunk, byte, bit);
+    match format {
+        Format::Raw => 528 * page,
+        Format::Plain => 512 * page,
     }
 }
 
-// The chunk as its verdict corrects it is written to `out`.
-fn copy_chunk(chunk: &[u8], verdict: Verdict, out: &mut [u8])
-    requires { ⌜ (length (now chunk) ≡ 128) × (length (now out) ≡ 128) × Placed verdict ⌝ }
-    ensures { λ _. ⌜ now (out .exit) ≡ corrected verdict (now (chunk .entry)) ⌝ }
+// The data of a page by its bytes in the image is written to `out`; else `out` stays.
+fn read_stored(format: Format, page: &[u8], out: &mut [u8]) -> bool
+    requires { ⌜ (length (now page) ≡ pageBytes format) × (length (now out) ≡ 512) ⌝ }
+    ensures { λ r. ⌜ Read (readStored format (now (page .entry))) (now (out .entry)) r (now (out .exit)) ⌝ }
 {
-    bytes::copy(chunk, out);
-    correct(out, verdict);
-}
-
-// Chunk k of a raw page, as its verdict corrects it, is written to its place in `out`.
-fn copy_part(page: &[u8], k: usize, verdict: Verdict, out: &mut [u8])
-    requires { ⌜ (length (now page) ≡ 528) × (k < 4) × (length (now out) ≡ 512) × Placed verdict ⌝ }
-    ensures { λ _. ⌜ now (out .exit) ≡ putAt (now (out .entry)) (128 * k) (corrected verdict (chunkOf (now (page .entry)) k)) ⌝ }
-{
-    let from = 128 * k;
-    let to = from + 128;
-    copy_chunk(&page[from..to], verdict, &mut out[from..to]);
-}
-
-// The four chunks, each as its verdict corrects it, are written to `out`.
-fn copy_data(page: &[u8], v0: Verdict, v1: Verdict, v2: Verdict, v3: Verdict, out: &mut [u8])
-    requires { ⌜ (length (now page) ≡ 528) × (length (now out) ≡ 512) × Placed v0 × Placed v1 × Placed v2 × Placed v3 ⌝ }
-    ensures { λ _. ⌜ now (out .exit) ≡ correctedData (now (page .entry)) v0 v1 v2 v3 ⌝ }
-{
-    copy_part(page, 0, v0, out);
-    copy_part(page, 1, v1, out);
-    copy_part(page, 2, v2, out);
-    copy_part(page, 3, v3, out);
-}
-
-// The data of a raw page is written to `out` once all four chunks are judged readable; else `out` stays.
-fn read_raw(page: &[u8], out: &mut [u8]) -> bool
-    requires { ⌜ (length (now page) ≡ 528) × (length (now out) ≡ 512) ⌝ }
-    ensures { λ r. ⌜ Read (readRaw (now (page .entry))) (now (out .entry)) r (now (out .exit)) ⌝ }
-{
-    let v0 = judge_part(page, 0);
-    let v1 = judge_part(page, 1);
-    let v2 = judge_part(page, 2);
-    let v3 = judge_part(page, 3);
-    if is_readable(v0) & (is_readable(v1) & (is_readable(v2) & is_readable(v3))) {
-        copy_data(page, v0, v1, v2, v3, out);
-        return true;
+    match format {
+        Format::Raw => read_raw(page, out),
+        Format::Plain => {
+            bytes::copy(page, out);
+            true
+        }
     }
-    false
 }
 
 // Reads page `page` into `out`. False, and `out` as it was, where the page is unreadable or not in the image.
-pub fn read_page(image: &[u8], page: usize, out: &mut [u8; 512]) -> bool
-    ensures { λ r. ⌜ Read (pageAt (now (image .entry)) page) (now (out .entry)) r (now (out .exit)) ⌝ }
+pub fn read_page(format: Format, image: &[u8], page: usize, out: &mut [u8; 512]) -> bool
+    ensures { λ r. ⌜ Read (pageAt format (now (image .entry)) page) (now (out .entry)) r (now (out .exit)) ⌝ }
 {
-    if page < image.len() / 528 {
-        let from = 528 * page;
-        let to = from + 528;
-        return read_raw(&image[from..to], out);
+    if page < page_count(format, image) {
+        let from = page_start(format, page);
+        let to = from + page_bytes(format);
+        return read_stored(format, &image[from..to], out);
     }
     false
 }
 
-// The fresh code of chunk k of the data is stored in a raw page.
-fn put_code(page: &mut [u8], k: usize, bytes: &[u8])
-    requires { ⌜ (length (now page) ≡ 528) × (k < 4) × (length (now bytes) ≡ 512) ⌝ }
-    ensures { λ _. ⌜ now (page .exit) ≡ putAt (now (page .entry)) (512 + 3 * k) (freshCode (now (bytes .entry)) k) ⌝ }
+// The data is stored in a page's bytes in the image, in a raw one with fresh codes.
+fn write_stored(format: Format, page: &mut [u8], bytes: &[u8])
+    requires { ⌜ (length (now page) ≡ pageBytes format) × (length (now bytes) ≡ 512) ⌝ }
+    ensures { λ _. ⌜ now (page .exit) ≡ storedAs format (now (page .entry)) (now (bytes .entry)) ⌝ }
 {
-    let from = 128 * k;
-    let to = from + 128;
-    let code = ecc::chunk_code(&bytes[from..to]);
-    let at = 512 + 3 * k;
-    page[at] = code.byte0;
-    page[at + 1] = code.byte1;
-    page[at + 2] = code.byte2;
+    match format {
+        Format::Raw => write_raw(page, bytes),
+        Format::Plain => {
+            bytes::copy(bytes, page);
+        }
+    }
 }
 
-// The data and its fresh codes are stored in a raw page. Spare bytes 12 to 15 stay.
-fn write_raw(page: &mut [u8], bytes: &[u8])
-    requires { ⌜ (length (now page) ≡ 528) × (length (now bytes) ≡ 512) ⌝ }
-    ensures { λ _. ⌜ now (page .exit) ≡ codedPage (now (page .entry)) (now (bytes .entry)) ⌝ }
+// Writes the data to page `page`, in a raw image freshly coded. Nothing is written where the image does not hold the page.
+pub fn write_page(format: Format, image: &mut [u8], page: usize, bytes: &[u8; 512])
+    ensures { λ _. ⌜ now (image .exit) ≡ written format (now (image .entry)) page (now (bytes .entry)) ⌝ }
 {
-    bytes::copy(bytes, page);
-    put_code(page, 0, bytes);
-    put_code(page, 1, bytes);
-    put_code(page, 2, bytes);
-    put_code(page, 3, bytes);
-}
-
-// Writes the data to page `page`, freshly coded. Nothing is written where the image does not hold the page.
-pub fn write_page(image: &mut [u8], page: usize, bytes: &[u8; 512])
-    ensures { λ _. ⌜ now (image .exit) ≡ written (now (image .entry)) page (now (bytes .entry)) ⌝ }
-{
-    if page < image.len() / 528 {
-        let from = 528 * page;
-        let to = from + 528;
-        write_raw(&mut image[from..to], bytes);
+    if page < page_count(format, image) {
+        let from = page_start(format, page);
+        let to = from + page_bytes(format);
+        write_stored(format, &mut image[from..to], bytes);
     }
 }
 
@@ -165,26 +113,31 @@ fn same_data(a: &[u8; 512], b: &[u8; 512]) -> bool
 }
 
 // Whether the page's data, as read, is `bytes`.
-fn holds_data(image: &[u8], page: usize, bytes: &[u8; 512]) -> bool
-    ensures { λ r. ⌜ r ≡ holds (pageAt (now (image .entry)) page) (now (bytes .entry)) ⌝ }
+fn holds_data(format: Format, image: &[u8], page: usize, bytes: &[u8; 512]) -> bool
+    ensures { λ r. ⌜ r ≡ holds (pageAt format (now (image .entry)) page) (now (bytes .entry)) ⌝ }
 {
     let mut old = [0u8; 512];
-    if read_page(image, page, &mut old) {
+    if read_page(format, image, page, &mut old) {
         return same_data(&old, bytes);
     }
     false
 }
 
-// Writes the data to page `page` where that changes its data as read; else the raw page stays as it is.
-pub fn rewrite_page(image: &mut [u8], page: usize, bytes: &[u8; 512])
-    ensures { λ _. ⌜ now (image .exit) ≡ rewritten (now (image .entry)) page (now (bytes .entry)) ⌝ }
+// Writes the data to page `page` where that changes its data as read; else the page stays as it is.
+pub fn rewrite_page(format: Format, image: &mut [u8], page: usize, bytes: &[u8; 512])
+    ensures { λ _. ⌜ now (image .exit) ≡ rewritten format (now (image .entry)) page (now (bytes .entry)) ⌝ }
 {
-    if !holds_data(image, page, bytes) {
-        write_page(image, page, bytes);
+    if !holds_data(format, image, page, bytes) {
+        write_page(format, image, page, bytes);
     }
 }
 
-// The laws of pages, proved of the definitions; the layers above go by them.
+// The laws of pages, proved of the definitions for both formats; the layers above go by them.
 pub fn page_laws()
-    ensures { λ _. ⌜ PageLaws ⌝ }
+    ensures { λ _. ⌜ LawsOfPages ⌝ }
+{}
+
+// The laws of images that hold the same data, and of codes that match.
+pub fn twin_laws()
+    ensures { λ _. ⌜ TwinLaws ⌝ }
 {}

@@ -1,2 +1,3 @@
 -- What the answers of the calls tell.
 pub mod AnswerLaws
+pub mod FormatLaws

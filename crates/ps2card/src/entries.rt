@@ -1,14 +1,16 @@
 // The entry at a path and the next one of a directory, as C and Rust call them.
+use crate::formats::Named;
+use crate::formats::format_of;
 use crate::tell_refusal;
 use fields::entries::Entry;
+use layout::Refusal;
 use lookup::finding::Outcome;
 use lookup::finding::find;
 use lookup::stepping::Stepped;
 use lookup::stepping::step;
 ghost use mathlib.Core.Path.{_≡_};
-ghost use Rattle.lookup.specs.Find.{findOf};
-ghost use Rattle.lookup.specs.Step.{stepOf};
 ghost use Rattle.ps2card.specs.Answer.{entryAfter, foundIn, numberIn, pageAfter, valueAfter};
+ghost use Rattle.ps2card.specs.Formats.{findBy, stepBy};
 
 // Hands out every field of an entry.
 fn hand_out(
@@ -47,6 +49,7 @@ fn hand_out(
 // The entry at a path; a refusal leaves every field as it was.
 #[no_mangle]
 pub extern "C" fn ps2card_find(
+    format: u32,
     image: &[u8],
     path: &[u8],
     page: &mut usize,
@@ -59,35 +62,41 @@ pub extern "C" fn ps2card_find(
     attribute: &mut u32,
     name: &mut [u8; 32],
 ) -> u32
-    ensures { λ r. ⌜ r ≡ numberIn (findOf (now (image .entry)) (now (path .entry))) ⌝ }
-    ensures { λ r. ⌜ now (page .exit) ≡ pageAfter (findOf (now (image .entry)) (now (path .entry))) (now (page .entry)) ⌝ }
-    ensures { λ r. ⌜ now (mode .exit) ≡ valueAfter (λ e. e .mode) (findOf (now (image .entry)) (now (path .entry))) (now (mode .entry)) ⌝ }
-    ensures { λ r. ⌜ now (length .exit) ≡ valueAfter (λ e. e .length) (findOf (now (image .entry)) (now (path .entry))) (now (length .entry)) ⌝ }
-    ensures { λ r. ⌜ now (created .exit) ≡ valueAfter (λ e. e .created) (findOf (now (image .entry)) (now (path .entry))) (now (created .entry)) ⌝ }
-    ensures { λ r. ⌜ now (first .exit) ≡ valueAfter (λ e. e .firstCluster) (findOf (now (image .entry)) (now (path .entry))) (now (first .entry)) ⌝ }
-    ensures { λ r. ⌜ now («dir_entry» .exit) ≡ valueAfter (λ e. e .dirEntry) (findOf (now (image .entry)) (now (path .entry))) (now («dir_entry» .entry)) ⌝ }
-    ensures { λ r. ⌜ now (modified .exit) ≡ valueAfter (λ e. e .modified) (findOf (now (image .entry)) (now (path .entry))) (now (modified .entry)) ⌝ }
-    ensures { λ r. ⌜ now (attribute .exit) ≡ valueAfter (λ e. e .attribute) (findOf (now (image .entry)) (now (path .entry))) (now (attribute .entry)) ⌝ }
-    ensures { λ r. ⌜ now (name .exit) ≡ valueAfter (λ e. e .nameField) (findOf (now (image .entry)) (now (path .entry))) (now (name .entry)) ⌝ }
+    ensures { λ r. ⌜ r ≡ numberIn (findBy format (now (image .entry)) (now (path .entry))) ⌝ }
+    ensures { λ r. ⌜ now (page .exit) ≡ pageAfter (findBy format (now (image .entry)) (now (path .entry))) (now (page .entry)) ⌝ }
+    ensures { λ r. ⌜ now (mode .exit) ≡ valueAfter (λ e. e .mode) (findBy format (now (image .entry)) (now (path .entry))) (now (mode .entry)) ⌝ }
+    ensures { λ r. ⌜ now (length .exit) ≡ valueAfter (λ e. e .length) (findBy format (now (image .entry)) (now (path .entry))) (now (length .entry)) ⌝ }
+    ensures { λ r. ⌜ now (created .exit) ≡ valueAfter (λ e. e .created) (findBy format (now (image .entry)) (now (path .entry))) (now (created .entry)) ⌝ }
+    ensures { λ r. ⌜ now (first .exit) ≡ valueAfter (λ e. e .firstCluster) (findBy format (now (image .entry)) (now (path .entry))) (now (first .entry)) ⌝ }
+    ensures { λ r. ⌜ now («dir_entry» .exit) ≡ valueAfter (λ e. e .dirEntry) (findBy format (now (image .entry)) (now (path .entry))) (now («dir_entry» .entry)) ⌝ }
+    ensures { λ r. ⌜ now (modified .exit) ≡ valueAfter (λ e. e .modified) (findBy format (now (image .entry)) (now (path .entry))) (now (modified .entry)) ⌝ }
+    ensures { λ r. ⌜ now (attribute .exit) ≡ valueAfter (λ e. e .attribute) (findBy format (now (image .entry)) (now (path .entry))) (now (attribute .entry)) ⌝ }
+    ensures { λ r. ⌜ now (name .exit) ≡ valueAfter (λ e. e .nameField) (findBy format (now (image .entry)) (now (path .entry))) (now (name .entry)) ⌝ }
 {
-    let found = find(image, path);
-    let outcome = found.outcome;
-    match outcome {
-        Outcome::Refused(refusal) => tell_refusal(refusal, page),
-        Outcome::Found => {
-            let entry = found.entry;
-            hand_out(
-                entry,
-                mode,
-                length,
-                created,
-                first,
-                dir_entry,
-                modified,
-                attribute,
-                name,
-            );
-            0
+    let named = format_of(format);
+    match named {
+        Named::Unknown => tell_refusal(Refusal::BadLength, page),
+        Named::Known(known) => {
+            let found = find(known, image, path);
+            let outcome = found.outcome;
+            match outcome {
+                Outcome::Refused(refusal) => tell_refusal(refusal, page),
+                Outcome::Found => {
+                    let entry = found.entry;
+                    hand_out(
+                        entry,
+                        mode,
+                        length,
+                        created,
+                        first,
+                        dir_entry,
+                        modified,
+                        attribute,
+                        name,
+                    );
+                    0
+                }
+            }
         }
     }
 }
@@ -96,6 +105,7 @@ pub extern "C" fn ps2card_find(
 // slot and fields stay as they were, as all do on a refusal.
 #[no_mangle]
 pub extern "C" fn ps2card_step(
+    format: u32,
     image: &[u8],
     path: &[u8],
     slot: u32,
@@ -111,43 +121,49 @@ pub extern "C" fn ps2card_step(
     attribute: &mut u32,
     name: &mut [u8; 32],
 ) -> u32
-    ensures { λ r. ⌜ r ≡ numberIn (stepOf (now (image .entry)) (now (path .entry)) slot) ⌝ }
-    ensures { λ r. ⌜ now (page .exit) ≡ pageAfter (stepOf (now (image .entry)) (now (path .entry)) slot) (now (page .entry)) ⌝ }
-    ensures { λ r. ⌜ now (found .exit) ≡ valueAfter foundIn (stepOf (now (image .entry)) (now (path .entry)) slot) (now (found .entry)) ⌝ }
-    ensures { λ r. ⌜ now (at .exit) ≡ entryAfter (λ x. x .0) (stepOf (now (image .entry)) (now (path .entry)) slot) (now (at .entry)) ⌝ }
-    ensures { λ r. ⌜ now (mode .exit) ≡ entryAfter (λ x. x .1 .mode) (stepOf (now (image .entry)) (now (path .entry)) slot) (now (mode .entry)) ⌝ }
-    ensures { λ r. ⌜ now (length .exit) ≡ entryAfter (λ x. x .1 .length) (stepOf (now (image .entry)) (now (path .entry)) slot) (now (length .entry)) ⌝ }
-    ensures { λ r. ⌜ now (created .exit) ≡ entryAfter (λ x. x .1 .created) (stepOf (now (image .entry)) (now (path .entry)) slot) (now (created .entry)) ⌝ }
-    ensures { λ r. ⌜ now (first .exit) ≡ entryAfter (λ x. x .1 .firstCluster) (stepOf (now (image .entry)) (now (path .entry)) slot) (now (first .entry)) ⌝ }
-    ensures { λ r. ⌜ now («dir_entry» .exit) ≡ entryAfter (λ x. x .1 .dirEntry) (stepOf (now (image .entry)) (now (path .entry)) slot) (now («dir_entry» .entry)) ⌝ }
-    ensures { λ r. ⌜ now (modified .exit) ≡ entryAfter (λ x. x .1 .modified) (stepOf (now (image .entry)) (now (path .entry)) slot) (now (modified .entry)) ⌝ }
-    ensures { λ r. ⌜ now (attribute .exit) ≡ entryAfter (λ x. x .1 .attribute) (stepOf (now (image .entry)) (now (path .entry)) slot) (now (attribute .entry)) ⌝ }
-    ensures { λ r. ⌜ now (name .exit) ≡ entryAfter (λ x. x .1 .nameField) (stepOf (now (image .entry)) (now (path .entry)) slot) (now (name .entry)) ⌝ }
+    ensures { λ r. ⌜ r ≡ numberIn (stepBy format (now (image .entry)) (now (path .entry)) slot) ⌝ }
+    ensures { λ r. ⌜ now (page .exit) ≡ pageAfter (stepBy format (now (image .entry)) (now (path .entry)) slot) (now (page .entry)) ⌝ }
+    ensures { λ r. ⌜ now (found .exit) ≡ valueAfter foundIn (stepBy format (now (image .entry)) (now (path .entry)) slot) (now (found .entry)) ⌝ }
+    ensures { λ r. ⌜ now (at .exit) ≡ entryAfter (λ x. x .0) (stepBy format (now (image .entry)) (now (path .entry)) slot) (now (at .entry)) ⌝ }
+    ensures { λ r. ⌜ now (mode .exit) ≡ entryAfter (λ x. x .1 .mode) (stepBy format (now (image .entry)) (now (path .entry)) slot) (now (mode .entry)) ⌝ }
+    ensures { λ r. ⌜ now (length .exit) ≡ entryAfter (λ x. x .1 .length) (stepBy format (now (image .entry)) (now (path .entry)) slot) (now (length .entry)) ⌝ }
+    ensures { λ r. ⌜ now (created .exit) ≡ entryAfter (λ x. x .1 .created) (stepBy format (now (image .entry)) (now (path .entry)) slot) (now (created .entry)) ⌝ }
+    ensures { λ r. ⌜ now (first .exit) ≡ entryAfter (λ x. x .1 .firstCluster) (stepBy format (now (image .entry)) (now (path .entry)) slot) (now (first .entry)) ⌝ }
+    ensures { λ r. ⌜ now («dir_entry» .exit) ≡ entryAfter (λ x. x .1 .dirEntry) (stepBy format (now (image .entry)) (now (path .entry)) slot) (now («dir_entry» .entry)) ⌝ }
+    ensures { λ r. ⌜ now (modified .exit) ≡ entryAfter (λ x. x .1 .modified) (stepBy format (now (image .entry)) (now (path .entry)) slot) (now (modified .entry)) ⌝ }
+    ensures { λ r. ⌜ now (attribute .exit) ≡ entryAfter (λ x. x .1 .attribute) (stepBy format (now (image .entry)) (now (path .entry)) slot) (now (attribute .entry)) ⌝ }
+    ensures { λ r. ⌜ now (name .exit) ≡ entryAfter (λ x. x .1 .nameField) (stepBy format (now (image .entry)) (now (path .entry)) slot) (now (name .entry)) ⌝ }
 {
-    let stepped = step(image, path, slot);
-    let place = stepped.place;
-    match place {
-        Stepped::Refused(refusal) => tell_refusal(refusal, page),
-        Stepped::End => {
-            *found = 0;
-            0
-        }
-        Stepped::Slot(k) => {
-            *found = 1;
-            *at = k;
-            let entry = stepped.entry;
-            hand_out(
-                entry,
-                mode,
-                length,
-                created,
-                first,
-                dir_entry,
-                modified,
-                attribute,
-                name,
-            );
-            0
+    let named = format_of(format);
+    match named {
+        Named::Unknown => tell_refusal(Refusal::BadLength, page),
+        Named::Known(known) => {
+            let stepped = step(known, image, path, slot);
+            let place = stepped.place;
+            match place {
+                Stepped::Refused(refusal) => tell_refusal(refusal, page),
+                Stepped::End => {
+                    *found = 0;
+                    0
+                }
+                Stepped::Slot(k) => {
+                    *found = 1;
+                    *at = k;
+                    let entry = stepped.entry;
+                    hand_out(
+                        entry,
+                        mode,
+                        length,
+                        created,
+                        first,
+                        dir_entry,
+                        modified,
+                        attribute,
+                        name,
+                    );
+                    0
+                }
+            }
         }
     }
 }

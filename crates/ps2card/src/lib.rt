@@ -1,16 +1,20 @@
 // What C and Rust call: byte slices, byte arrays and numbers alone. A call answers 0, or the number of the refusal.
 pub mod changing;
+pub mod converting;
 pub mod entries;
+mod formats;
 pub mod reading;
 pub mod texts;
 
+use formats::Named;
+use formats::format_of;
 use layout::Refusal;
 use tree::Checked;
 use tree::check;
 ghost use mathlib.Core.Path.{_≡_};
 ghost use Rattle.layout.specs.Refusal.{numberOf, pageOf};
-ghost use Rattle.tree.specs.Counted.{checkOf};
 ghost use Rattle.ps2card.specs.Answer.{numberIn, pageAfter, pageLeft, valueAfter};
+ghost use Rattle.ps2card.specs.Formats.{checkBy};
 
 // The paper's number of a refusal; the page of an unreadable one goes to `page`.
 pub(crate) fn tell_refusal(refusal: Refusal, page: &mut usize) -> u32
@@ -26,6 +30,7 @@ pub(crate) fn tell_refusal(refusal: Refusal, page: &mut usize) -> u32
 // The check of a card: N, free, reached and orphaned; a refusal leaves them as they were.
 #[no_mangle]
 pub extern "C" fn ps2card_check(
+    format: u32,
     image: &[u8],
     page: &mut usize,
     clusters: &mut u32,
@@ -33,21 +38,25 @@ pub extern "C" fn ps2card_check(
     reached: &mut usize,
     orphaned: &mut usize,
 ) -> u32
-    ensures { λ r. ⌜ r ≡ numberIn (checkOf (now (image .entry))) ⌝ }
-    ensures { λ r. ⌜ now (page .exit) ≡ pageAfter (checkOf (now (image .entry))) (now (page .entry)) ⌝ }
-    ensures { λ r. ⌜ now (clusters .exit) ≡ valueAfter (λ c. c .clusters) (checkOf (now (image .entry))) (now (clusters .entry)) ⌝ }
-    ensures { λ r. ⌜ now (free .exit) ≡ valueAfter (λ c. c .free) (checkOf (now (image .entry))) (now (free .entry)) ⌝ }
-    ensures { λ r. ⌜ now (reached .exit) ≡ valueAfter (λ c. c .reached) (checkOf (now (image .entry))) (now (reached .entry)) ⌝ }
-    ensures { λ r. ⌜ now (orphaned .exit) ≡ valueAfter (λ c. c .orphaned) (checkOf (now (image .entry))) (now (orphaned .entry)) ⌝ }
+    ensures { λ r. ⌜ r ≡ numberIn (checkBy format (now (image .entry))) ⌝ }
+    ensures { λ r. ⌜ now (page .exit) ≡ pageAfter (checkBy format (now (image .entry))) (now (page .entry)) ⌝ }
+    ensures { λ r. ⌜ now (clusters .exit) ≡ valueAfter (λ c. c .clusters) (checkBy format (now (image .entry))) (now (clusters .entry)) ⌝ }
+    ensures { λ r. ⌜ now (free .exit) ≡ valueAfter (λ c. c .free) (checkBy format (now (image .entry))) (now (free .entry)) ⌝ }
+    ensures { λ r. ⌜ now (reached .exit) ≡ valueAfter (λ c. c .reached) (checkBy format (now (image .entry))) (now (reached .entry)) ⌝ }
+    ensures { λ r. ⌜ now (orphaned .exit) ≡ valueAfter (λ c. c .orphaned) (checkBy format (now (image .entry))) (now (orphaned .entry)) ⌝ }
 {
-    match check(image) {
-        Checked::Refused(refusal) => tell_refusal(refusal, page),
-        Checked::Card(counts) => {
-            *clusters = counts.clusters;
-            *free = counts.free;
-            *reached = counts.reached;
-            *orphaned = counts.orphaned;
-            0
-        }
+    let named = format_of(format);
+    match named {
+        Named::Unknown => tell_refusal(Refusal::BadLength, page),
+        Named::Known(known) => match check(known, image) {
+            Checked::Refused(refusal) => tell_refusal(refusal, page),
+            Checked::Card(counts) => {
+                *clusters = counts.clusters;
+                *free = counts.free;
+                *reached = counts.reached;
+                *orphaned = counts.orphaned;
+                0
+            }
+        },
     }
 }

@@ -1,4 +1,5 @@
 -- The counts that the code tells are the check's, by the table that was loaded.
+use Rattle.page.specs.declared.Format.{Format}
 use Rattle.layout.specs.declared.Geometry.{Geometry}
 use Prim.Native.Nat.{_≤_, ℕ}
 use mathlib.Core.List.{List}
@@ -67,24 +68,24 @@ module _ (clusters : ℕ) (geometry : Geometry) (t image : List ℕ) (q : Reache
 
 -- ---- the card that was opened
 
-module _ (image : List ℕ) where
-  pub check-bad : (n p : ℕ) → fault n p ≡ openCard image → fault n p ≡ checkOf image
+module _ (format : Format) (image : List ℕ) where
+  pub check-bad : (n p : ℕ) → fault n p ≡ openCard format image → fault n p ≡ checkOf format image
   unfolding checkOf checkImage andThen
   check-bad n p e = rw (← e)
 
-  module _ (s : Superblock) (e : ok s ≡ openCard image) where
+  module _ (s : Superblock) (e : ok s ≡ openCard format image) where
     -- the loaded words are the table
-    pub table-loaded : (before after : List ℕ) → after ≡ tableAfter image (openCard image) before → take (s .end) after ≡ tableOf image s
+    pub table-loaded : (before after : List ℕ) → after ≡ tableAfter image (openCard format image) before → take (s .end) after ≡ tableOf image s
     table-loaded before after f = rw (f ∙ ap (λ r. tableAfter image r before) (sym e)) (take-at (tableOf image s) (drop (s .end) before) (s .end) (length-table image s))
 
-    pub table-room : (before after : List ℕ) → after ≡ tableAfter image (openCard image) before → s .end ≤ length after
+    pub table-room : (before after : List ℕ) → after ≡ tableAfter image (openCard format image) before → s .end ≤ length after
     table-room before after f =
         rw (f ∙ ap (λ r. tableAfter image r before) (sym e)) (omega (arith, length-append (tableOf image s) (drop (s .end) before), length-table image s))
 
     pub end-fits : s .end ≤ 8192
-    end-fits = let g = open-facts image s (sym e) in omega (arith, g .room, g .most)
+    end-fits = let g = open-facts format image s (sym e) in omega (arith, g .room, g .most)
 
-    pub check-card : (t : List ℕ) → t ≡ tableOf image s → countsBy (s .clusters) (s .geometry) t image ≡ checkOf image
+    pub check-card : (t : List ℕ) → t ≡ tableOf image s → countsBy (s .clusters) (s .geometry) t image ≡ checkOf format image
     unfolding checkOf checkImage countsBy andThen
     check-card t f =
         ap (λ (w : List ℕ). countsBy (s .clusters) (s .geometry) w image) f
@@ -96,11 +97,11 @@ module _ (image : List ℕ) where
         go (ok x) = rw (length-table image s)
 
     module _ (t : List ℕ) (f : t ≡ tableOf image s) where
-      opened-is : superblockIn (checkImage image) ≡ superblockIn (andThen (onImage (s .geometry) (checkTree (viewBy (s .geometry) t image))) (λ x. ok (s, x .0, x .1)))
+      opened-is : superblockIn (checkImage format image) ≡ superblockIn (andThen (onImage (s .geometry) (checkTree (viewBy (s .geometry) t image))) (λ x. ok (s, x .0, x .1)))
       unfolding checkImage andThen
       opened-is = rw (← e, f)
 
-      pub opened-bad : (r : Refusal) → Passes (onImage (s .geometry) (checkTree (viewBy (s .geometry) t image))) (verdict.Refused r) → fault (numberOf r) (pageOf r) ≡ superblockIn (checkImage image)
+      pub opened-bad : (r : Refusal) → Passes (onImage (s .geometry) (checkTree (viewBy (s .geometry) t image))) (verdict.Refused r) → fault (numberOf r) (pageOf r) ≡ superblockIn (checkImage format image)
       unfolding andThen
       opened-bad r h = go (checkTree (viewBy (s .geometry) t image)) h ∙ sym opened-is
         where
@@ -108,7 +109,7 @@ module _ (image : List ℕ) where
           go (fault n p) h = rw (h .0, h .1)
           go (ok y) h = absurd h
 
-      pub opened-good : Passes (onImage (s .geometry) (checkTree (viewBy (s .geometry) t image))) verdict.Sound → ok s ≡ superblockIn (checkImage image)
+      pub opened-good : Passes (onImage (s .geometry) (checkTree (viewBy (s .geometry) t image))) verdict.Sound → ok s ≡ superblockIn (checkImage format image)
       unfolding andThen
       opened-good h = go (checkTree (viewBy (s .geometry) t image)) h ∙ sym opened-is
         where
@@ -116,6 +117,6 @@ module _ (image : List ℕ) where
           go (fault n p) h = absurd h
           go (ok y) h = refl
 
-  pub unopened : (n p : ℕ) → fault n p ≡ openCard image → fault n p ≡ superblockIn (checkImage image)
+  pub unopened : (n p : ℕ) → fault n p ≡ openCard format image → fault n p ≡ superblockIn (checkImage format image)
   unfolding checkImage andThen
   unopened n p e = rw (← e)

@@ -45,6 +45,6 @@ pub view-sized : (geometry : Geometry) (count : ℕ) (image : List ℕ) (p : ℕ
 unfolding pageIn
 view-sized geometry count image p d e = go (ltb p (2 * count)) e
   where
-    go : (b : Bool) → cond b (pageAt image (imagePage geometry p)) none ≡ some d → length d ≡ 512
-    go true h = page-length image (imagePage geometry p) d h
+    go : (b : Bool) → cond b (pageAt (geometry .format) image (imagePage geometry p)) none ≡ some d → length d ≡ 512
+    go true h = page-length (geometry .format) image (imagePage geometry p) d h
     go false h = absurd (let z : _≡_ {A = ℕ} 0 1 = cc in omega arith)

@@ -35,4 +35,4 @@ module _ (image : List ℕ) (s : Superblock) (c : Counts) where
 
 pub sums : CountsAddUp
 unfolding checkOf checkImage told-all
-sums image s c e f = adds image s c (openCard image) e f
+sums format image s c e f = adds image s c (openCard format image) e f

@@ -3,6 +3,7 @@ use Prim.Native.Nat.{ℕ, _+_}
 use mathlib.Core.List.{List}
 use mathlib.Core.Path.{_≡_}
 use lib.ListN.{length}
+use Rattle.page.specs.declared.Format.{Format}
 use Rattle.layout.specs.declared.Geometry.{Geometry}
 use Rattle.layout.specs.declared.Superblock.{Superblock}
 use Rattle.layout.specs.Refusal.{numberOf, pageOf}
@@ -25,8 +26,8 @@ abbrev pub countsIn : ℕ → ℕ → View → Root → Counts
 countsIn clusters end v root =
     record { clusters = clusters; free = freeCount end v; reached = reachedCount end root; orphaned = orphanCount end v root }
 
-unfoldable pub checkOf : List ℕ → Result Counts
-checkOf image = andThen (checkImage image) (λ x. ok (countsIn (x .0 .clusters) (x .0 .end) (see (x .0) image) (x .1)))
+unfoldable pub checkOf : Format → List ℕ → Result Counts
+checkOf format image = andThen (checkImage format image) (λ x. ok (countsIn (x .0 .clusters) (x .0 .end) (see (x .0) image) (x .1)))
 
 -- the same of a card that is open, by its table
 unfoldable pub countsBy : ℕ → Geometry → List ℕ → List ℕ → Result Counts
@@ -41,5 +42,5 @@ superblockIn (ok x) = ok (x .0)
 -- Free, reached and orphaned clusters of an image that passes the check add up to its allocatable ones.
 abbrev pub CountsAddUp : Type 0
 CountsAddUp =
-    (image : List ℕ) (s : Superblock) (c : Counts) → superblockIn (checkImage image) ≡ ok s → checkOf image ≡ ok c
+    (format : Format) (image : List ℕ) (s : Superblock) (c : Counts) → superblockIn (checkImage format image) ≡ ok s → checkOf format image ≡ ok c
     → c .free + c .reached + c .orphaned ≡ s .end

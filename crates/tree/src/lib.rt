@@ -9,6 +9,7 @@ use layout::Opened;
 use layout::Refusal;
 use layout::open_card;
 use model::MOST_CLUSTERS;
+use page::Format;
 use reached::count_free;
 use reached::count_orphans;
 use walk::Verdict;
@@ -58,10 +59,10 @@ fn count_card(image: &[u8], table: &[u32], end: usize, geometry: Geometry, clust
 }
 
 // The whole check, with room for the table.
-fn check_in(image: &[u8], table: &mut [u32; MOST_CLUSTERS]) -> Checked
-    ensures { λ r. ⌜ toldCounts r ≡ checkOf (now (image .entry)) ⌝ }
+fn check_in(format: Format, image: &[u8], table: &mut [u32; MOST_CLUSTERS]) -> Checked
+    ensures { λ r. ⌜ toldCounts r ≡ checkOf format (now (image .entry)) ⌝ }
 {
-    let opened = open_card(image, table);
+    let opened = open_card(format, image, table);
     match opened {
         Opened::Refused(refusal) => Checked::Refused(refusal),
         Opened::Card(s) => count_card(image, table, s.end as usize, s.geometry, s.clusters),
@@ -69,11 +70,11 @@ fn check_in(image: &[u8], table: &mut [u32; MOST_CLUSTERS]) -> Checked
 }
 
 // The whole check: free, reached and orphaned clusters, or the refusal.
-pub fn check(image: &[u8]) -> Checked
-    ensures { λ r. ⌜ toldCounts r ≡ checkOf (now (image .entry)) ⌝ }
+pub fn check(format: Format, image: &[u8]) -> Checked
+    ensures { λ r. ⌜ toldCounts r ≡ checkOf format (now (image .entry)) ⌝ }
 {
     let mut table = [0u32; MOST_CLUSTERS];
-    check_in(image, &mut table)
+    check_in(format, image, &mut table)
 }
 
 // Free, reached and orphaned clusters add up to the allocatable ones.
@@ -92,11 +93,11 @@ fn judge_tree(image: &[u8], table: &[u32], end: usize, geometry: Geometry) -> Ve
 
 // The whole check, with the superblock for the calls that go on from it. The lent room is working room: it gets the table's
 // words once they are sound, and keeps them where the tree is then refused.
-pub fn open_checked(image: &[u8], room: &mut [u32; MOST_CLUSTERS]) -> Opened
-    ensures checked { λ r. ⌜ toldOpened r ≡ superblockIn (checkImage (now (image .entry))) ⌝ }
-    ensures working_room { λ _. ⌜ now (room .exit) ≡ tableAfter (now (image .entry)) (openCard (now (image .entry))) (now (room .entry)) ⌝ }
+pub fn open_checked(format: Format, image: &[u8], room: &mut [u32; MOST_CLUSTERS]) -> Opened
+    ensures checked { λ r. ⌜ toldOpened r ≡ superblockIn (checkImage format (now (image .entry))) ⌝ }
+    ensures working_room { λ _. ⌜ now (room .exit) ≡ tableAfter (now (image .entry)) (openCard format (now (image .entry))) (now (room .entry)) ⌝ }
 {
-    let opened = open_card(image, room);
+    let opened = open_card(format, image, room);
     match opened {
         Opened::Refused(refusal) => Opened::Refused(refusal),
         Opened::Card(s) => {

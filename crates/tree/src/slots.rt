@@ -56,8 +56,9 @@ pub fn read_slot(
     if count <= page / 2 {
         return false;
     }
-    if page_count(image) <= page {
+    let format = geometry.format;
+    if page_count(format, image) <= page {
         return false;
     }
-    read_page(image, image_page(geometry, page), out)
+    read_page(format, image, image_page(geometry, page), out)
 }

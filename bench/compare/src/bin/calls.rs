@@ -1,4 +1,4 @@
-//! Whole calls side by side: check, reading every file, creating until the card is full; and the check by the number
+//! Whole calls on raw images side by side: check, reading every file, creating until the card is full; and the check by the number
 //! of files. `calls SIDE WORK` does one work once, for a tool that counts instructions.
 
 use std::env;
@@ -10,6 +10,7 @@ use compare::cards::{full, many_files};
 use compare::clock::{median, thread_time};
 use reader::build::usual_time;
 use reader::content::lines;
+use reader::Format::Raw;
 
 /// Bytes of each file that is created until the card is full.
 const CREATED: usize = 64 * 1024;
@@ -31,15 +32,15 @@ struct Side {
 const SIDES: [Side; 2] = [
     Side {
         name: "library",
-        check: |image| compare::check(image).is_ok(),
-        read: |image, path, out| compare::in_place::read(image, path, 0, out),
-        create: |image, path, bytes| compare::in_place::create(image, path, &usual_time(), bytes),
+        check: |image| compare::check(Raw, image).is_ok(),
+        read: |image, path, out| compare::in_place::read(Raw, image, path, 0, out),
+        create: |image, path, bytes| compare::in_place::create(Raw, image, path, &usual_time(), bytes),
     },
     Side {
         name: "reader",
-        check: |image| reader::check(image).is_ok(),
-        read: |image, path, out| reader::read(image, path, 0, out).ok(),
-        create: |image, path, bytes| reader::create(image, path, &usual_time(), bytes).is_ok(),
+        check: |image| reader::check(Raw, image).is_ok(),
+        read: |image, path, out| reader::read(Raw, image, path, 0, out).ok(),
+        create: |image, path, bytes| reader::create(Raw, image, path, &usual_time(), bytes).is_ok(),
     },
 ];
 
@@ -65,8 +66,8 @@ fn main() -> ExitCode {
 
 /// The full card, and its files' paths.
 fn card() -> (Vec<u8>, Vec<Vec<u8>>) {
-    let image = full();
-    let files = lines(&image).expect("the full card is accepted").into_iter();
+    let image = full(Raw);
+    let files = lines(Raw, &image).expect("the full card is accepted").into_iter();
     let files = files.filter(|line| !line.item.is_directory).map(|line| line.path).collect();
     (image, files)
 }
@@ -114,7 +115,7 @@ fn table() {
     let created = create_some(&SIDES[1], &image, usize::MAX);
     row(&format!("create until full ({created} files)"), timed(RUNS, |side| create_some(side, &image, usize::MAX)));
     for count in [500, 1000, 2000, 4000] {
-        let image = many_files(count);
+        let image = many_files(Raw, count);
         row(&format!("check of {count} files"), timed(RUNS * 5, |side| (side.check)(&image)));
     }
 }

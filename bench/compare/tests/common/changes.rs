@@ -1,8 +1,7 @@
 //! The five changes on both sides.
 
-use reader::page::PAGE;
 use reader::time::Time;
-use reader::{Change, Refusal};
+use reader::{Change, Format, Refusal};
 
 use super::Tally;
 
@@ -31,18 +30,23 @@ pub fn kind(change: &Change) -> usize {
     }
 }
 
-/// Comparisons of the five changes, and how often each answer was met, by kind.
-#[derive(Clone, Debug, Default)]
+/// Comparisons of the five changes in one format, and how often each answer was met, by kind.
+#[derive(Clone, Debug)]
 pub struct Changes {
+    pub format: Format,
     pub tallies: [Tally; 5],
 }
 
 impl Changes {
+    pub fn new(format: Format) -> Changes {
+        Changes { format, tallies: Default::default() }
+    }
+
     /// Makes a change on both sides: the same answer, and the same image, which is left in `image`.
     pub fn apply(&mut self, image: &mut [u8], change: &Change, what: impl Fn() -> String) -> Result<(), Refusal> {
         let mut readers = image.to_vec();
         let answer = self.apply_to_each(image, &mut readers, change, &what);
-        same_image(image, &readers, || about(change, &what));
+        same_image(self.format, image, &readers, || about(change, &what));
         answer
     }
 
@@ -54,8 +58,9 @@ impl Changes {
         change: &Change,
         what: impl Fn() -> String,
     ) -> Result<(), Refusal> {
-        let answer = compare::change::apply(change, ours);
-        assert_eq!(answer, change.apply(readers), "library left, reader right: {}", about(change, &what));
+        let answer = compare::change::apply(self.format, change, ours);
+        let about = || format!("{:?}, {}", self.format, about(change, &what));
+        assert_eq!(answer, change.apply(self.format, readers), "library left, reader right: {}", about());
         self.tallies[kind(change)].count(&answer);
         answer
     }
@@ -64,7 +69,7 @@ impl Changes {
     pub fn met(&self, answers: impl IntoIterator<Item = usize>, times: usize) {
         let mut all = Tally::default();
         for (name, tally) in KINDS.iter().zip(&self.tallies) {
-            println!("{name}: accepted, and refused with 1 to 15: {:?}", tally.seen);
+            println!("{name}: accepted, and refused with 1 to 23: {:?}", tally.seen);
             all.seen.iter_mut().zip(&tally.seen).for_each(|(all, seen)| *all += seen);
         }
         all.met(answers, times);
@@ -83,9 +88,10 @@ fn about(change: &Change, what: impl Fn() -> String) -> String {
 }
 
 /// Both images are equal; otherwise the first difference is told.
-pub fn same_image(ours: &[u8], readers: &[u8], what: impl Fn() -> String) {
+pub fn same_image(format: Format, ours: &[u8], readers: &[u8], what: impl Fn() -> String) {
     if ours != readers {
         let at = ours.iter().zip(readers).position(|(one, other)| one != other).expect("they are equally long");
-        panic!("the images differ first in byte {} of page {}: {}", at % PAGE, at / PAGE, what());
+        let page = format.page_bytes();
+        panic!("the {format:?} images differ first in byte {} of page {}: {}", at % page, at / page, what());
     }
 }

@@ -1,13 +1,14 @@
 //! Find, step and read on both sides.
 
 use compare::lookup::Next;
-use reader::{Entry, Refusal};
+use reader::{Entry, Format, Refusal};
 
 use super::Tally;
 
-/// Comparisons of the three calls, and how often each answer was met.
-#[derive(Clone, Debug, Default)]
+/// Comparisons of the three calls in one format, and how often each answer was met.
+#[derive(Clone, Debug)]
 pub struct Lookups {
+    pub format: Format,
     pub finds: Tally,
     pub steps: Tally,
     pub reads: Tally,
@@ -16,16 +17,24 @@ pub struct Lookups {
 }
 
 impl Lookups {
+    pub fn new(format: Format) -> Lookups {
+        let [finds, steps, reads] = Default::default();
+        Lookups { format, finds, steps, reads, ends: 0 }
+    }
+
     pub fn find(&mut self, image: &[u8], path: &[u8], what: impl Fn() -> String) -> Result<Entry, Refusal> {
-        let (ours, readers) = (compare::find(image, path), reader::find(image, path));
-        assert_eq!(ours, readers, "library left, reader right: find {}, {}", path.escape_ascii(), what());
+        let (ours, readers) = (compare::find(self.format, image, path), reader::find(self.format, image, path));
+        let about = || format!("{:?}, find {}, {}", self.format, path.escape_ascii(), what());
+        assert_eq!(ours, readers, "library left, reader right: {}", about());
         self.finds.count(&ours);
         ours
     }
 
     pub fn step(&mut self, image: &[u8], path: &[u8], slot: u32, what: impl Fn() -> String) -> Result<Next, Refusal> {
-        let (ours, readers) = (compare::step(image, path, slot), reader::step(image, path, slot as usize));
-        assert_eq!(ours, readers, "library left, reader right: step {} {slot}, {}", path.escape_ascii(), what());
+        let ours = compare::step(self.format, image, path, slot);
+        let readers = reader::step(self.format, image, path, slot as usize);
+        let about = || format!("{:?}, step {} {slot}, {}", self.format, path.escape_ascii(), what());
+        assert_eq!(ours, readers, "library left, reader right: {}", about());
         self.steps.count(&ours);
         self.ends += usize::from(ours == Ok(None));
         ours
@@ -42,9 +51,10 @@ impl Lookups {
     ) -> (Result<usize, Refusal>, Vec<u8>) {
         let mut buffer: Vec<u8> = (0..size).map(unread).collect();
         let mut readers_buffer = buffer.clone();
-        let ours = compare::read(image, path, offset, &mut buffer);
-        let readers = reader::read(image, path, offset, &mut readers_buffer);
-        let about = || format!("read {} from {offset}, {size} bytes, {}", path.escape_ascii(), what());
+        let ours = compare::read(self.format, image, path, offset, &mut buffer);
+        let readers = reader::read(self.format, image, path, offset, &mut readers_buffer);
+        let about =
+            || format!("{:?}, read {} from {offset}, {size} bytes, {}", self.format, path.escape_ascii(), what());
         assert_eq!(ours, readers, "library left, reader right: {}", about());
         assert!(buffer == readers_buffer, "the buffers differ: {}", about());
         self.reads.count(&ours);
@@ -60,7 +70,7 @@ impl Lookups {
     }
 }
 
-/// The byte that stands in a buffer before a read.
+/// The byte that stands in a buffer before a call.
 pub fn unread(at: usize) -> u8 {
     (at * 37 + 11) as u8
 }

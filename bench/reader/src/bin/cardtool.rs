@@ -3,10 +3,11 @@
 use std::process::ExitCode;
 
 use reader::build::{self, random};
-use reader::{list, tree_text, Refusal};
+use reader::{list, program, tree_text, Format, Refusal};
 
 const USAGE: &str =
-    "usage: cardtool check FILE | list FILE | tree FILE | bench OUT | standard OUT | random SEED OUT | samples ROOT";
+    "usage: cardtool [--plain] check FILE | list FILE | tree FILE | bench OUT | standard OUT | random SEED OUT
+       cardtool samples ROOT";
 
 fn main() -> ExitCode {
     let arguments: Vec<String> = std::env::args().skip(1).collect();
@@ -28,17 +29,21 @@ fn run(arguments: &[&str]) -> Result<String, String> {
     let store = |file: &str, image: Vec<u8>| {
         std::fs::write(file, image).map(|()| String::new()).map_err(|error| format!("{file}: {error}"))
     };
-    match *arguments {
-        ["check", file] => check(&load(file)?).map_err(|refusal| refusal.to_string()),
-        ["list", file] => Ok(list(&load(file)?)),
-        ["tree", file] => tree_text(&load(file)?).map_err(|refusal| refusal.to_string()),
-        ["bench", out] => store(out, build::bench()),
-        ["standard", out] => store(out, build::standard()),
+    let (format, command) = match arguments {
+        ["--plain", command @ ..] => (Format::Plain, command),
+        command => (Format::Raw, command),
+    };
+    match *command {
+        ["check", file] => check(format, &load(file)?).map_err(|refusal| refusal.to_string()),
+        ["list", file] => Ok(list(format, &load(file)?)),
+        ["tree", file] => tree_text(format, &load(file)?).map_err(|refusal| refusal.to_string()),
+        ["bench", out] => store(out, build::bench(format)),
+        ["standard", out] => store(out, build::standard(format)),
         ["random", seed, out] => {
             let seed = seed.parse().map_err(|_| USAGE.to_string())?;
-            store(out, random::random(seed).image)
+            store(out, random::random(format, seed).image)
         }
-        ["samples", root] => samples(root).map_err(|error| format!("{root}: {error}")),
+        ["samples", root] if format == Format::Raw => samples(root).map_err(|error| format!("{root}: {error}")),
         _ => Err(USAGE.to_string()),
     }
 }
@@ -53,14 +58,14 @@ fn samples(root: &str) -> std::io::Result<String> {
     }
     std::fs::write(format!("{root}/crates/cards/stdout"), build::samples::printed())?;
     std::fs::write(format!("{root}/crates/list/stdin"), build::samples::save())?;
-    std::fs::write(format!("{root}/crates/list/stdout"), list(&build::samples::save()))?;
+    std::fs::write(format!("{root}/crates/list/stdout"), program(&build::samples::save()))?;
     std::fs::create_dir_all(format!("{root}/samples"))?;
     std::fs::write(format!("{root}/samples/bench.ps2"), build::samples::shop())?;
     Ok(String::new())
 }
 
-fn check(image: &[u8]) -> Result<String, Refusal> {
-    let counts = reader::check(image)?;
+fn check(format: Format, image: &[u8]) -> Result<String, Refusal> {
+    let counts = reader::check(format, image)?;
     Ok(format!(
         "card {}\nfree {}\nreached {}\norphaned {}\n",
         counts.clusters, counts.free, counts.reached, counts.orphaned

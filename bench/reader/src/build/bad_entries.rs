@@ -4,7 +4,7 @@ use super::bad::{broken, edited, BadCard};
 use super::{directory, file, Assembly};
 use crate::card::{END_MARK, USED};
 use crate::entry::Entry;
-use crate::page::PAGE;
+use crate::page::Format;
 use crate::Refusal;
 
 /// The image's page index on the sample card.
@@ -13,10 +13,10 @@ const fn at(cluster: usize, second: usize) -> usize {
 }
 
 /// Refused with 6: one table word or one entry of the sample is wrong.
-pub(super) fn chains() -> Vec<BadCard> {
-    let word = |name, cluster: usize, value: u32| edited(name, 6, |card| card.table[cluster] = value);
-    let entry = |name, entry: Entry| edited(name, 6, |card| card.put(1, 1, &entry));
-    let root = |name, length: u32| edited(name, 6, |card| card.put(0, 0, &directory(b".", length, 0)));
+pub(super) fn chains(format: Format) -> Vec<BadCard> {
+    let word = |name, cluster: usize, value: u32| edited(format, name, 6, |card| card.table[cluster] = value);
+    let entry = |name, entry: Entry| edited(format, name, 6, |card| card.put(1, 1, &entry));
+    let root = |name, length: u32| edited(format, name, 6, |card| card.put(0, 0, &directory(b".", length, 0)));
     vec![
         word("root's first cluster free", 0, 0x7FFF_FFFF),
         word("root ends early", 0, END_MARK),
@@ -51,12 +51,17 @@ pub(super) fn chains() -> Vec<BadCard> {
         entry("first cluster is the root's", file(b"F", 3000, 0)),
         entry("two entries share a chain", file(b"F", 10, 11)),
         entry("directory of the greatest length", directory(b"F", 0xFFFF_FFFF, 5)),
-        edited("a directory is its own child", 6, |card| card.put(6, 0, &directory(b"D2", 3, 3))),
-        edited("a file starts at an orphan that links on", 6, |card| {
+        edited(format, "a directory is its own child", 6, |card| card.put(6, 0, &directory(b"D2", 3, 3))),
+        edited(format, "a file starts at an orphan that links on", 6, |card| {
             card.put(1, 1, &file(b"F", 1024, 12));
             card.table[12] = USED | 5;
         }),
     ]
+}
+
+/// Leaves a page as erasing does.
+fn erase(card: &mut Assembly, page: usize) {
+    card.image[card.format.place(page)].fill(0xFF);
 }
 
 /// A name field without a zero.
@@ -65,16 +70,14 @@ fn endless() -> Entry {
 }
 
 /// Refused with 7: one entry of the sample breaks its rule.
-pub(super) fn entries() -> Vec<BadCard> {
-    let put = |name, cluster, second, entry: Entry| edited(name, 7, |card| card.put(cluster, second, &entry));
+pub(super) fn entries(format: Format) -> Vec<BadCard> {
+    let put = |name, cluster, second, entry: Entry| edited(format, name, 7, |card| card.put(cluster, second, &entry));
     let mode = |entry: Entry, mode| Entry { mode, ..entry };
-    let slot3 = |name, entry: Entry| edited(name, 7, |card| card.put(1, 1, &entry));
-    let named = |name, bytes: &[u8]| edited(name, 7, |card| card.put(1, 1, &file(bytes, 1500, 5)));
+    let slot3 = |name, entry: Entry| edited(format, name, 7, |card| card.put(1, 1, &entry));
+    let named = |name, bytes: &[u8]| edited(format, name, 7, |card| card.put(1, 1, &file(bytes, 1500, 5)));
     let dot = || directory(b".", 6, 0);
     let dots = || directory(b"..", 0, 0);
-    let erase = |name, cluster, second| {
-        edited(name, 7, |card: &mut Assembly| card.image[at(cluster, second) * PAGE..][..PAGE].fill(0xFF))
-    };
+    let erase = |name, cluster, second| edited(format, name, 7, |card| erase(card, at(cluster, second)));
     vec![
         put("root's first entry dead", 0, 0, mode(dot(), 0x0427)),
         put("root's first entry a file too", 0, 0, mode(dot(), 0x8437)),
@@ -119,12 +122,12 @@ pub(super) fn entries() -> Vec<BadCard> {
 }
 
 /// Several faults on one card: the first one met decides.
-pub(super) fn order() -> Vec<BadCard> {
+pub(super) fn order(format: Format) -> Vec<BadCard> {
     let two = |name, edit: fn(&mut Assembly), pages: &[usize]| {
-        broken(edited(name, 2, edit), pages, Refusal::unreadable(pages[0]))
+        broken(edited(format, name, 2, edit), pages, Refusal::unreadable(pages[0]))
     };
     let other = |name, number, edit: fn(&mut Assembly), pages: &[usize]| {
-        broken(edited(name, number, edit), pages, Refusal::number(number))
+        broken(edited(format, name, number, edit), pages, Refusal::number(number))
     };
     let bad_slot3 = |card: &mut Assembly| card.put(1, 1, &file(b"*", 1500, 5));
     vec![
@@ -201,14 +204,6 @@ pub(super) fn order() -> Vec<BadCard> {
             },
             &[at(2, 0)],
         ),
-        other(
-            "an erased page is readable",
-            7,
-            |card| {
-                let page = at(1, 0);
-                card.image[page * PAGE..][..PAGE].fill(0xFF);
-            },
-            &[at(3, 0)],
-        ),
+        other("an erased page is readable", 7, |card| erase(card, at(1, 0)), &[at(3, 0)]),
     ]
 }

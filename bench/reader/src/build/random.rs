@@ -1,4 +1,4 @@
-//! Seeded random cards, each with the tree and counts it was built to have.
+//! Seeded random cards of either format, each with the tree and counts it was built to have.
 
 use std::collections::{BTreeMap, HashSet};
 
@@ -8,7 +8,7 @@ use super::{Assembly, Layout};
 use crate::card::{END_MARK, USED};
 use crate::content::{Item, Piece, Tree};
 use crate::entry::{Entry, DIRECTORY, FILE, NO_CLUSTER};
-use crate::page::{self, Data, DATA, PAGE};
+use crate::page::{Data, Format, CLUSTER_DATA, DATA};
 use crate::paths;
 use crate::rng::Rng;
 use crate::tree::{Counts, DEPTH};
@@ -16,6 +16,7 @@ use crate::tree::{Counts, DEPTH};
 /// A random card and what the check and the tree must say of it.
 #[derive(Clone, Debug)]
 pub struct RandomCard {
+    pub format: Format,
     pub image: Vec<u8>,
     pub layout: Layout,
     pub counts: Counts,
@@ -23,7 +24,7 @@ pub struct RandomCard {
 }
 
 /// A random card of a random size, mostly small.
-pub fn random(seed: u64) -> RandomCard {
+pub fn random(format: Format, seed: u64) -> RandomCard {
     let mut rng = Rng::new(seed);
     let blocks = match rng.below(20) {
         0..=9 => rng.between(4, 8),
@@ -31,14 +32,14 @@ pub fn random(seed: u64) -> RandomCard {
         17..=18 => rng.between(40, 200),
         _ => rng.between(200, 1024),
     };
-    sized(seed, 8 * blocks)
+    sized(format, seed, 8 * blocks)
 }
 
 /// A random card of N clusters.
-pub fn sized(seed: u64, clusters: usize) -> RandomCard {
+pub fn sized(format: Format, seed: u64, clusters: usize) -> RandomCard {
     let mut rng = Rng::new(seed ^ 0x5EED_CA4D);
     let layout = random_layout(&mut rng, clusters);
-    let mut sketch = Sketch::new(layout, &mut rng);
+    let mut sketch = Sketch::new(format, layout, &mut rng);
     sketch.grow(&mut rng);
     sketch.finish(&mut rng)
 }
@@ -67,12 +68,12 @@ struct Sketch {
 }
 
 impl Sketch {
-    fn new(layout: Layout, rng: &mut Rng) -> Sketch {
-        let mut card = Assembly::new(layout);
+    fn new(format: Format, layout: Layout, rng: &mut Rng) -> Sketch {
+        let mut card = Assembly::new(format, layout);
         // Erased and junk pages alike stand wherever nothing is written.
         for page in 0..2 * card.layout.clusters {
             if rng.chance(1, 4) {
-                rng.fill(&mut card.image[page * PAGE..][..PAGE]);
+                rng.fill(&mut card.image[format.place(page)]);
             }
         }
         let mut pool: Vec<usize> = (1..card.layout.alloc_end).rev().collect();
@@ -108,7 +109,7 @@ impl Sketch {
                 2 => rng.below(20_000),
                 _ => rng.below(3_000),
             };
-            if self.pool.len() < keep + growth + bytes.div_ceil(1024).max(1) {
+            if self.pool.len() < keep + growth + bytes.div_ceil(CLUSTER_DATA).max(1) {
                 continue;
             }
             let page = self.next_slot(at);
@@ -144,7 +145,7 @@ impl Sketch {
     }
 
     fn file(&mut self, rng: &mut Rng, at: usize, page: usize, bytes: usize) {
-        let split = self.pool.len() - bytes.div_ceil(1024);
+        let split = self.pool.len() - bytes.div_ceil(CLUSTER_DATA);
         let chain: Vec<usize> = self.pool.split_off(split);
         self.card.chain(&chain);
         let (path, mut data) = self.named(rng, at, FILE);
@@ -159,7 +160,7 @@ impl Sketch {
             let mut content = [0; DATA];
             rng.fill(&mut content);
             let page = self.card.page(chain[index / 2], index % 2);
-            page::write(&mut self.card.image, page, &content);
+            self.card.write(page, &content);
             if index * DATA < bytes {
                 pieces.push(Piece::Bytes(content[..DATA.min(bytes - index * DATA)].to_vec()));
             }
@@ -215,7 +216,7 @@ impl Sketch {
             self.card.chain(&drawn.chain);
         }
         for (&page, data) in &self.entries {
-            page::write(&mut self.card.image, page, data);
+            self.card.write(page, data);
         }
 
         let (mut free, mut orphaned) = (0, 0);
@@ -239,31 +240,34 @@ impl Sketch {
         rng.fill(&mut self.card.superblock[0x150..]);
 
         let counts = Counts { clusters: self.card.layout.clusters, free, reached: end - free - orphaned, orphaned };
-        let layout = self.card.layout.clone();
+        let (format, layout) = (self.card.format, self.card.layout.clone());
         let mut needed: HashSet<usize> = self.entries.keys().copied().collect();
         needed.insert(0);
         for &cluster in layout.table.iter().chain([&layout.indirect]) {
             needed.extend([2 * cluster, 2 * cluster + 1]);
         }
         let mut image = self.card.finish();
-        wear(rng, &mut image, &needed, &self.file_pages, &mut self.tree);
-        RandomCard { image, layout, counts, tree: self.tree }
+        if format == Format::Raw {
+            wear(rng, &mut image, &needed, &self.file_pages, &mut self.tree);
+        }
+        RandomCard { format, image, layout, counts, tree: self.tree }
     }
 }
 
-/// Junk spare bytes and mendable flips anywhere; ruin where the check doesn't look.
+/// Junk spare bytes and mendable flips anywhere in a raw image; ruin where the check doesn't look.
 fn wear(rng: &mut Rng, image: &mut [u8], needed: &HashSet<usize>, files: &[(usize, Vec<u8>, usize)], tree: &mut Tree) {
+    let format = Format::Raw;
     let worn = rng.below(8);
     let mut ruined = HashSet::new();
-    for page in 0..image.len() / PAGE {
+    for page in 0..image.len() / format.page_bytes() {
         let chunk = rng.below(4);
         if !needed.contains(&page) && rng.chance(worn, 60) {
-            scribble::ruin(image, page, chunk, rng);
+            scribble::ruin(format, image, page, chunk, rng);
             ruined.insert(page);
         }
         for other in (0..4).filter(|&other| other != chunk || !ruined.contains(&page)) {
             if rng.chance(worn, 30) {
-                scribble::mendable(image, page, other, rng);
+                scribble::mendable(format, image, page, other, rng);
             }
         }
         if rng.chance(3, 4) {

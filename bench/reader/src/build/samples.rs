@@ -1,6 +1,7 @@
-//! The images that the listing programs are run on, and what they must print.
+//! The images that the listing programs are run on, all of them raw, and what they must print.
 
 use super::{bad, bench, good, usual_time};
+use crate::page::Format::Raw;
 use crate::time::stamp;
 use crate::{create, make_dir, program};
 
@@ -27,16 +28,16 @@ const WORN: [(&str, &str); 4] = [
 
 /// The card of document 01's listing: `/SAVE`, and `/SAVE/A` of 1,500 bytes.
 pub fn save() -> Vec<u8> {
-    let mut image = bench();
-    make_dir(&mut image, b"/SAVE", &usual_time()).expect("the bench card has room");
+    let mut image = bench(Raw);
+    make_dir(Raw, &mut image, b"/SAVE", &usual_time()).expect("the bench card has room");
     let bytes: Vec<u8> = (0..1500).map(|place| (place % 251) as u8).collect();
-    create(&mut image, b"/SAVE/A", &usual_time(), &bytes).expect("the bench card has room");
+    create(Raw, &mut image, b"/SAVE/A", &usual_time(), &bytes).expect("the bench card has room");
     image
 }
 
 /// The card in the repository's `samples`: the bench card with three saves of a shop's customer.
 pub fn shop() -> Vec<u8> {
-    let mut image = bench();
+    let mut image = bench(Raw);
     let bytes = |count: usize, seed: usize| (0..count).map(|place| (place * seed % 251) as u8).collect::<Vec<u8>>();
     let bought = stamp(2001, 11, 24, 10, 5, 0);
     let played = stamp(2003, 7, 19, 22, 48, 31);
@@ -55,9 +56,10 @@ pub fn shop() -> Vec<u8> {
     ];
     for (save, time, files) in saves {
         let save = format!("/{save}");
-        make_dir(&mut image, save.as_bytes(), &time).expect("the bench card has room");
+        make_dir(Raw, &mut image, save.as_bytes(), &time).expect("the bench card has room");
         for (name, bytes) in files {
-            create(&mut image, format!("{save}/{name}").as_bytes(), &time, &bytes).expect("the bench card has room");
+            create(Raw, &mut image, format!("{save}/{name}").as_bytes(), &time, &bytes)
+                .expect("the bench card has room");
         }
     }
     image
@@ -65,19 +67,19 @@ pub fn shop() -> Vec<u8> {
 
 /// Every image of the program `cards`, in its order.
 pub fn all() -> Samples {
-    let mut samples = vec![("bench", bench()), ("save", save())];
+    let mut samples = vec![("bench", bench(Raw)), ("save", save())];
     samples.push(("pcsx2", include_bytes!("../../testdata/bench-sample.ps2").to_vec()));
-    let mut good = good::all();
+    let mut good = good::all(Raw);
     for (name, card) in WORN {
         let place = good.iter().position(|good| good.name == card).expect(card);
         samples.push((name, good.swap_remove(place).image));
     }
-    let mut bad = bad::all();
+    let mut bad = bad::all(Raw);
     for (name, card) in REFUSED {
         let place = bad.iter().position(|bad| bad.name == card).expect(card);
         samples.push((name, bad.swap_remove(place).image));
     }
-    let mut long = bench();
+    let mut long = bench(Raw);
     long.push(0);
     samples.push(("long", long));
     samples

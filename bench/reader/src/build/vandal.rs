@@ -1,20 +1,20 @@
-//! Seeded random cards with random faults. What each must be refused with is for the check to say.
+//! Seeded random cards of either format with random faults. What each must be refused with is for the check to say.
 
 use super::draw::random_name;
 use super::random::random;
 use super::scribble;
 use crate::card::{END_MARK, USED};
 use crate::content::visit;
-use crate::page::{self, put_half, put_word, word, Data};
+use crate::page::{self, put_half, put_word, word, Data, Format};
 use crate::rng::Rng;
 use crate::tree::Checked;
 
 /// A random card with one to three faults; some do no harm.
-pub fn vandalised(seed: u64) -> Vec<u8> {
-    let card = random(seed);
+pub fn vandalised(format: Format, seed: u64) -> Vec<u8> {
+    let card = random(format, seed);
     let mut rng = Rng::new(seed ^ 0xBAD_CA4D);
     let mut image = card.image;
-    let checked = Checked::of(&image).expect("a random card passes");
+    let checked = Checked::of(format, &image).expect("a random card passes");
     let mut entries = Vec::new();
     visit(&checked.root, b"/", &mut |_, node| {
         if node.inside.is_some() {
@@ -27,8 +27,8 @@ pub fn vandalised(seed: u64) -> Vec<u8> {
     for _ in 0..rng.between(1, 3) {
         match rng.below(40) {
             0 => image.truncate(rng.below(image.len())),
-            1..=2 => alter(&mut image, 0, |data| superblock_fault(&mut rng, data)),
-            3..=4 => alter(&mut image, 2 * indirect, |data| {
+            1..=2 => alter(format, &mut image, 0, |data| superblock_fault(&mut rng, data)),
+            3..=4 => alter(format, &mut image, 2 * indirect, |data| {
                 let value = *rng.pick(&[0, indirect as u32, 1, 2, END_MARK, card.layout.alloc_offset as u32]);
                 put_word(data, 4 * rng.below(card.layout.table.len().min(128)), value);
             }),
@@ -37,14 +37,14 @@ pub fn vandalised(seed: u64) -> Vec<u8> {
                 let page = tables[cluster / 128];
                 let link = USED | rng.below(end) as u32;
                 let value = *rng.pick(&[0, !USED, END_MARK, USED, USED | end as u32, link]);
-                alter(&mut image, page, |data| put_word(data, 4 * (cluster % 128), value));
+                alter(format, &mut image, page, |data| put_word(data, 4 * (cluster % 128), value));
             }
-            15..=34 => alter(&mut image, *rng.pick(&entries), |data| entry_fault(&mut rng, data, end)),
-            35..=36 => scribble::ruin(&mut image, *rng.pick(&tables), rng.below(4), &mut rng),
-            37 => scribble::ruin(&mut image, 2 * indirect + rng.below(2), rng.below(4), &mut rng),
-            _ => scribble::ruin(&mut image, *rng.pick(&entries), rng.below(4), &mut rng),
+            15..=34 => alter(format, &mut image, *rng.pick(&entries), |data| entry_fault(&mut rng, data, end)),
+            35..=36 => scribble::ruin(format, &mut image, *rng.pick(&tables), rng.below(4), &mut rng),
+            37 => scribble::ruin(format, &mut image, 2 * indirect + rng.below(2), rng.below(4), &mut rng),
+            _ => scribble::ruin(format, &mut image, *rng.pick(&entries), rng.below(4), &mut rng),
         }
-        if image.len() < card.layout.clusters * page::CLUSTER {
+        if image.len() < card.layout.clusters * format.cluster_bytes() {
             break;
         }
     }
@@ -52,10 +52,10 @@ pub fn vandalised(seed: u64) -> Vec<u8> {
 }
 
 /// Rewrites a page where it is still readable.
-fn alter(image: &mut [u8], page: usize, change: impl FnOnce(&mut Data)) {
-    if let Some(mut data) = page::read(image, page) {
+fn alter(format: Format, image: &mut [u8], page: usize, change: impl FnOnce(&mut Data)) {
+    if let Some(mut data) = page::read(format, image, page) {
         change(&mut data);
-        page::write(image, page, &data);
+        page::write(format, image, page, &data);
     }
 }
 

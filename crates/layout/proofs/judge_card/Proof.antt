@@ -25,7 +25,7 @@ returns-2 : tie.Need-returns-2
 unfolding openCard unless withPage
 returns-2 c =
     let size = sym (c .before .before .before .before .good-length .ensures) ∙ not-false _ (c .before .before .before .if1 .left) in
-    let none = read-none (pageAt (now (c .before .before .before .before .before .before .args .image)) 0) (c .before .read-page .ensures) (not-true _ (c .if2 .taken)) in
+    let none = read-none (pageAt (c .before .before .before .before .before .before .args .format) (now (c .before .before .before .before .before .before .args .image)) 0) (c .before .read-page .ensures) (not-true _ (c .if2 .taken)) in
     rw (size, none)
 
 good-text-requires : tie.Need-good-text-requires
@@ -35,9 +35,12 @@ returns-3 : tie.Need-returns-3
 unfolding openCard unless withPage
 returns-3 c =
     let size = sym (c .before .before .before .before .before .before .before .good-length .ensures) ∙ not-false _ (c .before .before .before .before .before .before .if1 .left) in
-    let page = read-some (pageAt (now (c .before .before .before .before .before .before .before .before .before .args .image)) 0) (c .before .before .before .before .read-page .ensures) (not-false _ (c .before .before .before .if2 .left)) in
+    let page = read-some (pageAt (c .before .before .before .before .before .before .before .before .before .args .format) (now (c .before .before .before .before .before .before .before .before .before .args .image)) 0) (c .before .before .before .before .read-page .ensures) (not-false _ (c .before .before .before .if2 .left)) in
     let text = sym (c .before .good-text .ensures) ∙ not-true _ (c .if3 .taken) in
     rw (size, page, text)
+
+clusters-in-requires : tie.Need-clusters-in-requires
+clusters-in-requires c κs = search needs
 
 good-superblock-requires : tie.Need-good-superblock-requires
 good-superblock-requires c κs = search needs
@@ -45,10 +48,10 @@ good-superblock-requires c κs = search needs
 returns-4 : tie.Need-returns-4
 unfolding openCard unless withPage
 returns-4 c =
-    let size = sym (c .before .before .before .before .before .before .before .before .before .before .good-length .ensures) ∙ not-false _ (c .before .before .before .before .before .before .before .before .before .if1 .left) in
-    let page = read-some (pageAt (now (c .before .before .before .before .before .before .before .before .before .before .before .before .args .image)) 0) (c .before .before .before .before .before .before .before .read-page .ensures) (not-false _ (c .before .before .before .before .before .before .if2 .left)) in
-    let text = sym (c .before .before .before .before .good-text .ensures) ∙ not-false _ (c .before .before .before .if3 .left) in
-    let rules = sym (c .before .good-superblock .ensures) ∙ not-true _ (c .if4 .taken) in
+    let size = sym (c .before .before .before .before .before .before .before .before .before .before .before .good-length .ensures) ∙ not-false _ (c .before .before .before .before .before .before .before .before .before .before .if1 .left) in
+    let page = read-some (pageAt (c .before .before .before .before .before .before .before .before .before .before .before .before .before .args .format) (now (c .before .before .before .before .before .before .before .before .before .before .before .before .before .args .image)) 0) (c .before .before .before .before .before .before .before .before .read-page .ensures) (not-false _ (c .before .before .before .before .before .before .before .if2 .left)) in
+    let text = sym (c .before .before .before .before .before .good-text .ensures) ∙ not-false _ (c .before .before .before .before .if3 .left) in
+    let rules = rw (c .before .before .before .clusters-in .ensures) at (sym (c .before .good-superblock .ensures) ∙ not-true _ (c .if4 .taken)) in
     rw (size, page, text, rules)
 
 superblock-of-requires : tie.Need-superblock-of-requires
@@ -56,17 +59,17 @@ superblock-of-requires c κs = search needs
 
 judge-table-requires : tie.Need-judge-table-requires
 judge-table-requires c κs =
-    let size = sym (c .before .before .before .before .before .before .before .before .before .before .before .before .good-length .ensures) ∙ not-false _ (c .before .before .before .before .before .before .before .before .before .before .before .if1 .left) in
-    let rules = sym (c .before .before .before .good-superblock .ensures) ∙ not-false _ (c .before .before .if4 .left) in
-    rw (c .superblock-of .ensures) (end-most (length (now (c .before .before .before .before .before .before .before .before .before .before .before .before .before .before .args .image))) (c .before .before .before .before .before .before .before .before .before .read-page .last .1 .1 .0) size rules)
+    let size = sym (c .before .before .before .before .before .before .before .before .before .before .before .before .before .good-length .ensures) ∙ not-false _ (c .before .before .before .before .before .before .before .before .before .before .before .before .if1 .left) in
+    let rules = rw (c .before .before .before .before .before .clusters-in .ensures) at (sym (c .before .before .before .good-superblock .ensures) ∙ not-false _ (c .before .before .if4 .left)) in
+    rw (c .superblock-of .ensures) (end-most (c .before .before .before .before .before .before .before .before .before .before .before .before .before .before .before .args .format) (length (now (c .before .before .before .before .before .before .before .before .before .before .before .before .before .before .before .args .image))) (c .before .before .before .before .before .before .before .before .before .before .read-page .last .1 .1 .1 .0) size rules)
 
 returns-5 : tie.Need-returns-5
 unfolding openCard unless withPage
 returns-5 c =
-    let size = sym (c .before .before .before .before .before .before .before .before .before .before .before .before .before .good-length .ensures) ∙ not-false _ (c .before .before .before .before .before .before .before .before .before .before .before .before .if1 .left) in
-    let page = read-some (pageAt (now (c .before .before .before .before .before .before .before .before .before .before .before .before .before .before .before .args .image)) 0) (c .before .before .before .before .before .before .before .before .before .before .read-page .ensures) (not-false _ (c .before .before .before .before .before .before .before .before .before .if2 .left)) in
-    let text = sym (c .before .before .before .before .before .before .before .good-text .ensures) ∙ not-false _ (c .before .before .before .before .before .before .if3 .left) in
-    let rules = sym (c .before .before .before .before .good-superblock .ensures) ∙ not-false _ (c .before .before .before .if4 .left) in
+    let size = sym (c .before .before .before .before .before .before .before .before .before .before .before .before .before .before .good-length .ensures) ∙ not-false _ (c .before .before .before .before .before .before .before .before .before .before .before .before .before .if1 .left) in
+    let page = read-some (pageAt (c .before .before .before .before .before .before .before .before .before .before .before .before .before .before .before .before .args .format) (now (c .before .before .before .before .before .before .before .before .before .before .before .before .before .before .before .before .args .image)) 0) (c .before .before .before .before .before .before .before .before .before .before .before .read-page .ensures) (not-false _ (c .before .before .before .before .before .before .before .before .before .before .if2 .left)) in
+    let text = sym (c .before .before .before .before .before .before .before .before .good-text .ensures) ∙ not-false _ (c .before .before .before .before .before .before .before .if3 .left) in
+    let rules = rw (c .before .before .before .before .before .before .clusters-in .ensures) at (sym (c .before .before .before .before .good-superblock .ensures) ∙ not-false _ (c .before .before .before .if4 .left)) in
     c .judge-table .ensures ∙ rw (c .before .superblock-of .ensures, size, page, text, rules)
 
 pub judge-card-spec : {M : Type 1} → statement M
@@ -79,6 +82,7 @@ judge-card-spec =
     returns-2
     good-text-requires
     returns-3
+    clusters-in-requires
     good-superblock-requires
     returns-4
     superblock-of-requires

@@ -5,7 +5,7 @@ use denote.Ref.{now}
 use Rattle.model.specs.Check.{Result}
 use Rattle.layout.specs.declared.Superblock.{Superblock}
 use Rattle.layout.specs.Table.{toldOpened, tableAfter}
-use Rattle.layout.proofs.OpenFacts.{open-facts}
+use Rattle.layout.proofs.OpenFacts.{open-facts, own-format}
 use borrow.Author.Needs.{needs}
 use Rattle.layout.proofs.open_card.Statement.{statement}
 use Rattle.layout.proofs.open_card.Tie as tie
@@ -19,8 +19,8 @@ enum-known-opened c = search needs
 load-table-requires : tie.Need-load-table-requires
 load-table-requires c κs =
     let e = sym (c .before .before .before .before .judge-card .ensures) ∙ ap toldOpened (c .before .before .opened .given .1) in
-    let g = open-facts (now (c .before .before .before .before .before .before .args .image)) _ e in
-    (e, omega (arith, g .room, g .most))
+    let g = open-facts (c .before .before .before .before .before .before .args .format) (now (c .before .before .before .before .before .before .args .image)) _ e in
+    (own-format _ _ _ e, omega (arith, g .room, g .most))
 
 enum-known-opened-2 : tie.Need-enum-known-opened-2
 enum-known-opened-2 c = search needs

@@ -30,17 +30,18 @@ same-length c = search needs
 
 returns : tie.Need-returns
 returns c =
+    let format = c .before .before .before .before .before .before .before .before .before .before .args .format in
     let image = c .before .before .before .before .before .before .before .before .before .before .args .image .now in
     let refusal = c .before .before .before .before .before .checked .given .0 .0 in
-    let refused = listing-refused image (numberOf refusal) (pageOf refusal) (sym (ap toldCounts (c .before .before .before .before .before .checked .given .1)) ∙ c .before .before .before .before .before .before .before .check .ensures) in
-    wrote-listing (listing-short image) (wrote-as refused (c .before .before .put-refusal .ensures))
+    let refused = listing-refused format image (numberOf refusal) (pageOf refusal) (sym (ap toldCounts (c .before .before .before .before .before .checked .given .1)) ∙ c .before .before .before .before .before .before .before .check .ensures) in
+    wrote-listing (listing-short format image) (wrote-as refused (c .before .before .put-refusal .ensures))
 
 same-length-2 : tie.Need-same-length-2
 same-length-2 c = search needs
 
 returns-2 : tie.Need-returns-2
 returns-2 c =
-    wrote-listing (listing-short (c .before .before .before .before .before .before .before .before .before .before .before .args .image .now)) (c .before .before .list-card .ensures)
+    wrote-listing (listing-short (c .before .before .before .before .before .before .before .before .before .before .before .args .format) (c .before .before .before .before .before .before .before .before .before .before .before .args .image .now)) (c .before .before .list-card .ensures)
 
 pub list-spec : {M : Type 1} → statement M
 list-spec =

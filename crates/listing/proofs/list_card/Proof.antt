@@ -26,28 +26,30 @@ cast-list-words c = search needs
 
 list-words-requires : tie.Need-list-words-requires
 list-words-requires c κs =
+    let format = c .before .before .before .before .before .before .before .before .before .before .before .before .before .before .before .args .format in
     let image = c .before .before .before .before .before .before .before .before .before .before .before .before .before .before .before .args .image .now in
     let s = c .before .before .before .before .before .opened .given .0 .0 in
-    words-fit image s (passes image (c .before .before .before .before .before .before .before .before .before .before .before .before .before .before .before .args .counts) (c .before .before .before .before .before .before .before .before .before .before .before .before .before .before .before .pre) s (sym (ap toldOpened (c .before .before .before .before .before .opened .given .1)) ∙ c .before .before .before .before .before .before .before .open-card .ensures .0)) _ _ (c .before .before .before .before .before .before .before .open-card .ensures .1)
+    words-fit format image s (passes format image (c .before .before .before .before .before .before .before .before .before .before .before .before .before .before .before .args .counts) (c .before .before .before .before .before .before .before .before .before .before .before .before .before .before .before .pre) s (sym (ap toldOpened (c .before .before .before .before .before .opened .given .1)) ∙ c .before .before .before .before .before .before .before .open-card .ensures .0)) _ _ (c .before .before .before .before .before .before .before .open-card .ensures .1)
 
 same-length : tie.Need-same-length
 same-length c = search needs
 
 returns : tie.Need-returns
 returns c =
-    opens (c .before .before .before .before .before .before .before .before .before .before .args .image .now) (c .before .before .before .before .before .before .before .before .before .before .args .counts) (c .before .before .before .before .before .before .before .before .before .before .pre) _ _ (sym (ap toldOpened (c .enum-told .given .1)) ∙ c .before .before .open-card .ensures .0)
+    opens (c .before .before .before .before .before .before .before .before .before .before .args .format) (c .before .before .before .before .before .before .before .before .before .before .args .image .now) (c .before .before .before .before .before .before .before .before .before .before .args .counts) (c .before .before .before .before .before .before .before .before .before .before .pre) _ _ (sym (ap toldOpened (c .enum-told .given .1)) ∙ c .before .before .open-card .ensures .0)
 
 same-length-2 : tie.Need-same-length-2
 same-length-2 c = search needs
 
 returns-2 : tie.Need-returns-2
 returns-2 c =
+    let format = c .before .before .before .before .before .before .before .before .before .before .before .before .before .before .before .before .before .before .args .format in
     let image = c .before .before .before .before .before .before .before .before .before .before .before .before .before .before .before .before .before .before .args .image .now in
     let s = c .before .before .before .before .before .before .before .before .opened .given .0 .0 in
     let opened = sym (ap toldOpened (c .before .before .before .before .before .before .before .before .opened .given .1)) ∙ c .before .before .before .before .before .before .before .before .before .before .open-card .ensures .0 in
-    let passed = passes image (c .before .before .before .before .before .before .before .before .before .before .before .before .before .before .before .before .before .before .args .counts) (c .before .before .before .before .before .before .before .before .before .before .before .before .before .before .before .before .before .before .pre) s opened in
-    wrote-as (listing-card image (c .before .before .before .before .before .before .before .before .before .before .before .before .before .before .before .before .before .before .args .counts) (c .before .before .before .before .before .before .before .before .before .before .before .before .before .before .before .before .before .before .pre) s opened)
-    (wrote-append (omega (arith, c .before .before .before .before .before .before .before .before .before .before .before .before .before .before .before .before .before .before .good .1 .1 .1 .0)) (c .before .before .before .before .before .before .before .before .before .before .before .before .before .before .put-counts .ensures) (c .before .before .list-words .ensures ((accepted image s passed) .root) (words-hold image s passed _ _ (c .before .before .before .before .before .before .before .before .before .before .open-card .ensures .1))))
+    let passed = passes format image (c .before .before .before .before .before .before .before .before .before .before .before .before .before .before .before .before .before .before .args .counts) (c .before .before .before .before .before .before .before .before .before .before .before .before .before .before .before .before .before .before .pre) s opened in
+    wrote-as (listing-card format image (c .before .before .before .before .before .before .before .before .before .before .before .before .before .before .before .before .before .before .args .counts) (c .before .before .before .before .before .before .before .before .before .before .before .before .before .before .before .before .before .before .pre) s opened)
+    (wrote-append (omega (arith, c .before .before .before .before .before .before .before .before .before .before .before .before .before .before .before .before .before .before .good .1 .1 .1 .1 .0)) (c .before .before .before .before .before .before .before .before .before .before .before .before .before .before .put-counts .ensures) (c .before .before .list-words .ensures ((accepted format image s passed) .root) (words-hold format image s passed _ _ (c .before .before .before .before .before .before .before .before .before .before .open-card .ensures .1))))
 
 pub list-card-spec : {M : Type 1} → statement M
 list-card-spec =

@@ -4,25 +4,25 @@ use Rattle.page.proofs.page_laws.Statement.{statement}
 use Rattle.page.proofs.page_laws.Tie as tie
 
 returns : tie.Need-returns
-returns c =
+returns c format =
     record {
       of-put = λ always p bytes image h. record {
-        length-put = length-put always p bytes image h;
-        read-written = read-written always p bytes image h;
-        read-other = read-other always p bytes image h;
-        outside = outside always p bytes image h;
-        page-put = page-put always p bytes image h;
-        commute = λ also q more k n. writes-commute always p bytes also q more image h k n;
+        length-put = length-put format always p bytes image h;
+        read-written = read-written format always p bytes image h;
+        read-other = read-other format always p bytes image h;
+        outside = outside format always p bytes image h;
+        page-put = page-put format always p bytes image h;
+        commute = λ also q more k n. writes-commute format always p bytes also q more image h k n;
       };
       of-read = λ image p bytes e. record {
-        page-in = page-in image p bytes e;
-        page-length = page-length image p bytes e;
-        page-bytes = λ h. page-bytes image p bytes h e;
-        rewritten-same = rewritten-same image p bytes e;
+        page-in = page-in format image p bytes e;
+        page-length = page-length format image p bytes e;
+        page-bytes = λ h. page-bytes format image p bytes h e;
+        rewritten-same = rewritten-same format image p bytes e;
       };
-      page-past = page-past;
-      cluster-pages = cluster-pages;
-      page-local = page-local;
+      page-past = page-past format;
+      cluster-pages = cluster-pages format;
+      page-local = page-local format;
     }
 
 pub page-laws-spec : {M : Type 1} → statement M

@@ -1,55 +1,78 @@
--- In the image the lent part is raw page `page`; past its end there is no data.
+-- In the image the lent part is what it keeps of the page; past its end there is no data.
 use mathlib.Core.Path.{_≡_, refl, sym, ap, _∙_}
 use mathlib.Core.List.{List}
-use Prim.Native.Nat.{ℕ, _+_, _-_, _*_, _/_, _<_}
-use native.Mathlib.Omega.{arith}
-use lib.ListN.{length, take, drop}
-use Rattle.page.specs.Page.{readRaw, pageAt, pagesIn}
+use Prim.Native.Nat.{ℕ, _+_, _-_}
+use lib.ListN.{take, drop}
+use Rattle.page.specs.declared.Format.{Format}
+use Rattle.page.specs.Page.{pageAt, pageBytes, pageStart, readStored}
 use Rattle.page.proofs.Lists.{lent-part}
-use Rattle.page.proofs.Puts.{page-inside, page-outside}
+use Rattle.page.proofs.Puts.{Whole, counted-whole, lent-whole, page-inside, page-outside}
 use borrow.Author.Needs.{needs}
 use Rattle.page.proofs.read_page.Statement.{statement}
 use Rattle.page.proofs.read_page.Tie as tie
 
-page-lent : (image : List ℕ) (p : ℕ) → p < length image / 528 → pageAt image p ≡ readRaw (take (528 * p + 528 - 528 * p) (drop (528 * p) image))
-page-lent image p h = page-inside image p (omega arith) ∙ ap readRaw (sym (lent-part image (528 * p) 528))
+page-lent : (format : Format) (image : List ℕ) (p : ℕ) {from size : ℕ} → from ≡ pageStart format p → size ≡ pageBytes format → Whole format image p
+    → pageAt format image p ≡ readStored format (take (from + size - from) (drop from image))
+page-lent format image p e f h =
+    rw (e, f) (page-inside format image p h ∙ ap (readStored format) (sym (lent-part image (pageStart format p) (pageBytes format))))
 
-mul-from : tie.Need-mul-from
-mul-from c = search needs
+page-count-requires : tie.Need-page-count-requires
+page-count-requires c κs = search needs
+
+page-start-requires : tie.Need-page-start-requires
+page-start-requires c κs =
+    let a = c .before .before .before .args in
+    let h = counted-whole (a .format) (a .image .now) (a .page) (c .before .page-count .ensures .0) (search needs) in
+    search needs
+
+page-bytes-requires : tie.Need-page-bytes-requires
+page-bytes-requires c κs = search needs
 
 add-to : tie.Need-add-to
-add-to c = search needs
+add-to c =
+    let a = c .before .before .before .before .before .args in
+    let h = lent-whole (a .format) (a .image .now) (a .page) (c .before .before .before .page-count .ensures .0) (search needs) (c .before .page-start .ensures) (c .page-bytes .ensures) in
+    search needs
 
-sub-read-raw : tie.Need-sub-read-raw
-sub-read-raw c = search needs
+sub-read-stored : tie.Need-sub-read-stored
+sub-read-stored c = search needs
 
-part-read-raw-start : tie.Need-part-read-raw-start
-part-read-raw-start c = search needs
+part-read-stored-start : tie.Need-part-read-stored-start
+part-read-stored-start c = search needs
 
-part-read-raw-end : tie.Need-part-read-raw-end
-part-read-raw-end c = search needs
+part-read-stored-end : tie.Need-part-read-stored-end
+part-read-stored-end c =
+    let a = c .before .before .before .before .before .args in
+    let h = lent-whole (a .format) (a .image .now) (a .page) (c .before .before .before .page-count .ensures .0) (search needs) (c .before .page-start .ensures) (c .page-bytes .ensures) in
+    search needs
 
-read-raw-requires : tie.Need-read-raw-requires
-read-raw-requires c κs = search needs
+read-stored-requires : tie.Need-read-stored-requires
+read-stored-requires c κs = search needs
 
 returns : tie.Need-returns
 returns c =
-    rw (page-lent (c .before .before .before .before .before .args .image .now) (c .before .before .before .before .before .args .page) (search needs)) (c .read-raw .ensures)
+    let started = c .before .before .before .before in
+    let a = started .before .before .before .before .args in
+    rw (page-lent (a .format) (a .image .now) (a .page) (started .page-start .ensures) (c .before .before .before .page-bytes .ensures)
+    (counted-whole (a .format) (a .image .now) (a .page) (started .before .before .page-count .ensures .0) (search needs))) (c .read-stored .ensures)
 
 returns-2 : tie.Need-returns-2
-unfolding pagesIn
 returns-2 c =
-    rw (page-outside (c .before .before .args .image .now) (c .before .before .args .page) (search needs)) (record { readable = refl; buffer = refl })
+    let counted = c .before in
+    let a = counted .before .before .args in
+    rw (page-outside (a .format) (a .image .now) (a .page) (rw (← counted .page-count .ensures .0) (search needs))) (record { readable = refl; buffer = refl })
 
 pub read-page-spec : {M : Type 1} → statement M
 read-page-spec =
     tie.close
     (tie.spec
-    mul-from
+    page-count-requires
+    page-start-requires
+    page-bytes-requires
     add-to
-    sub-read-raw
-    part-read-raw-start
-    part-read-raw-end
-    read-raw-requires
+    sub-read-stored
+    part-read-stored-start
+    part-read-stored-end
+    read-stored-requires
     returns
     returns-2)

@@ -18,7 +18,7 @@ same-length c = search needs
 returns : tie.Need-returns
 returns c =
     let a = c .before .before .before .before .before .before .before .before .args in
-    c .before .before .write-page .ensures ∙ sym (put-changed (a .page) (a .bytes .now) (a .image .now) (sym (c .before .before .before .before .before .holds-data .ensures) ∙ not-true _ (c .before .before .before .before .if1 .taken)))
+    c .before .before .write-page .ensures ∙ sym (put-changed (a .format) (a .page) (a .bytes .now) (a .image .now) (sym (c .before .before .before .before .before .holds-data .ensures) ∙ not-true _ (c .before .before .before .before .if1 .taken)))
 
 same-length-2 : tie.Need-same-length-2
 same-length-2 c = search needs
@@ -26,7 +26,7 @@ same-length-2 c = search needs
 returns-2 : tie.Need-returns-2
 returns-2 c =
     let a = c .before .before .before .before .args in
-    sym (put-held (a .page) (a .bytes .now) (a .image .now) (sym (c .before .holds-data .ensures) ∙ not-false _ (c .if1 .left)))
+    sym (put-held (a .format) (a .page) (a .bytes .now) (a .image .now) (sym (c .before .holds-data .ensures) ∙ not-false _ (c .if1 .left)))
 
 pub rewrite-page-spec : {M : Type 1} → statement M
 rewrite-page-spec =

@@ -21,16 +21,16 @@ cast-count-card c = search needs
 count-card-requires : tie.Need-count-card-requires
 count-card-requires c κs =
     let e = sym (ap toldOpened (c .before .before .before .before .opened2 .given .1)) ∙ c .before .before .before .before .before .before .open-card .ensures .0 in
-    (table-room (c .before .before .before .before .before .before .before .before .before .args .image .now) (c .before .before .before .before .opened2 .given .0 .0) e _ _ (c .before .before .before .before .before .before .open-card .ensures .1), end-fits (c .before .before .before .before .before .before .before .before .before .args .image .now) (c .before .before .before .before .opened2 .given .0 .0) e)
+    (table-room (c .before .before .before .before .before .before .before .before .before .args .format) (c .before .before .before .before .before .before .before .before .before .args .image .now) (c .before .before .before .before .opened2 .given .0 .0) e _ _ (c .before .before .before .before .before .before .open-card .ensures .1), end-fits (c .before .before .before .before .before .before .before .before .before .args .format) (c .before .before .before .before .before .before .before .before .before .args .image .now) (c .before .before .before .before .opened2 .given .0 .0) e)
 
 returns : tie.Need-returns
 returns c =
-    check-bad (c .before .before .before .before .before .before .args .image .now) _ _ (sym (ap toldOpened (c .before .opened .given .1)) ∙ c .before .before .before .open-card .ensures .0)
+    check-bad (c .before .before .before .before .before .before .args .format) (c .before .before .before .before .before .before .args .image .now) _ _ (sym (ap toldOpened (c .before .opened .given .1)) ∙ c .before .before .before .open-card .ensures .0)
 
 returns-2 : tie.Need-returns-2
 returns-2 c =
     let e = sym (ap toldOpened (c .before .before .before .before .before .opened2 .given .1)) ∙ c .before .before .before .before .before .before .before .open-card .ensures .0 in
-    c .count-card .ensures ∙ check-card (c .before .before .before .before .before .before .before .before .before .before .args .image .now) (c .before .before .before .before .before .opened2 .given .0 .0) e _ (table-loaded (c .before .before .before .before .before .before .before .before .before .before .args .image .now) (c .before .before .before .before .before .opened2 .given .0 .0) e _ _ (c .before .before .before .before .before .before .before .open-card .ensures .1))
+    c .count-card .ensures ∙ check-card (c .before .before .before .before .before .before .before .before .before .before .args .format) (c .before .before .before .before .before .before .before .before .before .before .args .image .now) (c .before .before .before .before .before .opened2 .given .0 .0) e _ (table-loaded (c .before .before .before .before .before .before .before .before .before .before .args .format) (c .before .before .before .before .before .before .before .before .before .before .args .image .now) (c .before .before .before .before .before .opened2 .given .0 .0) e _ _ (c .before .before .before .before .before .before .before .open-card .ensures .1))
 
 pub check-in-spec : {M : Type 1} → statement M
 check-in-spec =

@@ -15,7 +15,7 @@ slice-aggregate-collect-free c = search needs
 collect-free-requires : tie.Need-collect-free-requires
 collect-free-requires c κs =
     let start = c .before .before .before .before .before .before .before in
-    let small = table-small (start .args .image .now) (start .args .table .now) (start .args .s) (start .pre .card .opened) (start .pre .card .long) in
+    let small = table-small (start .args .s .geometry .format) (start .args .image .now) (start .args .table .now) (start .args .s) (start .pre .card .opened) (start .pre .card .long) in
     (omega (arith, small), small)
 
 clusters-for-requires : tie.Need-clusters-for-requires

@@ -98,7 +98,7 @@ relink-requires c κs =
     let k : Counted (a .table .now) (a .list .now) (a .bytes .now) (a .t5) (a .new .dead) (own .before .before .word-at .result) (own .before .growth-by .result) (own .clusters-for .result) =
     record { entries-are = own .before .before .word-at .ensures; growing-is = own .before .growth-by .ensures; own-is = own .clusters-for .ensures; free = start .pre .0 } in
     let growing = own .before .growth-by .result in
-    (omega (arith, last-by k (reached .cluster-at .ensures), start .pre .1 .low-last), taken-low (a .image .now) (a .table .now) (a .s) (start .pre .1 .card .opened) (start .pre .1 .card .long) growing (growing + own .clusters-for .result - growing) (a .list .now) (start .pre .0 .listed))
+    (omega (arith, last-by k (reached .cluster-at .ensures), start .pre .1 .low-last), taken-low (a .s .geometry .format) (a .image .now) (a .table .now) (a .s) (start .pre .1 .card .opened) (start .pre .1 .card .long) growing (growing + own .clusters-for .result - growing) (a .list .now) (start .pre .0 .listed))
 
 put-down-requires : tie.Need-put-down-requires
 put-down-requires c κs =

@@ -10,7 +10,7 @@ write-pages-requires : tie.Need-write-pages-requires
 write-pages-requires c κs =
     let a = c .before .before .before .before .before .before .args in
     let pre = c .before .before .before .before .before .before .pre in
-    let most = opened-most (a .image .now) (a .s) (pre .card .opened) in
+    let most = opened-most (a .s .geometry .format) (a .image .now) (a .s) (pre .card .opened) in
     let both = entries-land (a .s .end) (a .growth .now) (a .taken .now) (a .bytes .now) (writeOf (a .directory)) (writeOf (a .own)) (pre .lands) in
     (pre .one, pre .filled, omega (arith, both .0, most), omega (arith, both .1, most))
 
@@ -19,7 +19,7 @@ store-table-requires c κs =
     let a = c .before .before .before .before .before .before .before .before .before .before .args in
     let pre = c .before .before .before .before .before .before .before .before .before .before .pre in
     let ws = writesOf (a .growth .now) (a .taken .now) (a .bytes .now) (writeOf (a .directory)) (writeOf (a .own)) in
-    (opened-most (a .image .now) (a .s) (pre .card .opened), pre .card .long, first-readable (a .image .now) (a .s) (pre .card .opened) ws (pre .lands) (c .before .before .before .write-pages .ensures), second-readable (a .image .now) (a .s) (pre .card .opened) ws (pre .lands) (c .before .before .before .write-pages .ensures))
+    (opened-most (a .s .geometry .format) (a .image .now) (a .s) (pre .card .opened), pre .card .long, first-readable (a .s .geometry .format) (a .image .now) (a .s) (pre .card .opened) ws (pre .lands) (c .before .before .before .write-pages .ensures), second-readable (a .s .geometry .format) (a .image .now) (a .s) (pre .card .opened) ws (pre .lands) (c .before .before .before .write-pages .ensures))
 
 same-length : tie.Need-same-length
 same-length c = search needs
@@ -29,7 +29,7 @@ returns c =
     let a = c .before .before .before .before .before .before .before .before .before .before .before .before .before .args in
     let pre = c .before .before .before .before .before .before .before .before .before .before .before .before .before .pre in
     let ws = writesOf (a .growth .now) (a .taken .now) (a .bytes .now) (writeOf (a .directory)) (writeOf (a .own)) in
-    stored (a .image .now) (a .s) (pre .card .opened) ws (pre .lands) (c .before .before .before .before .before .before .write-pages .ensures) (a .table .now) (c .before .before .store-table .ensures)
+    stored (a .s .geometry .format) (a .image .now) (a .s) (pre .card .opened) ws (pre .lands) (c .before .before .before .before .before .before .write-pages .ensures) (a .table .now) (c .before .before .store-table .ensures)
 
 pub put-down-spec : {M : Type 1} → statement M
 put-down-spec = tie.close (tie.spec write-pages-requires store-table-requires same-length returns)

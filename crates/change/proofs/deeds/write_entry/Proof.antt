@@ -25,7 +25,7 @@ returns c =
     let start = place .before .before in
     let a = start .args in
     let there : place .image-page .result ≡ imagePage (a .geometry) (a .t3 .at) = omega (arith, place .image-page .ensures, start .pre) in
-    c .before .before .write-page .ensures ∙ ap₂ (λ b p. put b p (a .t3 .page) (a .image .now)) (sym (c .before .before .before .before .before .before .if1 .taken)) there
+    c .before .before .write-page .ensures ∙ ap₂ (λ b p. put (a .geometry .format) b p (a .t3 .page) (a .image .now)) (sym (c .before .before .before .before .before .before .if1 .taken)) there
 
 same-length-2 : tie.Need-same-length-2
 same-length-2 c = search needs
@@ -36,7 +36,7 @@ returns-2 c =
     let start = place .before .before in
     let a = start .args in
     let there : place .image-page .result ≡ imagePage (a .geometry) (a .t3 .at) = omega (arith, place .image-page .ensures, start .pre) in
-    c .before .before .rewrite-page .ensures ∙ ap₂ (λ b p. put b p (a .t3 .page) (a .image .now)) (sym (c .before .before .before .before .before .before .if1 .left)) there
+    c .before .before .rewrite-page .ensures ∙ ap₂ (λ b p. put (a .geometry .format) b p (a .t3 .page) (a .image .now)) (sym (c .before .before .before .before .before .before .if1 .left)) there
 
 pub write-entry-spec : {M : Type 1} → statement M
 write-entry-spec =

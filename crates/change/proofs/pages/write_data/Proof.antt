@@ -10,11 +10,11 @@ use Rattle.change.proofs.pages.write_data.Statement.{statement}
 use Rattle.change.proofs.pages.write_data.Tie as tie
 
 abbrev Inv-loop : tie.InvT-loop
-Inv-loop image₀ geometry clusters bytes count k₀ image k =
+Inv-loop image₀ geometry clusters bytes format count k₀ image k =
     (k ≤ 2 * length clusters) × (length image ≡ length image₀) × (leftFrom geometry clusters bytes k image ≡ leftFrom geometry clusters bytes 0 image₀)
 
 abbrev μ-loop : tie.MeasureT-loop
-μ-loop image₀ geometry clusters bytes count k₀ image k = 2 * length clusters - k
+μ-loop image₀ geometry clusters bytes format count k₀ image k = 2 * length clusters - k
 
 mul-count : tie.Need-mul-count Inv-loop μ-loop
 mul-count c = search needs
@@ -60,7 +60,7 @@ loop-again c =
     let l = page .before .before .before .loop in
     let start = page .before .before .before .before .before .before .before in
     let a = start .args in
-    let there : place .image-page .result ≡ imagePage (a .geometry) (2 * getD (a .clusters .now) (l .k / 2) 0 + l .k % 2) = omega (arith, place .image-page .ensures, page .before .shared-slice-known3 .given (l .k / 2)) in
+    let there : place .image-page .result ≡ imagePage (a .geometry) (2 * getD (a .clusters .now) (l .k / 2) 0 + l .k % 2) = omega (arith, start .good .1 .0 .1, place .image-page .ensures, page .before .shared-slice-known3 .given (l .k / 2)) in
     (omega arith, search needs, one-less (a .geometry) (a .clusters .now) (a .bytes .now) (l .k) (l .image) (start .pre) (omega arith) (page .data-page .ensures) there (written .write-page .ensures) ∙ l .inv .2)
 
 same-length : tie.Need-same-length Inv-loop μ-loop

@@ -12,14 +12,14 @@ use Rattle.change.proofs.store.store_pages.Statement.{statement}
 use Rattle.change.proofs.store.store_pages.Tie as tie
 
 abbrev Inv-loop : tie.InvT-loop
-Inv-loop image₀ first second count table t₀ image t =
-    (t ≤ 2 * count) × (length image ≡ length image₀) × (image ≡ storeTable (tableNames (first ++ second) count) (length table) (λ c. getD table c 0) t image₀)
+Inv-loop format image₀ first second count table t₀ image t =
+    (t ≤ 2 * count) × (length image ≡ length image₀) × (image ≡ storeTable format (tableNames (first ++ second) count) (length table) (λ c. getD table c 0) t image₀)
 
 abbrev μ-loop : tie.MeasureT-loop
-μ-loop image₀ first second count table t₀ image t = 2 * count - t
+μ-loop format image₀ first second count table t₀ image t = 2 * count - t
 
 loop-holds : tie.Need-loop-holds Inv-loop μ-loop
-loop-holds c = (omega arith, refl, no-pages-yet _ _ _ _)
+loop-holds c = (omega arith, refl, no-pages-yet _ _ _ _ _)
 
 mul-loop : tie.Need-mul-loop Inv-loop μ-loop
 mul-loop c = search needs
@@ -40,7 +40,7 @@ loop-again : tie.Need-loop-again Inv-loop μ-loop
 loop-again c =
     let a = c .before .before .before .before .before .before .before .before .before .args in
     let l = c .before .before .before .before .before .before .loop in
-    (omega arith, search needs, page-stored (tableNames (a .first .now ++ a .second .now) (a .count)) (length (a .table .now)) (λ x. getD (a .table .now) x 0) (a .image .now) (l .t) (l .inv .2) (c .before .before .before .table-page .ensures) (c .before .before .store-page .ensures))
+    (omega arith, search needs, page-stored (a .format) (tableNames (a .first .now ++ a .second .now) (a .count)) (length (a .table .now)) (λ x. getD (a .table .now) x 0) (a .image .now) (l .t) (l .inv .2) (c .before .before .before .table-page .ensures) (c .before .before .store-page .ensures))
 
 same-length : tie.Need-same-length Inv-loop μ-loop
 same-length c = search needs

@@ -32,9 +32,9 @@ read-page-requires c κs = search needs
 returns-2 : tie.Need-returns-2
 unfolding openTable unless withPage
 returns-2 c =
-    let a = c .before .before .before .before .before .before .before .args in
+    let a = c .before .before .before .before .before .before .before .before .args in
     let range = sym (c .before .before .before .before .in-range .ensures) ∙ not-false _ (c .before .before .before .if1 .left) in
-    let none = read-none (pageAt (now (a .image)) (2 * a .s .indirect)) (c .before .read-page .ensures) (not-true _ (c .if2 .taken)) in
+    let none = read-none (pageAt (a .s .geometry .format) (now (a .image)) (2 * a .s .indirect)) (c .before .read-page .ensures) (not-true _ (c .if2 .taken)) in
     rw (range, none)
 
 add-read-page : tie.Need-add-read-page
@@ -43,16 +43,16 @@ add-read-page c = search needs
 read-page-requires-2 : tie.Need-read-page-requires-2
 read-page-requires-2 c κs = search needs
 
-add-t17 : tie.Need-add-t17
-add-t17 c = search needs
+add-t19 : tie.Need-add-t19
+add-t19 c = search needs
 
 returns-3 : tie.Need-returns-3
 unfolding openTable unless withPage
 returns-3 c =
-    let a = c .before .before .before .before .before .before .before .before .before .before .args in
+    let a = c .before .before .before .before .before .before .before .before .before .before .before .args in
     let range = sym (c .before .before .before .before .before .before .before .in-range .ensures) ∙ not-false _ (c .before .before .before .before .before .before .if1 .left) in
-    let one = read-some (pageAt (now (a .image)) (2 * a .s .indirect)) (c .before .before .before .before .read-page .ensures) (not-false _ (c .before .before .before .if2 .left)) in
-    let none = read-none (pageAt (now (a .image)) (2 * a .s .indirect + 1)) (c .before .read-page2 .ensures) (not-true _ (c .if3 .taken)) in
+    let one = read-some (pageAt (a .s .geometry .format) (now (a .image)) (2 * a .s .indirect)) (c .before .before .before .before .read-page .ensures) (not-false _ (c .before .before .before .if2 .left)) in
+    let none = read-none (pageAt (a .s .geometry .format) (now (a .image)) (2 * a .s .indirect + 1)) (c .before .read-page2 .ensures) (not-true _ (c .if3 .taken)) in
     rw (range, one, none)
 
 add-count : tie.Need-add-count
@@ -64,10 +64,10 @@ good-names-requires c κs = search needs
 returns-4 : tie.Need-returns-4
 unfolding openTable unless withPage
 returns-4 c =
-    let a = c .before .before .before .before .before .before .before .before .before .before .before .before .before .before .args in
+    let a = c .before .before .before .before .before .before .before .before .before .before .before .before .before .before .before .args in
     let range = sym (c .before .before .before .before .before .before .before .before .before .before .before .in-range .ensures) ∙ not-false _ (c .before .before .before .before .before .before .before .before .before .before .if1 .left) in
-    let one = read-some (pageAt (now (a .image)) (2 * a .s .indirect)) (c .before .before .before .before .before .before .before .before .read-page .ensures) (not-false _ (c .before .before .before .before .before .before .before .if2 .left)) in
-    let two = read-some (pageAt (now (a .image)) (2 * a .s .indirect + 1)) (c .before .before .before .before .before .read-page2 .ensures) (not-false _ (c .before .before .before .before .if3 .left)) in
+    let one = read-some (pageAt (a .s .geometry .format) (now (a .image)) (2 * a .s .indirect)) (c .before .before .before .before .before .before .before .before .read-page .ensures) (not-false _ (c .before .before .before .before .before .before .before .if2 .left)) in
+    let two = read-some (pageAt (a .s .geometry .format) (now (a .image)) (2 * a .s .indirect + 1)) (c .before .before .before .before .before .read-page2 .ensures) (not-false _ (c .before .before .before .before .if3 .left)) in
     let names = sym (c .before .good-names .ensures) ∙ not-true _ (c .if4 .taken) in
     rw (range, one, two, names)
 
@@ -77,10 +77,10 @@ judge-pages-requires c κs = search needs
 returns-5 : tie.Need-returns-5
 unfolding openTable unless withPage
 returns-5 c =
-    let a = c .before .before .before .before .before .before .before .before .before .before .before .before .before .before .before .before .before .args in
+    let a = c .before .before .before .before .before .before .before .before .before .before .before .before .before .before .before .before .before .before .args in
     let range = sym (c .before .before .before .before .before .before .before .before .before .before .before .before .before .before .in-range .ensures) ∙ not-false _ (c .before .before .before .before .before .before .before .before .before .before .before .before .before .if1 .left) in
-    let one = read-some (pageAt (now (a .image)) (2 * a .s .indirect)) (c .before .before .before .before .before .before .before .before .before .before .before .read-page .ensures) (not-false _ (c .before .before .before .before .before .before .before .before .before .before .if2 .left)) in
-    let two = read-some (pageAt (now (a .image)) (2 * a .s .indirect + 1)) (c .before .before .before .before .before .before .before .before .read-page2 .ensures) (not-false _ (c .before .before .before .before .before .before .before .if3 .left)) in
+    let one = read-some (pageAt (a .s .geometry .format) (now (a .image)) (2 * a .s .indirect)) (c .before .before .before .before .before .before .before .before .before .before .before .read-page .ensures) (not-false _ (c .before .before .before .before .before .before .before .before .before .before .if2 .left)) in
+    let two = read-some (pageAt (a .s .geometry .format) (now (a .image)) (2 * a .s .indirect + 1)) (c .before .before .before .before .before .before .before .before .read-page2 .ensures) (not-false _ (c .before .before .before .before .before .before .before .if3 .left)) in
     let names = sym (c .before .before .before .before .good-names .ensures) ∙ not-false _ (c .before .before .before .if4 .left) in
     c .judge-pages .ensures ∙ rw (range, one, two, names)
 
@@ -97,7 +97,7 @@ judge-table-spec =
     returns-2
     add-read-page
     read-page-requires-2
-    add-t17
+    add-t19
     returns-3
     add-count
     good-names-requires

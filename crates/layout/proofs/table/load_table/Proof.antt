@@ -16,11 +16,11 @@ use Rattle.layout.proofs.table.load_table.Statement.{statement}
 use Rattle.layout.proofs.table.load_table.Tie as tie
 
 module _ (image : List ℕ) (s : Superblock) (g : OpenFacts image s) (first second : List ℕ)
-    (one : first ≡ dataOf (pageAt image (2 * s .indirect))) (two : second ≡ dataOf (pageAt image (2 * s .indirect + 1))) where
-  found : (t : ℕ) → t < 2 * tableClusters (s .end) → isSome (pageAt image (tablePage (tableNames (first ++ second) (tableClusters (s .end))) t)) ≡ true
+    (one : first ≡ dataOf (pageAt (s .geometry .format) image (2 * s .indirect))) (two : second ≡ dataOf (pageAt (s .geometry .format) image (2 * s .indirect + 1))) where
+  found : (t : ℕ) → t < 2 * tableClusters (s .end) → isSome (pageAt (s .geometry .format) image (tablePage (tableNames (first ++ second) (tableClusters (s .end))) t)) ≡ true
   found t h = rw (one, two) (ap isSome (g .table-read t h))
 
-  loaded : (before after : List ℕ) → after ≡ upTo (tableWord image (tableNames (first ++ second) (tableClusters (s .end)))) (s .end) ++ drop (s .end) before
+  loaded : (before after : List ℕ) → after ≡ upTo (tableWord (s .geometry .format) image (tableNames (first ++ second) (tableClusters (s .end)))) (s .end) ++ drop (s .end) before
       → after ≡ tableOf image s ++ drop (s .end) before
   unfolding tableOf
   loaded before after e = rw (one, two) at e
@@ -45,8 +45,8 @@ cast-load-words c = search needs
 
 load-words-requires : tie.Need-load-words-requires
 load-words-requires c κs =
-    let a = c .before .before .before .before .before .before .before .before .before .before .before .args in
-    let g = open-facts (now (a .image)) (a .s) (c .before .before .before .before .before .before .before .before .before .before .before .pre .0) in
+    let a = c .before .before .before .before .before .before .before .before .before .before .before .before .args in
+    let g = open-facts (a .s .geometry .format) (now (a .image)) (a .s) (c .before .before .before .before .before .before .before .before .before .before .before .before .pre .0) in
     let one = c .before .before .before .before .before .before .read-page .ensures .buffer ∙ read-data _ _ (g .first-read) in
     let two = c .before .before .before .before .read-page2 .ensures .buffer ∙ read-data _ _ (g .second-read) in
     (omega (arith, g .room, g .most), omega arith, found (now (a .image)) (a .s) g _ _ one two)
@@ -56,8 +56,8 @@ same-length c = search needs
 
 returns : tie.Need-returns
 returns c =
-    let a = c .before .before .before .before .before .before .before .before .before .before .before .before .before .before .args in
-    let g = open-facts (now (a .image)) (a .s) (c .before .before .before .before .before .before .before .before .before .before .before .before .before .before .pre .0) in
+    let a = c .before .before .before .before .before .before .before .before .before .before .before .before .before .before .before .args in
+    let g = open-facts (a .s .geometry .format) (now (a .image)) (a .s) (c .before .before .before .before .before .before .before .before .before .before .before .before .before .before .before .pre .0) in
     let one = c .before .before .before .before .before .before .before .before .before .read-page .ensures .buffer ∙ read-data _ _ (g .first-read) in
     let two = c .before .before .before .before .before .before .before .read-page2 .ensures .buffer ∙ read-data _ _ (g .second-read) in
     loaded (now (a .image)) (a .s) g _ _ one two _ _ (c .before .before .load-words .ensures)

@@ -14,12 +14,12 @@ use Rattle.layout.proofs.table.load_words.Statement.{statement}
 use Rattle.layout.proofs.table.load_words.Tie as tie
 
 abbrev Inv-loop : tie.InvT-loop
-Inv-loop image first second end table₀ count page₀ c₀ table page c =
-    (c ≤ end) × (table ≡ filled (tableWord image (tableNames (first ++ second) (tableClusters end))) table₀ c) × (length table ≡ length table₀)
-    × ((c % 128 ≡ 0 → ⊥) → Holding image (tableNames (first ++ second) (tableClusters end)) c page)
+Inv-loop format image first second end table₀ count page₀ c₀ table page c =
+    (c ≤ end) × (table ≡ filled (tableWord format image (tableNames (first ++ second) (tableClusters end))) table₀ c) × (length table ≡ length table₀)
+    × ((c % 128 ≡ 0 → ⊥) → Holding format image (tableNames (first ++ second) (tableClusters end)) c page)
 
 abbrev μ-loop : tie.MeasureT-loop
-μ-loop image first second end table₀ count page₀ c₀ table page c = end - c
+μ-loop format image first second end table₀ count page₀ c₀ table page c = end - c
 
 add-count : tie.Need-add-count Inv-loop μ-loop
 add-count c = search needs
@@ -57,15 +57,16 @@ loop-again c =
     let a = start .args in
     let l = c .before .before .before .before .loop in
     let joined = c .before .before .if1 in
+    let format = a .format in
     let image = now (a .image) in
     let names = tableNames (now (a .first) ++ now (a .second)) (tableClusters (a .end)) in
-    let here : Holding image names (l .c) (joined .page) =
-    ⊎-elim (λ w. just-read image names (l .c) (w .1 .ensures) (start .pre .2 (l .c / 128) (omega arith)) (w .3 .ensures) (w .4))
+    let here : Holding format image names (l .c) (joined .page) =
+    ⊎-elim (λ w. just-read format image names (l .c) (w .1 .ensures) (start .pre .2 (l .c / 128) (omega arith)) (w .3 .ensures) (w .4))
     (λ w. w .1 ∙ l .inv .3 (w .0 .left)) (joined .came) in (
       omega arith,
-      word-more image names (now (a .table)) (l .table) (joined .page) (l .c) (omega arith) here (c .word-at .result) (c .word-at .ensures) (l .inv .1),
+      word-more format image names (now (a .table)) (l .table) (joined .page) (l .c) (omega arith) here (c .word-at .result) (c .word-at .ensures) (l .inv .1),
       simp length-set (l .inv .2),
-      still-held image names (now (a .table)) (l .table) (joined .page) (l .c) here,
+      still-held format image names (now (a .table)) (l .table) (joined .page) (l .c) here,
     )
 
 same-length : tie.Need-same-length Inv-loop μ-loop

@@ -23,21 +23,21 @@ stand-words-requires : tie.Need-stand-words-requires
 stand-words-requires c κs =
     let checked = c .before .before .before .before .before in
     let card = c .before .before .before in
-    words-fit (c .before .before .before .before .before .before .before .before .before .args .image .now) (card .opened2 .given .0 .0) (sym (ap toldOpened (card .opened2 .given .1)) ∙ checked .open-checked .ensures .0) _ _ (checked .open-checked .ensures .1)
+    words-fit (c .before .before .before .before .before .before .before .before .before .args .format) (c .before .before .before .before .before .before .before .before .before .args .image .now) (card .opened2 .given .0 .0) (sym (ap toldOpened (card .opened2 .given .1)) ∙ checked .open-checked .ensures .0) _ _ (checked .open-checked .ensures .1)
 
 returns : tie.Need-returns
 returns c =
     let a = c .before .before .before .before .before .before .before .before .args in
     let checked = c .before .before .before .before in
     let card = c .before .before in
-    stand-refused (a .image .now) (a .path .now) _ _ (checked .open-checked .ensures .1) (c .refused .result) (card .opened .given .0 .0) (c .refused .ensures) (sym (ap toldOpened (card .opened .given .1)) ∙ checked .open-checked .ensures .0)
+    stand-refused (a .format) (a .image .now) (a .path .now) _ _ (checked .open-checked .ensures .1) (c .refused .result) (card .opened .given .0 .0) (c .refused .ensures) (sym (ap toldOpened (card .opened .given .1)) ∙ checked .open-checked .ensures .0)
 
 returns-2 : tie.Need-returns-2
 returns-2 c =
     let a = c .before .before .before .before .before .before .before .before .before .before .args in
     let checked = c .before .before .before .before .before .before in
     let card = c .before .before .before .before in
-    stand-accepted (a .image .now) (a .path .now) _ _ (checked .open-checked .ensures .1) (c .stand-words .result) (card .opened2 .given .0 .0) (sym (ap toldOpened (card .opened2 .given .1)) ∙ checked .open-checked .ensures .0) (c .stand-words .ensures)
+    stand-accepted (a .format) (a .image .now) (a .path .now) _ _ (checked .open-checked .ensures .1) (c .stand-words .result) (card .opened2 .given .0 .0) (sym (ap toldOpened (card .opened2 .given .1)) ∙ checked .open-checked .ensures .0) (c .stand-words .ensures)
 
 pub stand-spec : {M : Type 1} → statement M
 stand-spec =

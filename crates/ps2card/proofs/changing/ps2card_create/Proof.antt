@@ -1,7 +1,24 @@
--- `ps2card::changing::ps2card_create` meets its contract: what `change::create` answers, in numbers; the image is as it left it.
+-- What `change::create` answers in the image's format, in numbers; the image is as it left it.
+use mathlib.Core.Path.{refl}
+use Rattle.change.specs.Changed.{changed, pathIn}
+use Rattle.model.specs.Change as is
+use Rattle.model.specs.Check.{fault}
+use Rattle.ps2card.proofs.FormatLaws.{known-so, unknown-so}
 use borrow.Author.Needs.{needs}
 use Rattle.ps2card.proofs.changing.ps2card_create.Statement.{statement}
 use Rattle.ps2card.proofs.changing.ps2card_create.Tie as tie
+
+format-of-requires : tie.Need-format-of-requires
+format-of-requires c κs = search needs
+
+enum-told : tie.Need-enum-told
+enum-told c = search needs
+
+tell-refusal-requires : tie.Need-tell-refusal-requires
+tell-refusal-requires c κs = search needs
+
+enum-known-named : tie.Need-enum-known-named
+enum-known-named c = search needs
 
 create-requires : tie.Need-create-requires
 create-requires c κs = search needs
@@ -9,13 +26,28 @@ create-requires c κs = search needs
 tell-answer-requires : tie.Need-tell-answer-requires
 tell-answer-requires c κs = search needs
 
+returns : tie.Need-returns
+returns c =
+    rw (unknown-so (record { answer = fault 1 0; image = c .before .before .before .before .before .before .before .before .args .image .now }) (λ f. changed f (is.create (pathIn (c .before .before .before .before .before .before .before .before .args .path .now)) (c .before .before .before .before .before .before .before .before .args .time .now) (c .before .before .before .before .before .before .before .before .args .bytes .now)) (c .before .before .before .before .before .before .before .before .args .image .now)) (c .before .before .before .before .before .before .before .before .args .format) (c .before .before .before .before .format-of .ensures) (c .before .before .enum-told .given .1)) (c .tell-refusal .ensures .0, (c .tell-refusal .ensures .1, refl))
+
 same-length : tie.Need-same-length
 same-length c = search needs
 
-returns : tie.Need-returns
-returns c =
+returns-2 : tie.Need-returns-2
+returns-2 c =
     let made = c .before .before .before .before .create .ensures in
-    rw (← (made .told)) (c .tell-answer .ensures .0, (c .tell-answer .ensures .1, made .left))
+    rw (known-so (record { answer = fault 1 0; image = c .before .before .before .before .before .before .before .before .before .before .before .before .before .before .args .image .now }) (λ f. changed f (is.create (pathIn (c .before .before .before .before .before .before .before .before .before .before .before .before .before .before .args .path .now)) (c .before .before .before .before .before .before .before .before .before .before .before .before .before .before .args .time .now) (c .before .before .before .before .before .before .before .before .before .before .before .before .before .before .args .bytes .now)) (c .before .before .before .before .before .before .before .before .before .before .before .before .before .before .args .image .now)) (c .before .before .before .before .before .before .before .before .before .before .before .before .before .before .args .format) (c .before .before .before .before .before .before .before .before .before .before .format-of .ensures) (c .before .before .before .before .before .before .before .before .named .given .1), ← (made .told)) (c .tell-answer .ensures .0, (c .tell-answer .ensures .1, made .left))
 
 pub ps2card-create-spec : {M : Type 1} → statement M
-ps2card-create-spec = tie.close (tie.spec create-requires tell-answer-requires same-length returns)
+ps2card-create-spec =
+    tie.close
+    (tie.spec
+    format-of-requires
+    enum-told
+    tell-refusal-requires
+    enum-known-named
+    create-requires
+    tell-answer-requires
+    returns
+    same-length
+    returns-2)

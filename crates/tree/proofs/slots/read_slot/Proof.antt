@@ -22,16 +22,16 @@ unfolding pageIn
 outside geometry count image page out h = rw (le-ltb page (2 * count) (omega arith)) (record { readable = refl; buffer = refl })
 
 inside : (geometry : Geometry) (count : ℕ) (image : List ℕ) (page p : ℕ) (out after : List ℕ) (r : Bool) → page / 2 < count → p ≡ imagePage geometry page
-    → Read (pageAt image p) out r after → Read (pageIn geometry count image page) out r after
+    → Read (pageAt (geometry .format) image p) out r after → Read (pageIn geometry count image page) out r after
 unfolding pageIn
 inside geometry count image page p out after r h e k = rw (lt-ltb page (2 * count) (omega arith), ← e) k
 
 -- a page past the image's last one is none, all the more where pages lie below it
-past : (geometry : Geometry) (count : ℕ) (image : List ℕ) (page n : ℕ) (out : List ℕ) → n ≡ pagesIn (length image) → n ≤ page
+past : (geometry : Geometry) (count : ℕ) (image : List ℕ) (page n : ℕ) (out : List ℕ) → n ≡ pagesIn (geometry .format) (length image) → n ≤ page
     → Read (pageIn geometry count image page) out false out
 unfolding pageIn
 past geometry count image page n out e h =
-    let gone : pageAt image (imagePage geometry page) ≡ none = page-past image (imagePage geometry page) (omega arith) in
+    let gone : pageAt (geometry .format) image (imagePage geometry page) ≡ none = page-past (geometry .format) image (imagePage geometry page) (omega arith) in
     rw gone (go (ltb page (2 * count)))
   where
     go : (b : Bool) → Read (cond b none none) out false out
@@ -60,7 +60,7 @@ returns-3 : tie.Need-returns-3
 returns-3 c =
     let a = c .before .before .before .before .before .before .before .args in
     let place = c .before .before in
-    inside (a .geometry) (a .count) (a .image .now) (a .page) (place .image-page .result) (a .out .now) (c .read-page .last .1 .1 .0) (c .read-page .result) (omega arith) (omega (arith, place .image-page .ensures, place .before .before .page-count .ensures)) (c .read-page .ensures)
+    inside (a .geometry) (a .count) (a .image .now) (a .page) (place .image-page .result) (a .out .now) (c .read-page .last .1 .1 .1 .0) (c .read-page .result) (omega arith) (omega (arith, place .image-page .ensures, place .before .before .page-count .ensures)) (c .read-page .ensures)
 
 pub read-slot-spec : {M : Type 1} → statement M
 read-slot-spec =

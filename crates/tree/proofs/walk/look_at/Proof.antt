@@ -21,14 +21,14 @@ image-page-requires c κs = search needs
 returns : tie.Need-returns
 returns c =
     let start = c .before .before .before .before .before .before .before in
-    look-unread _ _ _ _ _ (start .pre .1) _ _ (start .pre .0) (c .before .before .before .before .slot-page .ensures .0) _ _ (unread (c .before .before .read-slot .ensures) (not-true _ (c .before .if1 .taken))) (omega (arith, c .image-page .ensures, c .before .before .before .before .slot-page .ensures))
+    look-unread _ _ _ _ _ (start .pre .1) _ _ (start .pre .0) (c .before .before .before .before .slot-page .ensures .0) (start .args .geometry) _ (unread (c .before .before .read-slot .ensures) (not-true _ (c .before .if1 .taken))) (omega (arith, c .image-page .ensures, c .before .before .before .before .slot-page .ensures))
 
 is-live-requires : tie.Need-is-live-requires
 is-live-requires c κs = search needs
 
 returns-2 : tie.Need-returns-2
 returns-2 c =
-    look-dead _ _ _ _ _ (c .before .before .before .before .before .before .before .before .before .pre .1) _ _ (c .before .before .before .before .before .before .before .before .before .pre .0) (c .before .before .before .before .before .before .slot-page .ensures .0) _ _ (was-read (c .before .before .before .before .read-slot .ensures) (not-false _ (c .before .before .before .if1 .left))) (sym (c .before .is-live .ensures) ∙ not-true _ (c .if2 .taken))
+    look-dead _ _ _ _ _ (c .before .before .before .before .before .before .before .before .before .pre .1) _ _ (c .before .before .before .before .before .before .before .before .before .pre .0) (c .before .before .before .before .before .before .slot-page .ensures .0) (c .before .before .before .before .before .before .before .before .before .args .geometry) _ (was-read (c .before .before .before .before .read-slot .ensures) (not-false _ (c .before .before .before .if1 .left))) (sym (c .before .is-live .ensures) ∙ not-true _ (c .if2 .taken))
 
 entry-name-requires : tie.Need-entry-name-requires
 entry-name-requires c κs = search needs
@@ -44,14 +44,14 @@ look-by-requires c κs = search needs
 
 returns-3 : tie.Need-returns-3
 returns-3 c =
-    look-met _ _ _ _ _ (c .before .before .before .before .before .before .before .before .before .before .before .before .before .before .before .before .before .pre .1) _ _ (c .before .before .before .before .before .before .before .before .before .before .before .before .before .before .before .before .before .pre .0) (c .before .before .before .before .before .before .before .before .before .before .before .before .before .before .slot-page .ensures .0) _ _ (was-read (c .before .before .before .before .before .before .before .before .before .before .before .before .read-slot .ensures) (not-false _ (c .before .before .before .before .before .before .before .before .before .before .before .if1 .left))) (sym (c .before .before .before .before .before .before .before .before .before .is-live .ensures) ∙ not-false _ (c .before .before .before .before .before .before .before .before .if2 .left)) _ (c .before .before .before .before .meet .ensures .1 ∙ ap (λ n. hold (c .before .before .before .before .before .before .before .before .before .before .before .before .before .before .before .before .before .args .bits .now) (hashOf 0 n)) (c .before .before .before .before .before .entry-name .ensures)) _ (c .look-by .ensures ∙ ap lookBy (c .before .kind-of .ensures)) _ (c .before .before .before .before .meet .ensures .0 ∙ ap (λ n. held (c .before .before .before .before .before .before .before .before .before .before .before .before .before .before .before .before .before .args .bits .now) (hashOf 0 n)) (c .before .before .before .before .before .entry-name .ensures)) (not-true _ (c .before .before .before .if3 .taken))
+    look-met _ _ _ _ _ (c .before .before .before .before .before .before .before .before .before .before .before .before .before .before .before .before .before .pre .1) _ _ (c .before .before .before .before .before .before .before .before .before .before .before .before .before .before .before .before .before .pre .0) (c .before .before .before .before .before .before .before .before .before .before .before .before .before .before .slot-page .ensures .0) (c .before .before .before .before .before .before .before .before .before .before .before .before .before .before .before .before .before .args .geometry) _ (was-read (c .before .before .before .before .before .before .before .before .before .before .before .before .read-slot .ensures) (not-false _ (c .before .before .before .before .before .before .before .before .before .before .before .if1 .left))) (sym (c .before .before .before .before .before .before .before .before .before .is-live .ensures) ∙ not-false _ (c .before .before .before .before .before .before .before .before .if2 .left)) _ (c .before .before .before .before .meet .ensures .1 ∙ ap (λ n. hold (c .before .before .before .before .before .before .before .before .before .before .before .before .before .before .before .before .before .args .bits .now) (hashOf 0 n)) (c .before .before .before .before .before .entry-name .ensures)) _ (c .look-by .ensures ∙ ap lookBy (c .before .kind-of .ensures)) _ (c .before .before .before .before .meet .ensures .0 ∙ ap (λ n. held (c .before .before .before .before .before .before .before .before .before .before .before .before .before .before .before .before .before .args .bits .now) (hashOf 0 n)) (c .before .before .before .before .before .entry-name .ensures)) (not-true _ (c .before .before .before .if3 .taken))
 
 name-taken-requires : tie.Need-name-taken-requires
 name-taken-requires c κs = search needs
 
 returns-4 : tie.Need-returns-4
 returns-4 c =
-    look-taken _ _ _ _ _ (c .before .before .before .before .before .before .before .before .before .before .before .before .before .before .before .before .before .pre .1) _ _ (c .before .before .before .before .before .before .before .before .before .before .before .before .before .before .before .before .before .pre .0) (c .before .before .before .before .before .before .before .before .before .before .before .before .before .before .slot-page .ensures .0) _ _ (was-read (c .before .before .before .before .before .before .before .before .before .before .before .before .read-slot .ensures) (not-false _ (c .before .before .before .before .before .before .before .before .before .before .before .if1 .left))) (sym (c .before .before .before .before .before .before .before .before .before .is-live .ensures) ∙ not-false _ (c .before .before .before .before .before .before .before .before .if2 .left)) _ (c .before .before .before .before .meet .ensures .1 ∙ ap (λ n. hold (c .before .before .before .before .before .before .before .before .before .before .before .before .before .before .before .before .before .args .bits .now) (hashOf 0 n)) (c .before .before .before .before .before .entry-name .ensures)) _ (c .before .name-taken .ensures) (c .if4 .taken)
+    look-taken _ _ _ _ _ (c .before .before .before .before .before .before .before .before .before .before .before .before .before .before .before .before .before .pre .1) _ _ (c .before .before .before .before .before .before .before .before .before .before .before .before .before .before .before .before .before .pre .0) (c .before .before .before .before .before .before .before .before .before .before .before .before .before .before .slot-page .ensures .0) (c .before .before .before .before .before .before .before .before .before .before .before .before .before .before .before .before .before .args .geometry) _ (was-read (c .before .before .before .before .before .before .before .before .before .before .before .before .read-slot .ensures) (not-false _ (c .before .before .before .before .before .before .before .before .before .before .before .if1 .left))) (sym (c .before .before .before .before .before .before .before .before .before .is-live .ensures) ∙ not-false _ (c .before .before .before .before .before .before .before .before .if2 .left)) _ (c .before .before .before .before .meet .ensures .1 ∙ ap (λ n. hold (c .before .before .before .before .before .before .before .before .before .before .before .before .before .before .before .before .before .args .bits .now) (hashOf 0 n)) (c .before .before .before .before .before .entry-name .ensures)) _ (c .before .name-taken .ensures) (c .if4 .taken)
 
 kind-of-requires-2 : tie.Need-kind-of-requires-2
 kind-of-requires-2 c κs = search needs
@@ -61,7 +61,7 @@ look-by-requires-2 c κs = search needs
 
 returns-5 : tie.Need-returns-5
 returns-5 c =
-    look-free _ _ _ _ _ (c .before .before .before .before .before .before .before .before .before .before .before .before .before .before .before .before .before .before .before .before .pre .1) _ _ (c .before .before .before .before .before .before .before .before .before .before .before .before .before .before .before .before .before .before .before .before .pre .0) (c .before .before .before .before .before .before .before .before .before .before .before .before .before .before .before .before .before .slot-page .ensures .0) _ _ (was-read (c .before .before .before .before .before .before .before .before .before .before .before .before .before .before .before .read-slot .ensures) (not-false _ (c .before .before .before .before .before .before .before .before .before .before .before .before .before .before .if1 .left))) (sym (c .before .before .before .before .before .before .before .before .before .before .before .before .is-live .ensures) ∙ not-false _ (c .before .before .before .before .before .before .before .before .before .before .before .if2 .left)) _ (c .before .before .before .before .before .before .before .meet .ensures .1 ∙ ap (λ n. hold (c .before .before .before .before .before .before .before .before .before .before .before .before .before .before .before .before .before .before .before .before .args .bits .now) (hashOf 0 n)) (c .before .before .before .before .before .before .before .before .entry-name .ensures)) _ (c .look-by2 .ensures ∙ ap lookBy (c .before .kind-of2 .ensures)) _ (c .before .before .before .before .name-taken .ensures) (c .before .before .before .if4 .left)
+    look-free _ _ _ _ _ (c .before .before .before .before .before .before .before .before .before .before .before .before .before .before .before .before .before .before .before .before .pre .1) _ _ (c .before .before .before .before .before .before .before .before .before .before .before .before .before .before .before .before .before .before .before .before .pre .0) (c .before .before .before .before .before .before .before .before .before .before .before .before .before .before .before .before .before .slot-page .ensures .0) (c .before .before .before .before .before .before .before .before .before .before .before .before .before .before .before .before .before .before .before .before .args .geometry) _ (was-read (c .before .before .before .before .before .before .before .before .before .before .before .before .before .before .before .read-slot .ensures) (not-false _ (c .before .before .before .before .before .before .before .before .before .before .before .before .before .before .if1 .left))) (sym (c .before .before .before .before .before .before .before .before .before .before .before .before .is-live .ensures) ∙ not-false _ (c .before .before .before .before .before .before .before .before .before .before .before .if2 .left)) _ (c .before .before .before .before .before .before .before .meet .ensures .1 ∙ ap (λ n. hold (c .before .before .before .before .before .before .before .before .before .before .before .before .before .before .before .before .before .before .before .before .args .bits .now) (hashOf 0 n)) (c .before .before .before .before .before .before .before .before .entry-name .ensures)) _ (c .look-by2 .ensures ∙ ap lookBy (c .before .kind-of2 .ensures)) _ (c .before .before .before .before .name-taken .ensures) (c .before .before .before .if4 .left)
 
 pub look-at-spec : {M : Type 1} → statement M
 look-at-spec =
