@@ -1,6 +1,6 @@
 //! Calls straight on the caller's image, with no copy and no guard bytes, for taking times.
 
-use ps2card_sys::{ps2card_create, ps2card_read};
+use ps2card_sys::{ps2card_create, ps2card_read, ps2card_to_plain, ps2card_to_raw};
 use reader::time::Time;
 use reader::Format;
 
@@ -45,4 +45,17 @@ pub fn create(format: Format, image: &mut [u8], path: &[u8], time: &Time, bytes:
         )
     };
     number == 0
+}
+
+/// Whether the raw image was converted.
+pub fn to_plain(image: &[u8], out: &mut [u8]) -> bool {
+    let mut page = 0;
+    // SAFETY: as in `read`.
+    unsafe { ps2card_to_plain(image.as_ptr(), image.len(), out.as_mut_ptr(), out.len(), &mut page) == 0 }
+}
+
+/// Whether the plain image was converted.
+pub fn to_raw(image: &[u8], out: &mut [u8]) -> bool {
+    // SAFETY: as in `read`.
+    unsafe { ps2card_to_raw(image.as_ptr(), image.len(), out.as_mut_ptr(), out.len()) == 0 }
 }

@@ -1,5 +1,6 @@
-//! Whole calls on raw images side by side: check, reading every file, creating until the card is full; and the check by the number
-//! of files. `calls SIDE WORK` does one work once, for a tool that counts instructions.
+//! Whole calls side by side: the check in both formats, the conversions, reading every file of a raw image and creating
+//! until it is full; and the check by the number of files. `calls SIDE WORK` does one work once, for a tool that counts
+//! instructions.
 
 use std::env;
 use std::hint::black_box;
@@ -10,7 +11,7 @@ use compare::cards::{full, many_files};
 use compare::clock::{median, thread_time};
 use reader::build::usual_time;
 use reader::content::lines;
-use reader::Format::Raw;
+use reader::Format::{Plain, Raw};
 
 /// Bytes of each file that is created until the card is full.
 const CREATED: usize = 64 * 1024;
@@ -25,22 +26,31 @@ type Read = fn(&[u8], &[u8], &mut [u8]) -> Option<usize>;
 struct Side {
     name: &'static str,
     check: fn(&[u8]) -> bool,
+    check_plain: fn(&[u8]) -> bool,
     read: Read,
     create: fn(&mut [u8], &[u8], &[u8]) -> bool,
+    to_plain: fn(&[u8], &mut [u8]) -> bool,
+    to_raw: fn(&[u8], &mut [u8]) -> bool,
 }
 
 const SIDES: [Side; 2] = [
     Side {
         name: "library",
         check: |image| compare::check(Raw, image).is_ok(),
+        check_plain: |image| compare::check(Plain, image).is_ok(),
         read: |image, path, out| compare::in_place::read(Raw, image, path, 0, out),
         create: |image, path, bytes| compare::in_place::create(Raw, image, path, &usual_time(), bytes),
+        to_plain: compare::in_place::to_plain,
+        to_raw: compare::in_place::to_raw,
     },
     Side {
         name: "reader",
         check: |image| reader::check(Raw, image).is_ok(),
+        check_plain: |image| reader::check(Plain, image).is_ok(),
         read: |image, path, out| reader::read(Raw, image, path, 0, out).ok(),
         create: |image, path, bytes| reader::create(Raw, image, path, &usual_time(), bytes).is_ok(),
+        to_plain: |image, out| reader::to_plain(image, out).is_ok(),
+        to_raw: |image, out| reader::to_raw(image, out).is_ok(),
     },
 ];
 
@@ -50,10 +60,14 @@ fn main() -> ExitCode {
         [] => table(),
         [side, work] => {
             let Some(side) = SIDES.iter().find(|known| known.name == side) else { return ExitCode::from(2) };
-            let (image, files) = card();
+            let (mut image, files) = card();
+            let mut plain = plain_twin(&image);
             match work {
                 "nothing" => {}
                 "check" => assert!((side.check)(&image)),
+                "check-plain" => assert!((side.check_plain)(&plain)),
+                "to-plain" => assert!((side.to_plain)(&image, &mut plain)),
+                "to-raw" => assert!((side.to_raw)(&plain, &mut image)),
                 "read" => drop(read_all(side, &image, &files[..COUNTED])),
                 "create" => drop(create_some(side, &image, COUNTED)),
                 _ => return ExitCode::from(2),
@@ -72,6 +86,13 @@ fn card() -> (Vec<u8>, Vec<Vec<u8>>) {
     (image, files)
 }
 
+/// The same card without spare bytes, made by the reader.
+fn plain_twin(image: &[u8]) -> Vec<u8> {
+    let mut plain = vec![0; image.len() / Raw.page_bytes() * Plain.page_bytes()];
+    reader::to_plain(image, &mut plain).expect("every page of the full card is readable");
+    plain
+}
+
 fn read_all(side: &Side, image: &[u8], files: &[Vec<u8>]) -> usize {
     let mut buffer = vec![0; 1 << 20];
     files.iter().map(|path| (side.read)(image, path, &mut buffer).expect("every file is readable")).sum()
@@ -82,6 +103,13 @@ fn create_some(side: &Side, image: &[u8], most: usize) -> usize {
     let mut image = image.to_vec();
     let bytes = vec![0xA5; CREATED];
     (0..most).take_while(|number| (side.create)(&mut image, format!("/NEW{number}").as_bytes(), &bytes)).count()
+}
+
+/// What a conversion makes of an image.
+fn converted(convert: fn(&[u8], &mut [u8]) -> bool, image: &[u8], room: usize) -> Vec<u8> {
+    let mut out = vec![0; room];
+    assert!(convert(image, &mut out));
+    out
 }
 
 /// The median processor time of a work on each side, in turn.
@@ -110,7 +138,11 @@ fn row(name: &str, [library, reader]: [Duration; 2]) {
 fn table() {
     let (image, files) = card();
     println!("{:34} {:>14} {:>14} {:>15}", "", "library", "reader", "library/reader");
+    let plain = plain_twin(&image);
     row("check", timed(RUNS * 5, |side| (side.check)(&image)));
+    row("check, plain", timed(RUNS * 5, |side| (side.check_plain)(&plain)));
+    row("to plain", timed(RUNS, |side| converted(side.to_plain, &image, plain.len())));
+    row("to raw", timed(RUNS, |side| converted(side.to_raw, &plain, image.len())));
     row(&format!("read of all {} files", files.len()), timed(1, |side| read_all(side, &image, &files)));
     let created = create_some(&SIDES[1], &image, usize::MAX);
     row(&format!("create until full ({created} files)"), timed(RUNS, |side| create_some(side, &image, usize::MAX)));
