@@ -17,14 +17,15 @@
  *   are a card's in both. A raw page is 512 bytes of data and 16 spare bytes, with the codes that find wrong bits; a
  *   plain one is the 512 bytes alone, as emulators keep them. A cluster is two pages. Answers, refusals and their order
  *   are the same in both formats; but a plain page has no code, so that none is unreadable.
- * image, image_length: the image, of any content and length. A card has 32 to 8,192 clusters, in steps of 8: an image
+ * image, image_length: the image, of any content and length. A card has 32 to 65,536 clusters, in steps of 8: an image
  *   of any other length than 1,056 bytes for each of them, or 1,024 where it is plain, is refused. No length is right
  *   for a number that names no format. Every call but the two conversions checks the whole card first.
  * The check reads the superblock, the table and every directory, but NO FILE DATA: a card that it accepts may have
  *   files with unreadable pages. Only ps2card_read of all of a file's bytes shows that they can be read.
- * path, path_length: a path on the card as bytes, without a zero at the end: "/" alone, or one to four names, each
+ * path, path_length: a path on the card as bytes, without a zero at the end: "/" alone, or one to eight names, each
  *   after a "/". A name has 1 to 31 bytes from 0x20 to 0x7E, none of them * / or ?, and is neither "." nor "..". Names
- *   are compared whole: case and blanks count. Directories have one to three names, files one to four.
+ *   are compared whole: case and blanks count. Directories have one to seven names, files one to eight. So a path has
+ *   no more than 256 bytes.
  * time: 8 bytes, as an entry holds them: zero, second, minute, hour, day, month, year in two bytes, low one first; a
  *   date that the calendar has, of the years 1980 to 9999. Cards hold Japan's time (UTC+9, all year), whatever the
  *   console's own zone; the library takes the bytes as they are and asks no clock.
@@ -33,10 +34,10 @@
  * they were; only number 2 writes the unreadable page's index in the image to page, and nothing else writes to page.
  * A page has the same index in a raw image and in its plain one.
  *
- * Stack: a bound on x86-64 for a function's frame and all below it. Measured by painting the stack, on cards with
- * directories on every level: 208 KiB for check, find, step and read, 240 KiB for list and the changes, 2 KiB for the
- * conversions; the bound leaves room for another compiler, and a test sees that it holds. The size of the card and the
- * number of its entries do not matter.
+ * Stack: a bound on x86-64 for a function's frame and all below it; a thread of 2 MiB runs every call. Measured by
+ * painting the stack, on cards with directories on every level: 1,103 KiB for the calls that check the card,
+ * 2 KiB for the conversions; the bound leaves room for another compiler, and a test sees that it holds. The size of the
+ * card and the number of its entries do not matter.
  */
 #ifndef PS2CARD_H
 #define PS2CARD_H
@@ -44,17 +45,19 @@
 #include <stddef.h>
 #include <stdint.h>
 
-#define PS2CARD_VERSION "0.2.0"
+#define PS2CARD_VERSION "0.3.0"
 /* 10,000 for each major, 100 for each minor version, and the patch. */
-#define PS2CARD_VERSION_NUMBER 200
+#define PS2CARD_VERSION_NUMBER 300
 
+/* Clusters of the largest card. */
+#define PS2CARD_MOST_CLUSTERS 65536
 /* Bytes of a cluster with its spare bytes, and of the largest card. A plain one is shorter, so that MOST_BYTES is room
  * for either. */
 #define PS2CARD_CLUSTER_BYTES 1056
-#define PS2CARD_MOST_BYTES (8192 * PS2CARD_CLUSTER_BYTES)
+#define PS2CARD_MOST_BYTES (PS2CARD_MOST_CLUSTERS * PS2CARD_CLUSTER_BYTES)
 /* The same without spare bytes. */
 #define PS2CARD_PLAIN_CLUSTER_BYTES 1024
-#define PS2CARD_PLAIN_MOST_BYTES (8192 * PS2CARD_PLAIN_CLUSTER_BYTES)
+#define PS2CARD_PLAIN_MOST_BYTES (PS2CARD_MOST_CLUSTERS * PS2CARD_PLAIN_CLUSTER_BYTES)
 
 /* The formats of an image. */
 enum ps2card_format {
@@ -74,7 +77,7 @@ enum ps2card_refusal {
     PS2CARD_BAD_TABLE_NAME = 5,  /* the name of a table cluster breaks its rule */
     PS2CARD_BAD_CHAIN = 6,       /* a chain of clusters isn't sound */
     PS2CARD_BAD_ENTRY = 7,       /* a directory entry breaks its rule */
-    PS2CARD_BAD_PATH = 8,        /* the path is malformed, the root in a change, or four names for a new directory */
+    PS2CARD_BAD_PATH = 8,        /* the path is malformed, the root in a change, or eight names for a new directory */
     PS2CARD_BAD_TIME = 14,       /* the time is invalid */
     PS2CARD_ABSENT = 9,          /* a name on the way is absent, or the last one where it must exist */
     PS2CARD_WRONG_KIND = 10,     /* a file stands where a directory is needed, or the reverse */
@@ -106,14 +109,14 @@ extern "C" {
 
 /* Checks the card: its clusters, and how many of the allocatable ones are free, reached by a chain, and neither.
  * Refusals: 1 to 7. Untouched on a refusal: clusters, free, reached, orphaned.
- * Stack: at most 224 KiB. */
+ * Stack: at most 1,200 KiB. */
 uint32_t ps2card_check(uint32_t format, const uint8_t *image, size_t image_length, size_t *page, uint32_t *clusters,
                        size_t *free, size_t *reached, size_t *orphaned);
 
 /* Finds the entry at a path, for the root its first one, and hands out its fields: ps2card_find_entry below has them as
  * a struct.
  * Refusals: 1 to 10. Untouched on a refusal: every field.
- * Stack: at most 224 KiB. */
+ * Stack: at most 1,200 KiB. */
 uint32_t ps2card_find(uint32_t format, const uint8_t *image, size_t image_length, const uint8_t *path,
                       size_t path_length, size_t *page, uint16_t *mode, uint32_t *length, uint8_t *created,
                       uint32_t *first, uint32_t *dir_entry, uint8_t *modified, uint32_t *attribute, uint8_t *name);
@@ -122,7 +125,7 @@ uint32_t ps2card_find(uint32_t format, const uint8_t *image, size_t image_length
  * fields are handed out, by ps2card_step_entry below as a struct. At the end found is 0, and at and the fields stay as
  * they were.
  * Refusals: 1 to 10. Untouched on a refusal: found, at and every field.
- * Stack: at most 224 KiB. */
+ * Stack: at most 1,200 KiB. */
 uint32_t ps2card_step(uint32_t format, const uint8_t *image, size_t image_length, const uint8_t *path,
                       size_t path_length, uint32_t slot, size_t *page, uint32_t *found, uint32_t *at, uint16_t *mode,
                       uint32_t *length, uint8_t *created, uint32_t *first, uint32_t *dir_entry, uint8_t *modified,
@@ -131,7 +134,7 @@ uint32_t ps2card_step(uint32_t format, const uint8_t *image, size_t image_length
 /* Copies a file's bytes from an offset on into out, until the file or out ends; count tells how many. The rest of out
  * stays as it was.
  * Refusals: 1 to 10, 15; 2 also for a page with a byte to copy. Untouched on a refusal: out and count.
- * Stack: at most 224 KiB. */
+ * Stack: at most 1,200 KiB. */
 uint32_t ps2card_read(uint32_t format, const uint8_t *image, size_t image_length, const uint8_t *path,
                       size_t path_length, size_t offset, uint8_t *out, size_t out_length, size_t *page, size_t *count);
 
@@ -146,37 +149,37 @@ uint32_t ps2card_read(uint32_t format, const uint8_t *image, size_t image_length
  *   f BYTES PATH         a file
  * the last two for each entry in tree order: slot order, a directory before its inside; the root has no line. On a
  * refusal the text is one line, "refused N" or "refused 2 PAGE".
- * Stack: at most 256 KiB. */
+ * Stack: at most 1,200 KiB. */
 size_t ps2card_list(uint32_t format, const uint8_t *image, size_t image_length, uint8_t *out, size_t out_length);
 
 /* Creates a file with these bytes at a path; both its times become the given one.
  * Refusals: 1 to 12, 14. Untouched on a refusal: the whole image.
- * Stack: at most 256 KiB. */
+ * Stack: at most 1,200 KiB. */
 uint32_t ps2card_create(uint32_t format, uint8_t *image, size_t image_length, const uint8_t *path, size_t path_length,
                         const uint8_t *time, const uint8_t *bytes, size_t bytes_length, size_t *page);
 
 /* Replaces the bytes of the file at a path; its time of change becomes the given one. The new bytes need room beside
  * the old ones.
  * Refusals: 1 to 10, 12, 14. Untouched on a refusal: the whole image.
- * Stack: at most 256 KiB. */
+ * Stack: at most 1,200 KiB. */
 uint32_t ps2card_replace(uint32_t format, uint8_t *image, size_t image_length, const uint8_t *path, size_t path_length,
                          const uint8_t *time, const uint8_t *bytes, size_t bytes_length, size_t *page);
 
 /* Deletes the file at a path.
  * Refusals: 1 to 10. Untouched on a refusal: the whole image.
- * Stack: at most 256 KiB. */
+ * Stack: at most 1,200 KiB. */
 uint32_t ps2card_delete(uint32_t format, uint8_t *image, size_t image_length, const uint8_t *path, size_t path_length,
                         size_t *page);
 
-/* Makes an empty directory at a path of one to three names; its times become the given one.
+/* Makes an empty directory at a path of one to seven names; its times become the given one.
  * Refusals: 1 to 12, 14. Untouched on a refusal: the whole image.
- * Stack: at most 256 KiB. */
+ * Stack: at most 1,200 KiB. */
 uint32_t ps2card_make_dir(uint32_t format, uint8_t *image, size_t image_length, const uint8_t *path, size_t path_length,
                           const uint8_t *time, size_t *page);
 
 /* Removes the directory at a path, which must have no live entry after its first two.
  * Refusals: 1 to 10, 13. Untouched on a refusal: the whole image.
- * Stack: at most 256 KiB. */
+ * Stack: at most 1,200 KiB. */
 uint32_t ps2card_remove_dir(uint32_t format, uint8_t *image, size_t image_length, const uint8_t *path,
                             size_t path_length, size_t *page);
 

@@ -4,15 +4,18 @@ use std::fmt;
 
 use ps2card_sys as calls;
 
-/// Clusters of the standard card of 8 MB, which is the largest.
-pub const STANDARD_CLUSTERS: usize = 8192;
+/// Clusters of the standard card of 8 MB.
+pub const STANDARD_CLUSTERS: usize = 8_192;
+
+/// Clusters of the largest card, of 64 MiB.
+pub const MOST_CLUSTERS: usize = 65_536;
 
 /// Bytes of the largest card in either format: the raw one.
 pub const MOST_BYTES: usize = Format::Raw.most_bytes();
 
 /// Whether a card may have so many clusters.
 pub const fn allowed_clusters(clusters: usize) -> bool {
-    clusters.is_multiple_of(8) && 32 <= clusters && clusters <= STANDARD_CLUSTERS
+    clusters.is_multiple_of(8) && 32 <= clusters && clusters <= MOST_CLUSTERS
 }
 
 /// How an image holds its pages.
@@ -55,7 +58,7 @@ impl Format {
 
     /// Bytes of the largest card.
     pub const fn most_bytes(self) -> usize {
-        STANDARD_CLUSTERS * self.cluster_bytes()
+        MOST_CLUSTERS * self.cluster_bytes()
     }
 
     /// Whether an image of so many bytes has the length of a card.

@@ -47,7 +47,7 @@ impl Card {
 /// Where the parts lie: superblock, indirect cluster, table, allocatable clusters, backup blocks.
 struct Layout {
     clusters: usize,
-    /// How many table clusters.
+    /// How many table clusters: at most 255, one less than the indirect cluster has words.
     table: usize,
     alloc_end: usize,
 }

@@ -42,11 +42,11 @@ mod refusal;
 mod stamp;
 
 /// Bytes of stack that a call of the library takes at most, by the bounds that `include/ps2card.h` gives.
-pub const STACK: usize = 256 * 1024;
+pub const STACK: usize = 1_200 * 1024;
 
 pub use card::{Card, CardMut, CardRef, Counts};
 pub use entry::{Entry, Kind};
-pub use format::{allowed_clusters, Format, MOST_BYTES, STANDARD_CLUSTERS};
+pub use format::{allowed_clusters, Format, MOST_BYTES, MOST_CLUSTERS, STANDARD_CLUSTERS};
 pub use listing::Line;
 pub use refusal::Refusal;
 pub use stamp::Stamp;

@@ -5,6 +5,11 @@ use ps2card_sys as calls;
 use crate::card::verdict;
 use crate::{Card, Counts, Entry, Refusal};
 
+/// Bytes of the longest line of an entry in the listing: kind, number and path, two blanks and the line's end.
+const MOST_LINE: usize = 1 + 10 + 256 + 3;
+/// Room for the lines of the counts.
+const COUNT_LINES: usize = 64;
+
 impl<B: AsRef<[u8]>> Card<B> {
     /// The check, with its counts. It reads no file data: only a read of a file tells whether its bytes are readable.
     ///
@@ -183,8 +188,9 @@ impl<B: AsRef<[u8]>> Card<B> {
     /// # Ok::<(), ps2card::Refusal>(())
     /// ```
     pub fn list(&self) -> Result<Vec<u8>, Refusal> {
-        // A line takes less than a third of the page that its entry has for itself: one call will do, so one check.
-        let mut text = vec![0; self.image().len() / 3 + 64];
+        // No entry without a page of its own: one call will do, so one check. What is longer than a card is refused.
+        let pages = self.image().len().min(self.format.most_bytes()) / self.format.page_bytes();
+        let mut text = vec![0; COUNT_LINES + pages * MOST_LINE];
         let length = self.list_into(&mut text);
         if length > text.len() {
             text.resize(length, 0);

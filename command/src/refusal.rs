@@ -121,7 +121,7 @@ impl Refusal {
     pub fn words(self) -> &'static str {
         match self {
             Refusal::BadLength => {
-                "this is not a card image of the format asked for: a raw one has 1,056 bytes for each of 32 to 8,192 clusters, in steps of 8, a plain one, without spare bytes, 1,024"
+                "this is not a card image of the format asked for: a raw one has 1,056 bytes for each of 32 to 65,536 clusters, in steps of 8, a plain one, without spare bytes, 1,024"
             }
             Refusal::UnreadablePage(_) => "this page of the card is damaged beyond correction and is needed",
             Refusal::BadText => "the card is not formatted as a PlayStation 2 memory card",
@@ -129,7 +129,7 @@ impl Refusal {
             Refusal::BadTableName => "the card's list of allocation table clusters is wrong",
             Refusal::BadChain => "the clusters of a file or directory do not hang together",
             Refusal::BadEntry => "a directory entry on the card is wrong",
-            Refusal::BadPath => "this path cannot be used: a path is / or up to four names each after /, such as /SAVE/icon.sys, a name up to 31 plain characters without * and ?; / itself cannot be changed, and a directory has at most three names",
+            Refusal::BadPath => "this path cannot be used: a path is / or up to eight names each after /, such as /SAVE/icon.sys, a name up to 31 plain characters without * and ?; / itself cannot be changed, and a directory has at most seven names",
             Refusal::Absent => "nothing of that name is on the card",
             Refusal::WrongKind => "a file stands where a directory is needed, or a directory where a file is",
             Refusal::Exists => "something of that name is already on the card",

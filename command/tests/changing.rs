@@ -80,7 +80,7 @@ fn refusals_of(format: Format) {
     let refusals: [(&[&str], u8); 16] = [
         (&["create", "card", "/", "file"], 8),
         (&["create", "card", "x", "file"], 8),
-        (&["mkdir", "card", "/a/b/c/d"], 8),
+        (&["mkdir", "card", "/a/b/c/d/e/f/g/h"], 8),
         (&["rmdir", "card", "/"], 8),
         (&["mkdir", "card", "/x", "--stamp", "2100-02-29T00:00:00"], 14),
         (&["create", "card", "/x", "file", "--stamp", "1979-12-31T23:59:59"], 14),

@@ -73,7 +73,7 @@ fn nothing_but_lengths_and_pages() {
             let _ = judge(format, &card.image, needed(format, &card.image));
         }
         let mut rng = Rng::new(23);
-        for clusters in [32, 40, 256, 8192] {
+        for clusters in [32, 40, 256, 8_192, 65_536] {
             let bytes = rng.bytes(clusters * format.cluster_bytes());
             assert_eq!(judge(format, &bytes, needed(format, &bytes)).is_ok(), format == Plain);
         }
@@ -94,7 +94,7 @@ fn order() {
             assert_eq!(judge(format, &image, length), Err(23), "{length}");
             assert_eq!(judge(format, &image[1..], length), Err(1), "{length}");
         }
-        for length in [0, 1, 24, 31, 36, 8_200] {
+        for length in [0, 1, 24, 31, 36, 65_537, 65_544] {
             let clusters = vec![0; length * format.cluster_bytes()];
             assert_eq!(judge(format, &clusters, needed(format, &clusters)), Err(1), "{length}");
         }

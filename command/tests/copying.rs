@@ -6,7 +6,7 @@ use std::fs::{self, File};
 use std::os::unix::fs::symlink;
 
 use common::{Folder, Outcome, USUAL};
-use reader::build::{self, random};
+use reader::build::{self, random, Assembly};
 use reader::Format::{Plain, Raw};
 use reader::{Format, Piece, Refusal};
 
@@ -132,7 +132,7 @@ fn put_all_or_nothing_of(format: Format) {
     let folder = Folder::of(format);
     let image = build::bench(format);
     folder.write("card", &image);
-    fs::create_dir_all(folder.path("SAVE/1/2/3")).expect("folders");
+    fs::create_dir_all(folder.path("SAVE/1/2/3/4/5/6/7")).expect("folders");
     folder.write("SAVE/a", &[1; 10_000]);
     let refused = |number: u8, at: &str| {
         let given = folder.run(&["put", "card", "SAVE"]);
@@ -140,7 +140,7 @@ fn put_all_or_nothing_of(format: Format) {
         given.refused(Refusal::number(number));
         assert_eq!(folder.read("card"), image);
     };
-    refused(8, "/SAVE/1/2/3");
+    refused(8, "/SAVE/1/2/3/4/5/6/7");
     fs::remove_dir_all(folder.path("SAVE/1")).expect("removed");
     folder.write("SAVE/z", &[1; 20_000]);
     refused(12, "/SAVE/z");
@@ -207,20 +207,20 @@ fn put_as() {
 }
 
 /// What no card can hold is refused before more than that is read: with memory for a few cards only, a file without an
-/// end, a file of a terabyte, and a thousand files of 8 MB.
+/// end, a file of a terabyte, and a thousand files of 64 MB.
 #[test]
 fn put_reads_no_more_than_a_card_holds() {
     let folder = Folder::new();
-    let image = build::standard(Raw);
+    let image = Assembly::with_root(Raw, common::largest()).finish();
     folder.write("card", &image);
     let sparse = |name: &str, length: u64| File::create(folder.path(name)).and_then(|file| file.set_len(length));
     sparse("huge", 1 << 40).expect("a sparse file");
     fs::create_dir(folder.path("MANY")).expect("a folder");
-    (0..1000).for_each(|number| sparse(&format!("MANY/{number:03}"), 8_000_000).expect("a sparse file"));
+    (0..1000).for_each(|number| sparse(&format!("MANY/{number:03}"), 64_000_000).expect("a sparse file"));
     // It would be refused where it is looked at, and it is not.
     assert!(folder.tool("mkfifo", &["MANY/zzz"]).status.success());
     let refused = |source: &str, at: &str| {
-        let script = "ulimit -v 200000; exec \"$@\"";
+        let script = "ulimit -v 600000; exec \"$@\"";
         let words = ["-c", script, "sh", env!("CARGO_BIN_EXE_ps2card"), "put", "card", source, "--as", "X"];
         let given = Outcome::of(folder.tool("sh", &words));
         assert!(given.err.ends_with(&format!(" (card: {at})\n")), "{given:?}");

@@ -4,12 +4,13 @@
 mod c;
 mod common;
 
+use std::collections::BTreeMap;
 use std::fmt::Write;
 
 use c::Way;
 use common::Folder;
-use ps2card::{Card, Format, Refusal, Stamp, MOST_BYTES};
-use reader::build;
+use ps2card::{Card, Format, Refusal, Stamp, MOST_BYTES, MOST_CLUSTERS};
+use reader::build::{self, Assembly};
 
 fn header() -> &'static str {
     include_str!("../../include/ps2card.h")
@@ -94,9 +95,11 @@ fn constants() {
     for (format, prefix) in [(Format::Raw, "PS2CARD_"), (Format::Plain, "PS2CARD_PLAIN_")] {
         let cluster: usize = defined(&format!("{prefix}CLUSTER_BYTES")).parse().expect("a number");
         assert_eq!(cluster, format.cluster_bytes());
-        let most = format!("({} * {prefix}CLUSTER_BYTES)", format.most_bytes() / cluster);
+        let most = format!("(PS2CARD_MOST_CLUSTERS * {prefix}CLUSTER_BYTES)");
         assert_eq!(defined(&format!("{prefix}MOST_BYTES")), most);
+        assert_eq!(format.most_bytes(), MOST_CLUSTERS * cluster);
     }
+    assert_eq!(defined("PS2CARD_MOST_CLUSTERS"), MOST_CLUSTERS.to_string());
     assert_eq!(MOST_BYTES, Format::Raw.most_bytes().max(Format::Plain.most_bytes()));
 }
 
@@ -144,34 +147,77 @@ const KNOWN: [Refusal; 16] = [
 fn promised(name: &str) -> usize {
     let (before, _) = header().split_once(&format!(" ps2card_{name}(")).expect("a declaration");
     let figure = before.rsplit("Stack: at most ").next().expect("a figure");
-    let kibibytes: usize = figure.split(" KiB.").next().expect("a figure").parse().expect("a number");
+    let kibibytes: usize = figure.split(" KiB.").next().expect("a figure").replace(',', "").parse().expect("a number");
     1024 * kibibytes
 }
 
-/// No function uses more stack than the header says, on full and on deep cards of both formats.
+/// What builds a card.
+type Build = fn(reader::Format) -> Vec<u8>;
+
+/// Puts directories on every level, files in the deepest one and an empty directory beside it.
+fn deepen(format: reader::Format, image: &mut [u8]) {
+    let time = build::usual_time();
+    let deepest = b"/a/b/c/d/e/f/g";
+    for path in (1..=7).map(|names| &deepest[..2 * names]).chain([&b"/a/b/c/d/e/f/empty"[..]]) {
+        reader::make_dir(format, image, path, &time).expect("room");
+    }
+    reader::create(format, image, b"/a/b/c/d/e/f/g/file", &time, &[1; 5000]).expect("room");
+    reader::create(format, image, b"/a/b/c/d/e/f/g/filf", &time, &[]).expect("room");
+}
+
+/// Gives the last file in the deepest directory the name of the one before it, so that the check compares them there.
+fn same_name(format: reader::Format, image: &mut [u8]) {
+    let mut place = None;
+    let checked = reader::tree::Checked::of(format, image).expect("accepted");
+    reader::content::visit(&checked.root, b"/", &mut |path, node| {
+        if path == b"/a/b/c/d/e/f/g/filf" {
+            place = Some(node.page);
+        }
+    });
+    let page = place.expect("a file");
+    let mut data = reader::page::read(format, image, page).expect("readable");
+    data[0x43] = b'e';
+    reader::page::write(format, image, page, &data);
+}
+
+/// No function uses more stack than the header says: on full and on deep cards, small and of the largest size, accepted
+/// and refused at the deepest entry, in both formats.
 #[test]
 fn stack() {
     let folder = Folder::new();
     let program = c::compiled(&folder, c::test("stack"), Way::C99);
-    let time = build::usual_time();
-    let cards = |format| [build::standard, build::crowded, build::bench].map(|card| (format, card(format)));
-    for (format, mut image) in reader::Format::BOTH.into_iter().flat_map(cards) {
-        for path in [&b"/a"[..], b"/a/b", b"/a/b/c", b"/a/b/empty"] {
-            reader::make_dir(format, &mut image, path, &time).expect("room");
+    let cards: [(&str, Build); 6] = [
+        ("bench", build::bench),
+        ("standard", build::standard),
+        ("crowded", build::crowded),
+        ("largest", |format| Assembly::with_root(format, common::largest()).finish()),
+        ("60,000 entries", |format| common::converted(format, &common::crowd(60_000))),
+        ("a name twice", build::standard),
+    ];
+    let mut most = BTreeMap::new();
+    for (format, (card, make)) in reader::Format::BOTH.into_iter().flat_map(|format| cards.map(|card| (format, card))) {
+        let mut image = make(format);
+        deepen(format, &mut image);
+        if card == "a name twice" {
+            same_name(format, &mut image);
         }
-        reader::create(format, &mut image, b"/a/b/c/file", &time, &[1; 5000]).expect("room");
-        let small = image.len() < 100_000;
         folder.write("card", &image);
         let words: &[&str] = if format == reader::Format::Plain { &["--plain", "card"] } else { &["card"] };
         let text = program.run(&folder, words).text();
-        print!("{format:?}\n{text}");
         assert_eq!(text.lines().count(), 12);
         for line in text.lines() {
             let words: Vec<&str> = line.split(' ').collect();
             let (name, number, used) = (words[0], words[1], words[2].parse::<usize>().expect("a number"));
-            let no_room = small && ["create", "replace"].contains(&name);
-            assert_eq!(number, if no_room { "12" } else { "0" }, "{line}");
-            assert!(used <= promised(name), "{line}, promised {}", promised(name));
+            let expected = match (card, name) {
+                ("bench", "create" | "replace") => "12",
+                ("a name twice", name) if !["list", "to_plain", "to_raw"].contains(&name) => "7",
+                _ => "0",
+            };
+            assert_eq!(number, expected, "{format:?} {card}: {line}");
+            assert!(used <= promised(name), "{format:?} {card}: {line}, promised {}", promised(name));
+            let most = most.entry(name.to_string()).or_insert((0, card));
+            *most = (used, card).max(*most);
         }
     }
+    most.iter().for_each(|(name, (used, card))| println!("{name} {used} bytes ({card})"));
 }

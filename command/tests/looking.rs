@@ -2,6 +2,8 @@
 
 mod common;
 
+use std::fs::File;
+
 use common::Folder;
 use reader::build::{self, bad, good, random};
 use reader::content::lines;
@@ -57,13 +59,20 @@ fn bad_cards_of(format: Format) {
 fn lengths() {
     for (format, cluster) in [(Raw, 1056), (Plain, 1024)] {
         let folder = Folder::of(format);
-        let most = 8192 * cluster;
-        for length in [0, 1, cluster, most - 1, most + 1, most + cluster, 3 * most] {
-            let mut image = build::standard(format);
-            image.resize(length, 0xFF);
-            folder.write("card", &image);
+        let most = 65_536 * cluster;
+        let wrong = [0, 1, cluster, 8_192 * cluster - 1, 8_193 * cluster, most - 1, most + 1, most + cluster, 3 * most];
+        for length in wrong {
+            // The start of a card, and zeros that take no room on the disk.
+            folder.write("card", &build::bench(format));
+            let file = File::options().write(true).open(folder.path("card")).expect("a file");
+            file.set_len(length as u64).expect("another length");
             folder.run(&["check", "card"]).refused(Refusal::number(1));
         }
+        folder.write("card", b"");
+        let file = File::options().write(true).open(folder.path("card")).expect("a file");
+        file.set_len(most as u64).expect("another length");
+        // A page of zeros has other codes, or another text.
+        folder.run(&["check", "card"]).refused(if format == Raw { Refusal::unreadable(0) } else { Refusal::number(3) });
     }
 }
 

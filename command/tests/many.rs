@@ -1,12 +1,10 @@
-//! A directory of 4,000 entries: a command checks the card a few times, not once an entry.
+//! A directory of 4,000 entries, and one of 60,000: a command checks the card a few times, not once an entry.
 
 mod common;
 
 use std::time::{Duration, Instant};
 
 use common::{crowd, Folder};
-
-const ENTRIES: usize = 4000;
 
 /// The shortest of some runs.
 fn shortest(folder: &Folder, words: &[&str]) -> Duration {
@@ -21,16 +19,27 @@ fn shortest(folder: &Folder, words: &[&str]) -> Duration {
 /// Two checks and the parsing take well under ten times what one check takes; one check an entry, thousands of times.
 #[test]
 fn a_few_checks() {
+    a_few_checks_of(4_000);
+}
+
+/// The same on the largest card.
+#[test]
+fn a_few_checks_of_many() {
+    a_few_checks_of(60_000);
+}
+
+fn a_few_checks_of(entries: usize) {
     let folder = Folder::new();
-    folder.write("card", &crowd(ENTRIES));
+    folder.write("card", &crowd(entries));
+    let last = format!("/SAVE/file{}", entries - 1);
     let one = shortest(&folder, &["check", "card"]);
     let runs: [&[&str]; 7] = [
         &["ls", "card", "/SAVE"],
         &["ls", "card"],
         &["list", "card"],
-        &["find", "card", "/SAVE/file3999"],
-        &["cat", "card", "/SAVE/file3999"],
-        &["get", "card", "/SAVE/file3999", "-"],
+        &["find", "card", &last],
+        &["cat", "card", &last],
+        &["get", "card", &last, "-"],
         &["mkdir", "card", "/D"],
     ];
     for words in &runs[..6] {
@@ -43,5 +52,6 @@ fn a_few_checks() {
     assert!(start.elapsed() < 50 * one, "{:?}", start.elapsed());
     let text = folder.run(&["ls", "card", "/SAVE"]).text();
     let lines: Vec<&str> = text.lines().collect();
-    assert_eq!((lines.len(), lines[0], lines[3999]), (ENTRIES, "file  0 bytes  file0000", "file  0 bytes  file3999"));
+    let named = |number: usize| format!("file  0 bytes  file{number:04}");
+    assert_eq!((lines.len(), lines[0], lines[entries - 1]), (entries, &*named(0), &*named(entries - 1)));
 }

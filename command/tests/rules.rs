@@ -34,17 +34,17 @@ const HEADER: &str = "include/ps2card.h";
 fn lengths() {
     says(
         HEADER,
-        "A card has 32 to 8,192 clusters, in steps of 8: an image of any other length than 1,056 bytes for each of them, or 1,024 where it is plain, is refused.",
+        "A card has 32 to 65,536 clusters, in steps of 8: an image of any other length than 1,056 bytes for each of them, or 1,024 where it is plain, is refused.",
     );
-    let image = vec![0; 8_208 * 1_056 + 1];
+    let image = vec![0; 65_552 * 1_056 + 1];
     for (format, bytes) in [(Format::Raw, 1_056), (Format::Plain, 1_024)] {
         let length_is_bad = |bytes: usize| {
             let refused = Card::new(format, &image[..bytes]).check() == Err(Refusal::BadLength);
             assert_eq!(refused, !format.is_length(bytes), "{format} {bytes}");
             refused
         };
-        for clusters in 0..=8_208 {
-            let allowed = clusters % 8 == 0 && (32..=8_192).contains(&clusters);
+        for clusters in 0..=65_552 {
+            let allowed = clusters % 8 == 0 && (32..=65_536).contains(&clusters);
             assert_eq!(length_is_bad(clusters * bytes), !allowed, "{clusters} clusters");
             assert!(length_is_bad(clusters * bytes + 1), "{clusters} clusters and a byte");
         }
@@ -57,7 +57,7 @@ fn lengths_of_both() {
     says(HEADER, "It is never guessed: some lengths are a card's in both.");
     let both = (0..=MOST_BYTES).step_by(512).filter(|&bytes| Format::ALL.iter().all(|format| format.is_length(bytes)));
     let both: Vec<usize> = both.collect();
-    assert_eq!((both.len(), both[0], both[0] / 1_056, both[0] / 1_024), (31, 270_336, 256, 264));
+    assert_eq!((both.len(), both[0], both[0] / 1_056, both[0] / 1_024), (248, 270_336, 256, 264));
     let plain = Card::fresh(Format::Plain, 264, &time()).expect("a fresh card");
     let raw = Card::fresh(Format::Raw, 256, &time()).expect("a fresh card");
     assert_eq!((plain.image().len(), raw.image().len()), (both[0], both[0]));
@@ -96,16 +96,18 @@ fn names() {
 
 #[test]
 fn depths() {
-    says(HEADER, r#""/" alone, or one to four names, each after a "/"."#);
-    says(HEADER, "Directories have one to three names, files one to four.");
+    says(HEADER, r#""/" alone, or one to eight names, each after a "/"."#);
+    says(HEADER, "Directories have one to seven names, files one to eight. So a path has no more than 256 bytes.");
+    let path = |names: usize| [b"/", &[b'n'; 31][..]].concat().repeat(names);
     let mut card = fresh();
-    for path in [&b"/a"[..], b"/a/b", b"/a/b/c"] {
-        card.make_dir(path, &time()).expect("a directory");
+    for names in 1..=7 {
+        card.make_dir(&path(names), &time()).expect("a directory");
     }
-    assert_eq!(card.make_dir(b"/a/b/c/d", &time()), Err(Refusal::BadPath));
-    assert_eq!(card.create(b"/a/b/c/d", &time(), b""), Ok(()));
-    assert_eq!(card.create(b"/a/b/c/d/e", &time(), b""), Err(Refusal::BadPath));
-    assert!(card.find(b"/").is_ok());
+    assert_eq!(card.make_dir(&path(8), &time()), Err(Refusal::BadPath));
+    assert_eq!((card.create(&path(8), &time(), b""), path(8).len()), (Ok(()), 256));
+    assert_eq!(card.create(&path(9), &time(), b""), Err(Refusal::BadPath));
+    assert_eq!(card.find(&path(9)), Err(Refusal::BadPath));
+    assert!(card.find(b"/").is_ok() && card.find(&path(8)).is_ok());
 }
 
 #[test]

@@ -135,7 +135,7 @@ fn refusals_name_their_image() {
         let given = folder.run(words);
         assert!(given.status == 1 && given.err.ends_with(end), "{words:?}: {given:?}");
         if given.err.starts_with("refused 8: ") {
-            assert!(given.err.contains("up to four names each after /"), "{given:?}");
+            assert!(given.err.contains("up to eight names each after /"), "{given:?}");
             assert!(given.err.contains("such as /SAVE/icon.sys"), "{given:?}");
         }
     }

@@ -6,7 +6,7 @@ use std::path::{Path, PathBuf};
 use std::thread;
 
 use ps2card::image_file;
-use ps2card::{Card, CardMut, CardRef, Format, Refusal, Stamp, STACK};
+use ps2card::{Card, CardMut, CardRef, Format, Refusal, Stamp, MOST_CLUSTERS, STACK};
 use reader::build;
 use reader::Format::{Plain, Raw};
 
@@ -59,7 +59,7 @@ fn formats() {
     assert_ne!(Card::raw(b"same"), Card::plain(b"same"));
     for (format, page) in [(Format::Raw, 528), (Format::Plain, 512)] {
         assert_eq!((format.page_bytes(), format.cluster_bytes()), (page, 2 * page));
-        assert_eq!(format.most_bytes(), 8192 * 2 * page);
+        assert_eq!(format.most_bytes(), 65_536 * 2 * page);
         assert!(format.is_length(32 * 2 * page) && !format.is_length(36 * 2 * page) && !format.is_length(0));
     }
     // A card is what its caller says: the same bytes are of the wrong length for the other format.
@@ -118,28 +118,56 @@ fn errors() {
     assert_eq!(any(image_file::Error::from(absent)).to_string(), words);
 }
 
-/// Threads that have the promised stack and little more, at once, on images of their own: no state, no overflow.
+/// Rust's usual stack of a thread.
+const USUAL_STACK: usize = 2 * 1024 * 1024;
+
+/// The calls of `work` in the deepest directory too.
+fn deep_work(card: &mut Card) -> Result<Vec<u8>, Refusal> {
+    let deepest = b"/a/b/c/d/e/f/g";
+    for names in 1..=7 {
+        card.make_dir(&deepest[..2 * names], &time())?;
+    }
+    card.create(b"/a/b/c/d/e/f/g/h", &time(), &[7; 1500])?;
+    card.replace(b"/a/b/c/d/e/f/g/h", &time(), b"other bytes")?;
+    card.create(b"/a/b/c/d/e/f/g/i", &time(), b"")?;
+    assert_eq!(card.entries(deepest)?.len(), 2);
+    card.delete(b"/a/b/c/d/e/f/g/i")?;
+    card.make_dir(b"/a/b/c/d/e/f/i", &time())?;
+    card.remove_dir(b"/a/b/c/d/e/f/i")?;
+    assert_eq!((card.bytes(b"/a/b/c/d/e/f/g/h", 6, 100)?, card.find(deepest)?.length), (b"bytes".to_vec(), 4));
+    let [raw, plain] = [card.to_raw()?, card.to_plain()?];
+    assert_eq!((raw.check(), plain.list()), (card.check(), card.list()));
+    work(card)
+}
+
+/// Threads that have the promised stack and little more, or Rust's usual one, at once, on images of their own of two
+/// sizes and both formats: no state, no overflow.
 #[test]
 fn threads_and_stack() {
-    let text = work(&mut Card::raw(build::standard(Raw))).expect("room");
-    let threads: Vec<thread::JoinHandle<Vec<u8>>> = (0..8)
+    let [small, large] =
+        [56, MOST_CLUSTERS].map(|clusters| Card::fresh(Format::Raw, clusters, &time()).expect("a size"));
+    let texts = [&small, &large].map(|card| deep_work(&mut card.clone()).expect("room"));
+    let threads: Vec<(thread::JoinHandle<Vec<u8>>, &Vec<u8>)> = (0..8)
         .map(|number| {
-            let mut card = Card::raw(build::standard(Raw));
+            let mut card = [&small, &large][number / 4].clone();
             if number % 2 == 1 {
                 card = card.to_plain().expect("a sound card");
             }
-            let small = thread::Builder::new().stack_size(STACK + 64 * 1024);
-            small.spawn(move || work(&mut card).expect("room"))
+            let stack = if number % 4 < 2 { STACK + 64 * 1024 } else { USUAL_STACK };
+            let thread = thread::Builder::new().stack_size(stack).spawn(move || deep_work(&mut card).expect("room"));
+            (thread.expect("a thread"), &texts[number / 4])
         })
-        .map(|thread| thread.expect("a thread"))
         .collect();
-    for thread in threads {
-        assert_eq!(thread.join().expect("no overflow"), text);
+    for (thread, text) in threads {
+        assert_eq!(&thread.join().expect("no overflow"), text);
     }
     // The bound is the largest that the header gives.
-    let figures = include_str!("../../include/ps2card.h").split("at most ").skip(1);
-    let most = figures.filter_map(|text| text.split(" KiB").next()?.parse::<usize>().ok()).max();
+    let header = include_str!("../../include/ps2card.h");
+    assert!(header.contains("a thread of 2 MiB runs every call"));
+    let figures = header.split("at most ").skip(1);
+    let most = figures.filter_map(|text| text.split(" KiB").next()?.replace(',', "").parse::<usize>().ok()).max();
     assert_eq!(most, Some(STACK / 1024));
+    const { assert!(STACK + 256 * 1024 <= USUAL_STACK) };
 }
 
 /// Every Rust source of the workspace.

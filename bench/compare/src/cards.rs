@@ -2,9 +2,11 @@
 
 use std::process::Command;
 
-use reader::build::{directory, file, Assembly, Layout};
-use reader::card::END_MARK;
+use reader::build::{crowded_like, directory, file, Assembly, Layout};
+use reader::card::{END_MARK, MOST_CLUSTERS};
+use reader::content::visit;
 use reader::rng::Rng;
+use reader::tree::Checked;
 use reader::{to_plain, Counts, Format};
 
 fn testdata(name: &str) -> String {
@@ -88,16 +90,18 @@ pub enum Names {
     Ascending,
     Descending,
     Shuffled,
-    /// 31 bytes that differ only in the last four.
+    /// 31 bytes that differ only in their last digits.
     Long,
 }
 
 impl Names {
     pub const ALL: [Names; 4] = [Names::Ascending, Names::Descending, Names::Shuffled, Names::Long];
 
-    fn of(self, count: usize) -> Vec<Vec<u8>> {
-        let stem = if self == Names::Long { "a-name-with-27-equal-bytes-" } else { "entry" };
-        let mut names: Vec<Vec<u8>> = (0..count).map(|number| format!("{stem}{number:04}").into_bytes()).collect();
+    pub fn of(self, count: usize) -> Vec<Vec<u8>> {
+        let digits = if count <= 10_000 { 4 } else { 6 };
+        let stem = if self == Names::Long { &"a-name-with-27-equal-bytes-"[..31 - digits] } else { "entry" };
+        let name = |number: usize| format!("{stem}{number:0digits$}").into_bytes();
+        let mut names: Vec<Vec<u8>> = (0..count).map(name).collect();
         match self {
             Names::Ascending | Names::Long => {}
             Names::Descending => names.reverse(),
@@ -107,7 +111,7 @@ impl Names {
     }
 }
 
-/// A standard card with some directories in the root, each with as many empty files.
+/// A card with some directories in the root, full of empty files.
 #[derive(Clone, Debug)]
 pub struct Crowd {
     pub image: Vec<u8>,
@@ -116,40 +120,62 @@ pub struct Crowd {
     pub entries: usize,
 }
 
-/// Only entries cost on such a card: no file has a cluster.
-pub fn crowd(format: Format, directories: usize, files: usize, names: Names) -> Crowd {
-    let mut card = Assembly::new(format, Layout::standard());
-    let root: Vec<usize> = (0..(2 + directories).div_ceil(2)).collect();
-    card.directory(&root, 2 + directories as u32);
-    let length = 2 + files;
-    let mut next = root.len();
-    for (place, name) in names.of(directories).iter().enumerate() {
+/// The root's directories by how many files each has. Only entries cost on such a card: no file has a cluster.
+pub fn crowd(format: Format, layout: Layout, directories: &[usize], names: Names) -> Crowd {
+    let mut card = Assembly::new(format, layout);
+    let mut next = (2 + directories.len()).div_ceil(2);
+    let root: Vec<usize> = (0..next).collect();
+    card.directory(&root, 2 + directories.len() as u32);
+    let mut entries = 2 + directories.len();
+    for ((slot, name), &files) in (2..).zip(names.of(directories.len())).zip(directories) {
+        let length = 2 + files;
         let chain: Vec<usize> = (next..next + length.div_ceil(2)).collect();
         next += chain.len();
-        let slot = 2 + place;
-        card.put(root[slot / 2], slot % 2, &directory(name, length as u32, chain[0] as u32));
+        entries += length;
+        card.put(root[slot / 2], slot % 2, &directory(&name, length as u32, chain[0] as u32));
         card.directory(&chain, 0);
-        for (place, name) in names.of(files).iter().enumerate() {
-            let slot = 2 + place;
-            card.put(chain[slot / 2], slot % 2, &file(name, 0, END_MARK));
-        }
+        put_files(&mut card, &chain, &names.of(files));
     }
     let (clusters, end) = (card.layout.clusters, card.layout.alloc_end);
-    Crowd {
-        image: card.finish(),
-        counts: Counts { clusters, free: end - next, reached: next, orphaned: 0 },
-        entries: 2 + directories + directories * length,
+    let counts = Counts { clusters, free: end - next, reached: next, orphaned: 0 };
+    Crowd { image: card.finish(), counts, entries }
+}
+
+/// Empty files in a directory from slot 2 on.
+fn put_files(card: &mut Assembly, chain: &[usize], names: &[Vec<u8>]) {
+    for (slot, name) in (2..).zip(names) {
+        card.put(chain[slot / 2], slot % 2, &file(name, 0, END_MARK));
     }
 }
 
 /// 4,000 files in one directory.
 pub fn one_directory(format: Format, names: Names) -> Crowd {
-    crowd(format, 1, 4000, names)
+    crowd(format, Layout::standard(), &[4000], names)
 }
 
 /// 40 directories of 50 files each.
 pub fn many_directories(format: Format, names: Names) -> Crowd {
-    crowd(format, 40, 50, names)
+    crowd(format, Layout::standard(), &[50; 40], names)
+}
+
+/// 60,000 files in one directory of a card of 64 MiB.
+pub fn great_directory(format: Format, names: Names) -> Crowd {
+    crowd(format, Layout::fresh(MOST_CLUSTERS), &[60_000], names)
+}
+
+/// These empty files in the root, and nothing else.
+pub fn files_in_root(format: Format, layout: Layout, names: &[Vec<u8>]) -> Vec<u8> {
+    let mut card = Assembly::new(format, layout);
+    let length = 2 + names.len();
+    let chain: Vec<usize> = (0..length.div_ceil(2)).collect();
+    card.directory(&chain, length as u32);
+    put_files(&mut card, &chain, names);
+    card.finish()
+}
+
+/// The full card of 64 MiB: eight times the files of PCSX2's, 1 to 2,500 bytes long, 2,000 in each of 8 directories.
+pub fn full_great(format: Format) -> Vec<u8> {
+    crowded_like(format, Layout::fresh(MOST_CLUSTERS), 8, 2000)
 }
 
 /// A standard card with so many files of one cluster each, 50 to a directory.
@@ -175,4 +201,15 @@ pub fn many_files(format: Format, files: usize) -> Vec<u8> {
         }
     }
     card.finish()
+}
+
+/// The entries that the check of a card reads, dead ones and the two dots of each directory included.
+pub fn entries(format: Format, image: &[u8]) -> usize {
+    let mut entries = 0;
+    visit(&Checked::of(format, image).expect("an accepted card").root, b"/", &mut |_, node| {
+        if node.inside.is_some() {
+            entries += node.entry.length as usize;
+        }
+    });
+    entries
 }

@@ -3,99 +3,23 @@
 
 mod common;
 
-use common::changes::{kind, Changes, KINDS};
+use common::orders::Run;
 use reader::build::random::random;
-use reader::build::requests::random_change;
 use reader::build::usual_time;
-use reader::paths::{directory_of, is_beginning, parse};
 use reader::rng::Rng;
-use reader::{tree, Change, Format, Tree};
+use reader::Format;
 
 /// Pairs of random changes on random cards.
-struct Run {
-    changes: Changes,
-    /// Pairs accepted to the end in both orders, by the kinds of the two, the lower one first.
-    accepted: [[usize; 5]; 5],
-    /// Pairs accepted to the end in one order alone, and in neither; the latter of two creations.
-    one_order: usize,
-    neither: usize,
-    creations_refused: usize,
-    /// Pairs whose orders leave different free counts.
-    differed: usize,
-}
-
-impl Run {
-    fn new(format: Format) -> Run {
-        Run {
-            changes: Changes::new(format),
-            accepted: Default::default(),
-            one_order: 0,
-            neither: 0,
-            creations_refused: 0,
-            differed: 0,
-        }
+fn random_cards(format: Format, seeds: std::ops::Range<u64>) {
+    let mut run = Run::new(format);
+    for seed in seeds {
+        let mut image = random(format, seed).image;
+        let mut rng = Rng::new(seed ^ 0x0D0_0D3);
+        furnish(format, &mut image, &mut rng, seed % 2 == 0);
+        let pairs = if image.len() > 400_000 { 4 } else { 30 };
+        run.random_pairs(&image, pairs, &mut rng, || format!("random card {seed}"));
     }
-
-    fn pairs(&mut self, seeds: std::ops::Range<u64>) {
-        let format = self.changes.format;
-        for seed in seeds {
-            let mut image = random(format, seed).image;
-            let mut rng = Rng::new(seed ^ 0x0D0_0D3);
-            furnish(format, &mut image, &mut rng, seed % 2 == 0);
-            let items = tree(format, &image).expect("an accepted card");
-            for number in 0..if image.len() > 400_000 { 4 } else { 24 } {
-                if let Some(pair) = random_pair(&mut rng, &items) {
-                    self.both_orders(&image, &pair, || format!("random card {seed}, pair {number}"));
-                }
-            }
-        }
-    }
-
-    fn both_orders(&mut self, image: &[u8], [one, other]: &[Change; 2], what: impl Fn() -> String) {
-        let format = self.changes.format;
-        let (left, left_done) = self.in_turn(image, [one, other], &what);
-        let (right, right_done) = self.in_turn(image, [other, one], &what);
-        let about = || format!("{}: {one:?} {other:?}", what());
-        let creations = one.is_creation() && other.is_creation();
-        assert!(!creations || left_done == right_done, "one order alone is accepted to its end, {}", about());
-        match (left_done, right_done) {
-            (true, true) => {
-                assert!(tree(format, &left) == tree(format, &right), "the trees differ, {}", about());
-                let free = |image: &[u8]| compare::check(format, image).expect("changes leave a sound card").free;
-                if free(&left) != free(&right) {
-                    assert!(may_differ(one, other), "the free counts differ, {}", about());
-                    self.differed += 1;
-                }
-                let (low, high) = (kind(one).min(kind(other)), kind(one).max(kind(other)));
-                self.accepted[low][high] += 1;
-            }
-            (false, false) => {
-                self.neither += 1;
-                self.creations_refused += usize::from(creations);
-            }
-            _ => self.one_order += 1,
-        }
-    }
-
-    /// Both changes in turn on a copy; the second gets the image as the first left it. Whether both were accepted.
-    fn in_turn(&mut self, image: &[u8], order: [&Change; 2], what: impl Fn() -> String) -> (Vec<u8>, bool) {
-        let mut image = image.to_vec();
-        let answers = order.map(|change| self.changes.apply(&mut image, change, &what));
-        (image, answers.iter().all(Result::is_ok))
-    }
-
-    /// Nothing was too rare.
-    fn met(&self) {
-        for (low, counts) in self.accepted.iter().enumerate() {
-            for (high, &times) in counts.iter().enumerate().skip(low) {
-                println!("{} and {}: {times} accepted in both orders", KINDS[low], KINDS[high]);
-                assert!(times >= 20, "{} and {}: only {times}", KINDS[low], KINDS[high]);
-            }
-        }
-        let others = [self.one_order, self.neither, self.creations_refused, self.differed];
-        println!("accepted in one order, in neither, creations in neither, free counts that differ: {others:?}");
-        assert!(others.iter().all(|&times| times >= 20), "{others:?}");
-    }
+    run.met(20);
 }
 
 /// Some empty directories, where there is room; on a tight card a file takes all but a few free clusters, so that
@@ -111,44 +35,17 @@ fn furnish(format: Format, image: &mut [u8], rng: &mut Rng, is_tight: bool) {
     }
 }
 
-/// Two changes at paths apart, often in one directory.
-fn random_pair(rng: &mut Rng, items: &Tree) -> Option<[Change; 2]> {
-    let one = random_change(rng, items);
-    let is_near = rng.chance(1, 3);
-    let others = (0..10).map(|_| random_change(rng, items));
-    let other = others
-        .filter(|other| are_apart(one.path(), other.path()))
-        .find(|other| !is_near || directory_of(one.path()) == directory_of(other.path()))?;
-    Some([one, other])
-}
-
-fn are_apart(one: &[u8], other: &[u8]) -> bool {
-    parse(one).is_some() && parse(other).is_some() && !is_beginning(one, other) && !is_beginning(other, one)
-}
-
-/// One creates, the other removes, both in the same directory: only then may the free counts differ.
-fn may_differ(one: &Change, other: &Change) -> bool {
-    (one.is_creation() && other.is_removal() || one.is_removal() && other.is_creation())
-        && directory_of(one.path()) == directory_of(other.path())
-}
-
 #[test]
 fn raw_pairs_first_half() {
-    let mut run = Run::new(Format::Raw);
-    run.pairs(0..200);
-    run.met();
+    random_cards(Format::Raw, 0..200);
 }
 
 #[test]
 fn raw_pairs_second_half() {
-    let mut run = Run::new(Format::Raw);
-    run.pairs(7_000_000..7_000_200);
-    run.met();
+    random_cards(Format::Raw, 7_000_000..7_000_200);
 }
 
 #[test]
 fn plain_pairs() {
-    let mut run = Run::new(Format::Plain);
-    run.pairs(0..200);
-    run.met();
+    random_cards(Format::Plain, 0..200);
 }

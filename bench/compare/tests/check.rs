@@ -7,6 +7,7 @@ use compare::cards::{bench_sample, counts_by_tree, many_directories, one_directo
 use reader::build::draw::{random_layout, random_page};
 use reader::build::scribble::flip;
 use reader::build::{bad, bench, good, standard, Assembly, Layout};
+use reader::card::{clusters_of, is_allowed, MOST_CLUSTERS};
 use reader::page;
 use reader::rng::Rng;
 use reader::{Counts, Format, Refusal};
@@ -88,22 +89,24 @@ fn every_length() {
     for format in Format::BOTH {
         let bytes = format.cluster_bytes();
         let mut image = standard(format);
-        image.resize(8500 * bytes, 0xFF);
+        image.resize((MOST_CLUSTERS + 200) * Format::Raw.cluster_bytes(), 0xFF);
         let mut tally = Tally::default();
-        for clusters in 0..8299_usize {
+        for clusters in 0..MOST_CLUSTERS + 100 {
             let exact = clusters * bytes;
             for length in [exact.saturating_sub(1), exact, exact + 1, exact + 512, exact + 528] {
-                let is_right = length == exact && clusters % 8 == 0 && (32..=8192).contains(&clusters);
+                let is_right = length == exact && is_allowed(clusters);
                 let answer = tally.same(format, &image[..length], || format!("{length} bytes"));
                 assert_eq!(answer != Err(Refusal::number(1)), is_right, "{format:?}, {length} bytes");
             }
         }
         // The superblock says 8,192, so only that length is accepted; the others have the wrong number there.
-        assert_eq!((tally.seen[0], tally.seen[4]), (1, 8192 / 8 - 4));
-        for clusters in [32, 56, 8192] {
+        assert_eq!((tally.seen[0], tally.seen[4]), (1, MOST_CLUSTERS / 8 - 4));
+        // 8,192 raw clusters are as long as 8,448 plain ones, which are allowed; no other one here is.
+        for clusters in [32, 56, 8192, MOST_CLUSTERS - 8, MOST_CLUSTERS] {
             let length = clusters * format.other().cluster_bytes();
+            let number = if clusters_of(format, length).is_some() { 4 } else { 1 };
             let answer = same(format, &image[..length], "the other format's length");
-            assert_eq!(answer, Err(Refusal::number(1)), "{format:?}, {length} bytes");
+            assert_eq!(answer, Err(Refusal::number(number)), "{format:?}, {length} bytes");
         }
     }
 }
@@ -111,7 +114,7 @@ fn every_length() {
 /// 256 raw clusters are as long as 264 plain ones: the format that is said decides, never the contents.
 #[test]
 fn lengths_of_both_formats() {
-    for times in [1, 2, 5, 31] {
+    for times in [1, 2, 5, 31, 32, 248] {
         let (raw, plain) = (256 * times, 264 * times);
         let card = |format, clusters| Assembly::with_root(format, Layout { clusters, ..Layout::bench() }).finish();
         let images = [card(Format::Raw, raw), card(Format::Plain, plain)];

@@ -9,6 +9,7 @@ use reader::build::draw::random_page;
 use reader::build::random::{random, sized};
 use reader::build::scribble::{break_page, flip, junk_spare, ruin};
 use reader::build::{bench, standard, Assembly, Layout};
+use reader::card::{is_allowed, MOST_CLUSTERS};
 use reader::ecc::code_of;
 use reader::page::{self, DATA};
 use reader::rng::Rng;
@@ -27,17 +28,21 @@ fn lengths() {
     for from in Format::BOTH {
         let (bytes, other) = (from.cluster_bytes(), from.other().cluster_bytes());
         let mut converts = Converts::default();
-        let source = standard(from);
-        let source = [&source[..], &source[..100 * bytes]].concat();
-        for clusters in (0..=136).chain([255, 256, 264, 8184, 8191, 8192, 8193, 8200]) {
+        let mut source = standard(from);
+        source.resize((MOST_CLUSTERS + 9) * bytes, 0xFF);
+        for clusters in (0..=136).chain([255, 256, 264, 8192, 8193, 8200, 65_535, 65_536, 65_537, 65_544]) {
             let (exact, right) = (clusters * bytes, clusters * other);
             let page = from.page_bytes();
             for length in [exact, exact + 1, exact + page].into_iter().chain(exact.checked_sub(1)) {
-                let is_card = length == exact && clusters % 8 == 0 && (32..=8192).contains(&clusters);
-                // Where there is no card, an output that would fit makes no difference.
+                let is_card = length == exact && is_allowed(clusters);
+                // Where there is no card, an output that would fit makes no difference; a great one takes its time.
                 let rooms = [right, right + 1, right.saturating_sub(1), 0, length];
-                let is_small = clusters <= 264;
-                for &room in &rooms[..if is_card && is_small { 5 } else { 2 }] {
+                let rooms = match (is_card, clusters) {
+                    (true, ..=264) => &rooms[..],
+                    (false, 10_000..) => &rooms[3..4],
+                    _ => &rooms[..2],
+                };
+                for &room in rooms {
                     let (answer, _) =
                         converts.with_room(from, &source[..length], room, || format!("{clusters} clusters"));
                     let expected = match (is_card, room == right) {

@@ -6,8 +6,11 @@ use common::Tally;
 use reader::build::draw::random_layout;
 use reader::build::{directory, file, scribble, Assembly};
 use reader::card::{END_MARK, USED};
+use reader::content::visit;
 use reader::entry::Entry;
+use reader::paths::depth;
 use reader::rng::Rng;
+use reader::tree::{Checked, DEEPEST};
 use reader::Format;
 
 /// What a cluster is meant for. Heads begin with the two dots, tails hold two entries.
@@ -26,6 +29,8 @@ struct Draft {
     /// Clusters no entry names yet, so that careful choices don't share them.
     unused: Vec<usize>,
     names: usize,
+    /// Whether the first entry of each tail is a directory and the second is none, so that trees are lines.
+    is_deep: bool,
 }
 
 impl Draft {
@@ -56,12 +61,16 @@ impl Draft {
     }
 
     /// One entry of a tail: mostly live, of either kind, with a chain that mostly fits.
-    fn entry(&mut self, card: &mut Assembly) -> Entry {
+    fn entry(&mut self, card: &mut Assembly, second: bool) -> Entry {
         self.names += 1;
         let number = if self.careful() { self.names } else { self.rng.below(6) };
         let name = format!("{number}").into_bytes();
-        let more = self.rng.below(3);
-        let (kind, chain) = match self.rng.below(8) {
+        let (more, draw) = match (self.is_deep, second) {
+            (true, false) => (1, 7),
+            (true, true) => (0, self.rng.below(4)),
+            _ => (self.rng.below(3), self.rng.below(8)),
+        };
+        let (kind, chain) = match draw {
             0 => (Part::Tail, Vec::new()),
             1..=3 => (Part::Data, self.chain(card, Part::Data, Part::Data, more)),
             _ => (Part::Head, self.chain(card, Part::Head, Part::Tail, more)),
@@ -95,7 +104,8 @@ impl Draft {
 
 fn dense(format: Format, seed: u64) -> Vec<u8> {
     let mut rng = Rng::new(seed);
-    let clusters = 8 * rng.between(4, 9);
+    let is_deep = rng.chance(1, 4);
+    let clusters = 8 * if is_deep { rng.between(8, 14) } else { rng.between(4, 9) };
     let mut card = Assembly::new(format, random_layout(&mut rng, clusters));
     let end = card.layout.alloc_end;
     let mut parts: Vec<Part> = (0..end).map(|_| *rng.pick(&[Part::Head, Part::Tail, Part::Tail, Part::Data])).collect();
@@ -103,7 +113,7 @@ fn dense(format: Format, seed: u64) -> Vec<u8> {
     let mut unused: Vec<usize> = (1..end).collect();
     rng.shuffle(&mut unused);
     let care = *rng.pick(&[80, 95, 99, 100]);
-    let mut draft = Draft { rng, care, parts, unused, names: 0 };
+    let mut draft = Draft { rng, care, parts, unused, names: 0, is_deep };
 
     let mut root = vec![0];
     (0..draft.rng.between(1, 3)).for_each(|_| root.extend(draft.cluster(Part::Tail)));
@@ -113,7 +123,7 @@ fn dense(format: Format, seed: u64) -> Vec<u8> {
     for cluster in 0..end {
         let entries = match draft.parts[cluster] {
             Part::Head => [directory(b".", length, 0), directory(b"..", 0, 0)],
-            Part::Tail => [draft.entry(&mut card), draft.entry(&mut card)],
+            Part::Tail => [draft.entry(&mut card, false), draft.entry(&mut card, true)],
             Part::Data => continue,
         };
         card.put(cluster, 0, &entries[0]);
@@ -131,13 +141,29 @@ fn dense(format: Format, seed: u64) -> Vec<u8> {
 fn dense_cards(format: Format, seeds: std::ops::Range<u64>) -> Tally {
     let mut tally = Tally::default();
     let mut most = 0;
+    let mut deepest = [0; DEEPEST + 1];
     for seed in seeds {
-        if let Ok(counts) = tally.same(format, &dense(format, seed), || format!("dense card {seed}")) {
+        let image = dense(format, seed);
+        if let Ok(counts) = tally.same(format, &image, || format!("dense card {seed}")) {
             most = most.max(counts.reached);
+            deepest[depth_of(format, &image)] += 1;
         }
     }
+    println!("{format:?}, accepted cards by the depth of their deepest directory: {deepest:?}");
     assert!(most >= 20, "no tree of some size is accepted: {most}");
+    assert!(deepest.iter().all(|&cards| cards >= 50), "{deepest:?}");
     tally
+}
+
+/// How far the deepest directory of an accepted card lies below the root.
+fn depth_of(format: Format, image: &[u8]) -> usize {
+    let mut deepest = 0;
+    visit(&Checked::of(format, image).expect("an accepted card").root, b"/", &mut |path, node| {
+        if node.inside.is_some() {
+            deepest = deepest.max(depth(path));
+        }
+    });
+    deepest
 }
 
 #[test]

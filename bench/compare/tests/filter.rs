@@ -1,59 +1,144 @@
-//! Names that look alike to the library's filter of names met, so that its second look decides each time.
+//! Names picked against the way in which the library tells twins: names that looked alike to its first filter, so that
+//! a directory full of them took time with the square of their number, and names that meet in the cells it has now.
 //!
-//! The filter is the library's own affair; should it change, these cards lose their aim but keep their answers.
+//! How it tells twins is the library's own affair; such cards keep their answers, and take the time of any other.
 
 mod common;
 
+use std::time::Duration;
+
 use common::same;
-use reader::build::{directory, file, Assembly, Layout};
-use reader::card::END_MARK;
+use compare::cards::{files_in_root, Names};
+use compare::clock::{times, Check};
+use reader::build::Layout;
 use reader::rng::Rng;
 use reader::{Counts, Format, Refusal};
 
 const FILES: usize = 200;
 
-/// The library's number of a name; its remainder by 4,096 picks the filter's word.
+/// That filter's number of a name; its remainder by 4,096 picked the filter's word.
 fn number(name: &[u8]) -> u64 {
     name.iter().fold(0, |number, &byte| (number + u64::from(byte)) * 6_017_513 % 1_099_511_627_689)
 }
 
-/// Names of one word, which is full after some dozens of them.
+/// Names of one word, which was full after some dozens of them.
 fn names(word: u64) -> Vec<Vec<u8>> {
     let all = (0..).map(|count: u64| format!("{count:x}").into_bytes());
     all.filter(|name| number(name) % 4096 == word).take(FILES).collect()
 }
 
-/// A standard card with these empty files in `/D`.
-fn card(format: Format, names: &[Vec<u8>]) -> Vec<u8> {
-    let mut card = Assembly::new(format, Layout::standard());
-    let length = 2 + names.len();
-    let chain: Vec<usize> = (2..2 + length.div_ceil(2)).collect();
-    card.directory(&[0, 1], 3);
-    card.put(1, 0, &directory(b"D", length as u32, 2));
-    card.directory(&chain, 0);
-    for (slot, name) in (2..).zip(names) {
-        card.put(chain[slot / 2], slot % 2, &file(name, 0, END_MARK));
+/// 4,000 names of word 7, all of seven bytes.
+fn many_names() -> Vec<Vec<u8>> {
+    let text = include_str!("../testdata/one-word-names.txt");
+    let names: Vec<Vec<u8>> = text.lines().map(|name| name.as_bytes().to_vec()).collect();
+    assert!(names.len() == 4000 && names.iter().all(|name| number(name) % 4096 == 7));
+    names
+}
+
+/// What the library makes of a name in the root (docs/DECISIONS.md, "Unique names by cells").
+#[derive(Clone, Copy)]
+struct Hash {
+    a: u64,
+    b: u64,
+    c: u64,
+}
+
+impl Hash {
+    fn of(name: &[u8]) -> Hash {
+        let root = Hash { a: 0, b: 1_234_567_891, c: 987_654_321 };
+        name.iter().fold(root, |hash, &byte| hash.mixed(u64::from(byte)))
     }
-    card.finish()
+
+    fn mixed(self, byte: u64) -> Hash {
+        Hash {
+            a: (self.a + self.c + byte).pow(2) % 2_147_483_497,
+            b: (self.b + self.a + byte).pow(2) % 2_147_483_489,
+            c: (self.c + self.b + byte).pow(2) % 2_147_483_477,
+        }
+    }
+
+    fn mark(self) -> u64 {
+        self.a % 32_767 + 1
+    }
+
+    fn cell(self) -> u64 {
+        self.c % 131_072
+    }
+}
+
+/// That many names that a test takes, in the order of counting.
+fn picked(count: usize, is_picked: impl Fn(Hash) -> bool) -> Vec<Vec<u8>> {
+    let all = (0..).map(|count: u64| format!("{count:x}").into_bytes());
+    all.filter(|name| is_picked(Hash::of(name))).take(count).collect()
+}
+
+/// Names that all begin in 64 of the 131,072 cells, then names of one mark: each is tried for, none can be computed.
+fn picks() -> [(&'static str, Vec<Vec<u8>>); 3] {
+    [
+        ("4,000 names of word 7", many_names()),
+        ("4,000 names of 64 cells", picked(4000, |hash| hash.cell() < 64)),
+        ("1,000 names of one mark", picked(1000, |hash| hash.mark() == 7)),
+    ]
+}
+
+/// A standard card with these empty files.
+fn card(format: Format, names: &[Vec<u8>]) -> Vec<u8> {
+    files_in_root(format, Layout::standard(), names)
+}
+
+/// The names by themselves, then with twins at both ends and at random places.
+fn twins(format: Format, names: &[Vec<u8>], rounds: usize, what: &str) {
+    let reached = (2 + names.len()).div_ceil(2);
+    let counts = Counts { clusters: 8192, free: 8135 - reached, reached, orphaned: 0 };
+    assert_eq!(same(format, &card(format, names), what), Ok(counts), "{what}");
+
+    let mut rng = Rng::new(names.len() as u64);
+    let last = names.len() - 1;
+    let mut pairs = vec![(0, last), (0, 1), (last - 1, last)];
+    for _ in 0..rounds {
+        let other = rng.between(1, last);
+        pairs.push((rng.below(other), other));
+    }
+    for (one, other) in pairs {
+        let mut twins = names.to_vec();
+        twins[other] = names[one].clone();
+        let what = format!("{what}, twins {one} and {other}");
+        assert_eq!(same(format, &card(format, &twins), &what), Err(Refusal::number(7)), "{what}");
+    }
 }
 
 #[test]
 fn names_of_one_word() {
-    let words = [0, 7, 4095];
-    for (format, word) in Format::BOTH.into_iter().flat_map(|format| words.map(|word| (format, word))) {
-        let names = names(word);
-        let reached = 2 + (2 + FILES) / 2;
-        let counts = Counts { clusters: 8192, free: 8135 - reached, reached, orphaned: 0 };
-        assert_eq!(same(format, &card(format, &names), "names of one word"), Ok(counts), "word {word}");
+    for (format, word) in Format::BOTH.into_iter().flat_map(|format| [0, 7, 4095].map(|word| (format, word))) {
+        twins(format, &names(word), 20, &format!("word {word}"));
+    }
+}
 
-        let mut rng = Rng::new(word);
-        for _ in 0..20 {
-            let other = rng.between(1, FILES - 1);
-            let one = rng.below(other);
-            let mut twins = names.clone();
-            twins[other] = names[one].clone();
-            let what = format!("word {word}, twins {one} and {other}");
-            assert_eq!(same(format, &card(format, &twins), &what), Err(Refusal::number(7)), "{what}");
+#[test]
+fn many_picked_names() {
+    for (what, names) in picks() {
+        for format in Format::BOTH {
+            twins(format, &names, 3, what);
         }
+    }
+}
+
+/// The check of picked names takes at most five times that of as many ordinary ones. The least of three runs counts,
+/// and rounds go on while that isn't enough, so that a loaded machine only makes the test longer.
+#[test]
+fn time_of_picked_names() {
+    let ours: Check = compare::check;
+    for ((what, names), format) in picks().iter().flat_map(|pick| Format::BOTH.map(|format| (pick, format))) {
+        let (picked, ordinary) = (card(format, names), card(format, &Names::Ascending.of(names.len())));
+        let mut least = [Duration::MAX; 2];
+        for _ in 0..5 {
+            let times = times(&[(ours, format, &picked), (ours, format, &ordinary)], 3);
+            least.iter_mut().zip(&times).for_each(|(least, times)| *least = times[0].min(*least));
+            if least[0] <= 5 * least[1] {
+                break;
+            }
+        }
+        println!("{format:?}, {what} and as many others: {least:?}");
+        assert!(least[0] <= 5 * least[1], "{format:?}, {what}: {least:?}");
     }
 }

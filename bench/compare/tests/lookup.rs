@@ -37,8 +37,8 @@ fn malformed_paths() {
             b"/D/D2//",
             b"/F/",
             b"/D/",
-            b"/a/b/c/d/e",
-            b"/D/D2/D3/deep/x",
+            b"/a/b/c/d/e/f/g/h/i",
+            b"/D/D2/D3/deep/5/6/7/8/9",
             b"/D/D2/D3/deep/",
             &long,
             b"/F\0",
@@ -77,7 +77,7 @@ fn names_from_the_left() {
         for path in absent {
             lookups.refused(&image, path, refusal(9), here);
         }
-        for path in [&b"/F/x"[..], b"/F/x/y", b"/E/E", b"/F/no/such/way"] {
+        for path in [&b"/F/x"[..], b"/F/x/y", b"/E/E", b"/F/no/such/way", b"/D/D2/D3/deep/x"] {
             lookups.refused(&image, path, refusal(10), here);
         }
     }

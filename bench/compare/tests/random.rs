@@ -6,6 +6,7 @@ use common::{flip_each_chunk, many_flips, mend, needed_of, with_page, Tally};
 use reader::build::random::{random, sized};
 use reader::build::scribble;
 use reader::build::vandal::vandalised;
+use reader::card::MOST_CLUSTERS;
 use reader::rng::Rng;
 use reader::{Format, Refusal};
 
@@ -99,7 +100,7 @@ fn raw_cards_second_half() {
 fn random_plain_cards() {
     let tally = plain_cards(3_000_000..3_001_600);
     tally.met([0], 1600);
-    tally.met([4, 6, 7], 20);
+    tally.met([4, 6, 7], 10);
     assert_eq!(tally.seen[2], 0);
 }
 
@@ -143,6 +144,10 @@ fn full_sized_cards() {
             let answer = tally.same(format, &card.image, || format!("card of 8,192, seed {seed}"));
             assert_eq!(answer, Ok(card.counts));
         }
-        tally.met([0], 6);
+        for clusters in [8200, 33_000, MOST_CLUSTERS] {
+            let card = sized(format, 6, clusters);
+            assert_eq!(tally.same(format, &card.image, || format!("card of {clusters}")), Ok(card.counts));
+        }
+        tally.met([0], 9);
     }
 }

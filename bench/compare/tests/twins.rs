@@ -6,7 +6,7 @@ mod common;
 use common::changes::{five, kind, KINDS};
 use common::requests::{random_offset, random_path, random_size, random_slot};
 use common::Tally;
-use compare::cards::full;
+use compare::cards::{full, full_great};
 use compare::{change, check, find, listing, read, step};
 use reader::build::random::random;
 use reader::build::requests::random_change;
@@ -140,6 +140,15 @@ fn full_card() {
     let mut run = Run::default();
     run.sequence(&mut twins, 30, &mut rng, || "full card".into());
     run.changes.met([0], 10);
+}
+
+#[test]
+fn full_card_of_64_mib() {
+    let mut rng = Rng::new(16_000);
+    let mut twins = Twins::of(full_great(Format::Plain), &mut rng);
+    let mut run = Run::default();
+    run.sequence(&mut twins, 3, &mut rng, || "full card of 64 MiB".into());
+    run.changes.met([0], 1);
 }
 
 /// What the check refuses, every call refuses alike.

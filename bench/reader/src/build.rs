@@ -4,6 +4,7 @@
 
 pub mod bad;
 pub mod bad_entries;
+pub mod deep;
 pub mod draw;
 pub mod good;
 pub mod random;
@@ -11,6 +12,7 @@ pub mod requests;
 pub mod samples;
 pub mod scribble;
 pub mod vandal;
+mod wear;
 
 use crate::card::{END_MARK, FORMAT, USED};
 use crate::entry::{name_field, Entry};
@@ -37,26 +39,40 @@ pub struct Layout {
 impl Layout {
     /// The bench card of document 01.
     pub fn bench() -> Layout {
-        Layout {
-            clusters: 56,
-            alloc_offset: 10,
-            alloc_end: 30,
-            indirect: 8,
-            table: vec![9],
-            backups: [6, 5],
-            version: "1.2.0.0",
-        }
+        Layout::fresh(56)
     }
 
     /// The standard 8 MB card of source 001.
     pub fn standard() -> Layout {
+        Layout::fresh(8192)
+    }
+
+    /// A card of N clusters as those two are laid out: the indirect cluster is 8, the table begins at 9, the last two
+    /// blocks are the backups, and everything between is allocatable.
+    pub fn fresh(clusters: usize) -> Layout {
+        Layout::behind(clusters, 8)
+    }
+
+    /// The card of N clusters with most of them allocatable: indirect cluster and table lie from 1 on.
+    pub fn widest(clusters: usize) -> Layout {
+        Layout::behind(clusters, 1)
+    }
+
+    /// The table right behind the indirect cluster, with room for a word of each cluster that follows; now and then the
+    /// last cluster of that room isn't needed.
+    fn behind(clusters: usize, indirect: usize) -> Layout {
+        let blocks = clusters / 8;
+        let table = indirect + 1;
+        let left = clusters - 16 - table;
+        let room = (1..).find(|room| (left - room).div_ceil(256) <= *room).expect("a table fits");
+        let alloc_end = left - room;
         Layout {
-            clusters: 8192,
-            alloc_offset: 41,
-            alloc_end: 8135,
-            indirect: 8,
-            table: (9..41).collect(),
-            backups: [1023, 1022],
+            clusters,
+            alloc_offset: table + room,
+            alloc_end,
+            indirect,
+            table: (table..table + alloc_end.div_ceil(256)).collect(),
+            backups: [blocks as u32 - 1, blocks as u32 - 2],
             version: "1.2.0.0",
         }
     }
@@ -199,25 +215,36 @@ pub fn bench(format: Format) -> Vec<u8> {
 
 /// A fresh standard 8,192-cluster card.
 pub fn standard(format: Format) -> Vec<u8> {
-    Assembly::with_root(format, Layout::standard()).finish()
+    fresh(format, 8192)
 }
 
-/// A standard card with 40 directories of 50 small files each, 1 to 2,500 bytes long.
+/// A fresh card of N clusters.
+pub fn fresh(format: Format, clusters: usize) -> Vec<u8> {
+    Assembly::with_root(format, Layout::fresh(clusters)).finish()
+}
+
+/// A standard card with 40 directories of 50 small files each.
 pub fn crowded(format: Format) -> Vec<u8> {
-    let mut card = Assembly::new(format, Layout::standard());
+    crowded_like(format, Layout::standard(), 40, 50)
+}
+
+/// A card with some directories in its root, each with as many small files, 1 to 2,500 bytes long.
+pub fn crowded_like(format: Format, layout: Layout, directories: usize, files: usize) -> Vec<u8> {
+    let mut card = Assembly::new(format, layout);
     let mut next = 0;
     let mut take = |count: usize| -> Vec<usize> {
         next += count;
         (next - count..next).collect()
     };
-    let root = take(21);
-    card.directory(&root, 42);
-    for number in 0..40 {
-        let chain = take(26);
+    let root = take((2 + directories).div_ceil(2));
+    card.directory(&root, 2 + directories as u32);
+    for number in 0..directories {
+        let length = 2 + files;
+        let chain = take(length.div_ceil(2));
         let name = format!("SAVE{number:02}");
-        card.put(root[1 + number / 2], number % 2, &directory(name.as_bytes(), 52, chain[0] as u32));
-        card.directory(&chain, 52);
-        for file_number in 0..50 {
+        card.put(root[1 + number / 2], number % 2, &directory(name.as_bytes(), length as u32, chain[0] as u32));
+        card.directory(&chain, length as u32);
+        for file_number in 0..files {
             let bytes = 1 + (number * 977 + file_number * 211) % 2500;
             let name = format!("file{file_number:02}");
             let data = take(bytes.div_ceil(CLUSTER_DATA));

@@ -8,6 +8,9 @@ pub const VERSIONS: [&[u8; 12]; 2] = [b"1.1.0.0\0\0\0\0\0", b"1.2.0.0\0\0\0\0\0"
 
 /// Clusters in an erase block.
 pub const BLOCK: u64 = 8;
+/// Clusters of the smallest card and of the greatest.
+pub const LEAST_CLUSTERS: usize = 32;
+pub const MOST_CLUSTERS: usize = 65_536;
 /// Table words in a cluster.
 pub const WORDS: usize = 256;
 /// The table word that ends a chain.
@@ -45,11 +48,16 @@ pub struct Card {
     pub table: Vec<u32>,
 }
 
-/// N by the image's length: a multiple of 8 from 32 to 8,192.
+/// Whether N is allowed: a multiple of 8 from 32 to 65,536.
+pub fn is_allowed(clusters: usize) -> bool {
+    clusters.is_multiple_of(8) && (LEAST_CLUSTERS..=MOST_CLUSTERS).contains(&clusters)
+}
+
+/// N by the image's length, where it is allowed.
 pub fn clusters_of(format: Format, length: usize) -> Option<usize> {
     let bytes = format.cluster_bytes();
     let clusters = length / bytes;
-    (length.is_multiple_of(bytes) && clusters.is_multiple_of(8) && (32..=8192).contains(&clusters)).then_some(clusters)
+    (length.is_multiple_of(bytes) && is_allowed(clusters)).then_some(clusters)
 }
 
 /// A page that is needed: where it is unreadable, 2.
@@ -95,7 +103,8 @@ impl Card {
         let alloc_offset = word(&block, 0x34) as usize;
         let alloc_end = word(&block, 0x38) as usize;
 
-        // The indirect cluster's name is judged before its pages, all names before the table.
+        // The indirect cluster's name is judged before its pages, all names before the table. Its 256 words are enough,
+        // since alloc_end is below N.
         let mut names: Vec<usize> = Vec::new();
         let judge = |names: &mut Vec<usize>, name: usize| {
             if name < 1 || name >= alloc_offset || names.contains(&name) {

@@ -64,7 +64,7 @@ pub fn create(format: Format, image: &mut [u8], path: &[u8], time: &Time, data: 
 pub fn make_dir(format: Format, image: &mut [u8], path: &[u8], time: &Time) -> Result<(), Refusal> {
     let checked = Checked::of(format, image)?;
     let names = changed_names(path)?;
-    if names.len() == paths::NAMES {
+    if names.len() == paths::MOST_NAMES {
         return Err(Refusal::number(8));
     }
     judge_time(time)?;

@@ -1,9 +1,12 @@
-//! Paths: `/`, or one to four names each after `/`.
+//! Paths: `/`, or one to eight names each after `/`.
 
 use crate::names;
+use crate::tree::DEEPEST;
 
-/// Most names in a path.
-pub const NAMES: usize = 4;
+/// Most names in a path: a file may stand in a directory that lies deepest.
+pub const MOST_NAMES: usize = DEEPEST + 1;
+/// Most bytes in a path: so many names of 31 bytes, each after its `/`.
+pub const MOST_BYTES: usize = MOST_NAMES * names::FIELD;
 
 /// The names of a path, none for the root; nothing where it is malformed.
 pub fn parse(path: &[u8]) -> Option<Vec<&[u8]>> {
@@ -11,7 +14,7 @@ pub fn parse(path: &[u8]) -> Option<Vec<&[u8]>> {
         return Some(Vec::new());
     }
     let names: Vec<&[u8]> = path.strip_prefix(b"/")?.split(|&byte| byte == b'/').collect();
-    (names.len() <= NAMES && names.iter().all(|name| names::allowed(name))).then_some(names)
+    (names.len() <= MOST_NAMES && names.iter().all(|name| names::allowed(name))).then_some(names)
 }
 
 /// The path of a name inside the directory at a path.
@@ -22,6 +25,11 @@ pub fn join(directory: &[u8], name: &[u8]) -> Vec<u8> {
     }
     path.extend_from_slice(name);
     path
+}
+
+/// How many names a well-formed path has.
+pub fn depth(path: &[u8]) -> usize {
+    parse(path).expect("a well-formed path").len()
 }
 
 /// Whether the first path's names are, in order, the other's first ones. Both are well formed.
@@ -47,7 +55,7 @@ mod tests {
     #[test]
     fn malformed_paths() {
         let long = [b"/".as_slice(), &[b'x'; 32]].concat();
-        let bad: [&[u8]; 17] = [
+        let bad: [&[u8]; 18] = [
             b"",
             b"a",
             b"//",
@@ -59,7 +67,8 @@ mod tests {
             b"/a/.",
             b"/a*",
             b"/?",
-            b"/a/b/c/d/e",
+            b"/a/b/c/d/e/f/g/h/i",
+            b"/a/b/c/d/e/f/g/h/",
             b"/a\x1f",
             b"/a\x7f",
             b"/a\0",
@@ -76,6 +85,18 @@ mod tests {
         assert_eq!(parse(b"/"), Some(vec![]));
         assert_eq!(parse(b"/a/ /c/..."), Some(vec![&b"a"[..], b" ", b"c", b"..."]));
         assert!(parse(&[b"/".as_slice(), &[b'~'; 31]].concat()).is_some());
+        assert_eq!(parse(b"/a/b/c/d/e/f/g/h").map(|names| names.len()), Some(MOST_NAMES));
+    }
+
+    /// A path of all its 256 bytes, and one name more.
+    #[test]
+    fn longest_path() {
+        let name = [b"/".as_slice(), &[b'n'; 31]].concat();
+        let longest = name.repeat(8);
+        assert_eq!((longest.len(), MOST_BYTES), (256, 256));
+        assert_eq!(parse(&longest).map(|names| names.len()), Some(8));
+        assert_eq!(parse(&[&longest[..], b"n"].concat()), None);
+        assert_eq!(parse(&[&longest[..], b"/n"].concat()), None);
     }
 
     #[test]

@@ -9,7 +9,7 @@ use crate::page::Format;
 use crate::Refusal;
 
 /// Directories lie at most this many below the root.
-pub const DEPTH: usize = 3;
+pub const DEEPEST: usize = 7;
 
 const BAD_CHAIN: Refusal = Refusal::number(6);
 const BAD_ENTRY: Refusal = Refusal::number(7);
@@ -166,7 +166,7 @@ fn is_dots(entry: &Entry, name: &[u8]) -> bool {
 /// The rules of one later live entry, in a directory this far below the root; its name if they hold.
 fn judge(entry: &Entry, depth: usize) -> Option<&[u8]> {
     let rules = match entry.mode & (DIRECTORY | FILE) {
-        DIRECTORY => entry.length >= 2 && depth < DEPTH,
+        DIRECTORY => entry.length >= 2 && depth < DEEPEST,
         FILE => entry.length > 0 || entry.first_cluster == NO_CLUSTER,
         _ => false,
     };

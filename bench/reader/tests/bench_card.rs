@@ -58,18 +58,20 @@ fn order_of_removal_and_creation() {
     }
 }
 
+/// The four-name case of document 01, moved to eight names by request 7 of document 02.
 #[test]
-fn four_names() {
+fn eight_names() {
     let time = usual_time();
+    let path = b"/a/b/c/d/e/f/g/h";
     for format in Format::BOTH {
         let mut image = bench(format);
-        for path in [&b"/a"[..], b"/a/b", b"/a/b/c"] {
-            make_dir(format, &mut image, path, &time).unwrap();
+        for names in 1..=7 {
+            make_dir(format, &mut image, &path[..2 * names], &time).unwrap();
         }
-        assert_eq!(number(make_dir(format, &mut image, b"/a/b/c/d", &time)), 8);
-        assert_eq!(create(format, &mut image, b"/a/b/c/d", &time, b"deep"), Ok(()));
+        assert_eq!(number(make_dir(format, &mut image, path, &time)), 8);
+        assert_eq!(create(format, &mut image, path, &time, b"deep"), Ok(()));
         let mut buffer = [0; 8];
-        assert_eq!(read(format, &image, b"/a/b/c/d", 0, &mut buffer), Ok(4));
+        assert_eq!(read(format, &image, path, 0, &mut buffer), Ok(4));
         assert_eq!(&buffer, b"deep\0\0\0\0");
     }
 }

@@ -3,6 +3,7 @@
 use reader::build::random::random;
 use reader::build::scribble::{break_page, flip, junk_spare};
 use reader::build::{bench, standard};
+use reader::card::is_allowed;
 use reader::ecc::code_of;
 use reader::page::{self, DATA};
 use reader::rng::Rng;
@@ -31,20 +32,22 @@ fn converted(from: Format, image: &[u8]) -> Result<Vec<u8>, Refusal> {
 fn lengths() {
     for from in Format::BOTH {
         let (bytes, other) = (from.cluster_bytes(), from.other().cluster_bytes());
-        for clusters in (0..=96).chain([255, 256, 264, 8184, 8185, 8192, 8193, 8200]) {
+        for clusters in (0..=96).chain([255, 256, 264, 8192, 8193, 8200, 65_535, 65_536, 65_544]) {
             let exact = clusters * bytes;
+            let image = vec![0xFF; exact + from.page_bytes()];
             for length in [exact.saturating_sub(1), exact, exact + 1, exact + from.page_bytes()] {
-                let image = vec![0xFF; length];
-                let is_card = length == exact && clusters % 8 == 0 && (32..=8192).contains(&clusters);
+                let image = &image[..length];
+                let is_card = length == exact && is_allowed(clusters);
                 let right = clusters * other;
-                for room in [0, right.saturating_sub(1), right, right + 1, length] {
+                let rooms = [right, right + 1, right.saturating_sub(1), 0, length];
+                for &room in &rooms[..if clusters < 300 { 5 } else { 2 }] {
                     let expected = match (is_card, room == right) {
                         (false, _) => Err(Refusal::number(1)),
                         (true, false) => Err(Refusal::number(23)),
                         (true, true) => Ok(()),
                     };
                     let mut output = vec![0x5A; room];
-                    assert_eq!(convert(from, &image, &mut output), expected, "{from:?}, {length} to {room}");
+                    assert_eq!(convert(from, image, &mut output), expected, "{from:?}, {length} to {room}");
                     assert!(expected.is_ok() || output.iter().all(|&byte| byte == 0x5A), "{length} to {room}");
                 }
             }

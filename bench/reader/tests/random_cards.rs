@@ -2,22 +2,25 @@
 
 use reader::build::random::{random, sized, RandomCard};
 use reader::build::requests::random_path;
-use reader::build::vandal::vandalised;
+use reader::build::vandal::{too_deep, vandalised};
+use reader::card::MOST_CLUSTERS;
 use reader::content::{lines, Line};
+use reader::paths::{depth, MOST_BYTES, MOST_NAMES};
 use reader::rng::Rng;
 use reader::{check, find, list, read, step, tree, Format, Piece, Refusal};
 
 /// The pages of files that must be unreadable, on cards as varied as they are meant to be.
 fn counts_and_tree(format: Format) -> usize {
-    let (mut deepest, mut orphans, mut damaged, mut tables) = (0, 0, 0, 0);
+    let (mut orphans, mut damaged, mut tables, mut longest) = (0, 0, 0, 0);
+    let mut deepest = [0; MOST_NAMES + 1];
     for seed in 0..400 {
         let card = random(format, seed);
         assert_eq!(check(format, &card.image), Ok(card.counts), "seed {seed}");
         assert!(tree(format, &card.image).unwrap() == card.tree, "seed {seed}");
         let counts = card.counts;
         assert_eq!(counts.free + counts.reached + counts.orphaned, card.layout.alloc_end);
-        deepest =
-            deepest.max(card.tree.keys().map(|path| path.iter().filter(|&&byte| byte == b'/').count()).max().unwrap());
+        deepest[card.tree.keys().map(|path| depth(path)).max().unwrap()] += 1;
+        longest = longest.max(card.tree.keys().map(Vec::len).max().unwrap());
         orphans += counts.orphaned;
         damaged += card
             .tree
@@ -27,8 +30,9 @@ fn counts_and_tree(format: Format) -> usize {
             .count();
         tables = tables.max(card.layout.table.len());
     }
-    assert_eq!(deepest, 4);
-    assert!(orphans > 1000 && tables > 10, "{orphans} {tables}");
+    println!("{format:?}, cards by the most names of a path: {deepest:?}");
+    assert!(deepest.iter().all(|&cards| cards >= 5), "{deepest:?}");
+    assert!(orphans > 1000 && tables > 10 && longest == MOST_BYTES, "{orphans} {tables} {longest}");
     damaged
 }
 
@@ -49,6 +53,28 @@ fn a_full_sized_card() {
         let card = sized(format, seed, 8192);
         assert_eq!(check(format, &card.image), Ok(card.counts));
         assert!(tree(format, &card.image).unwrap() == card.tree);
+    }
+}
+
+/// 255 table clusters in no order, half of them named by the indirect cluster's second page.
+#[test]
+fn the_greatest_cards() {
+    for format in Format::BOTH {
+        let card = sized(format, 4, MOST_CLUSTERS);
+        println!("{format:?}: {:?}, {} paths", card.counts, card.tree.len());
+        assert_eq!(card.layout.table.len(), 255);
+        assert_eq!(check(format, &card.image), Ok(card.counts));
+        assert!(tree(format, &card.image).unwrap() == card.tree);
+    }
+}
+
+/// A directory 8 below the root is refused at its entry, though all of it is sound.
+#[test]
+fn directories_too_deep() {
+    for format in Format::BOTH {
+        let cards: Vec<Vec<u8>> = (0..300).filter_map(|seed| too_deep(format, seed)).collect();
+        assert!(cards.len() >= 20, "{}", cards.len());
+        assert!(cards.iter().all(|image| check(format, image) == Err(Refusal::number(7))));
     }
 }
 

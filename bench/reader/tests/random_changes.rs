@@ -26,7 +26,7 @@ fn room(format: Format, image: &[u8], directory: &[u8]) -> (bool, bool) {
 /// The number a change must be refused with, from the tree, the free count and the room.
 fn predicted(format: Format, image: &[u8], tree: &Tree, change: &Change) -> Option<u8> {
     let Some(names) = paths::parse(change.path()).filter(|names| !names.is_empty()) else { return Some(8) };
-    if matches!(change, Change::MakeDir { .. }) && names.len() == 4 {
+    if matches!(change, Change::MakeDir { .. }) && names.len() == paths::MOST_NAMES {
         return Some(8);
     }
     let time = match change {

@@ -1,5 +1,6 @@
 //! Refusals 8 to 15 in their order, and what finding, stepping and reading answer, in both formats.
 
+use reader::build::deep;
 use reader::build::good::sample;
 use reader::build::scribble::{break_page, flip};
 use reader::build::usual_time;
@@ -15,7 +16,7 @@ fn number<T: std::fmt::Debug>(answer: Result<T, Refusal>) -> u8 {
 }
 
 const MALFORMED: [&[u8]; 12] =
-    [b"", b"F", b"//", b"/F/", b"//F", b"/D//D2", b"/.", b"/D/..", b"/F*", b"/a/b/c/d/e", b"/F\0", b"/\x80"];
+    [b"", b"F", b"//", b"/F/", b"//F", b"/D//D2", b"/.", b"/D/..", b"/F*", b"/a/b/c/d/e/f/g/h/i", b"/F\0", b"/\x80"];
 
 #[test]
 fn malformed_paths_come_first() {
@@ -53,13 +54,18 @@ fn the_root() {
 }
 
 #[test]
-fn a_new_directory_at_four_names() {
+fn a_new_directory_at_eight_names() {
     for format in Format::BOTH {
-        let mut image = sample(format).finish();
-        for path in [&b"/D/D2/D3/x"[..], b"/D/D2/D3/deep", b"/no/such/way/x", b"/F/x/y/z"] {
+        let mut image = deep::sample(format).finish();
+        for path in [&b"/D1/D2/D3/D4/D5/D6/D7/x"[..], deep::PATH, b"/no/such/way/e/f/g/h/x", b"/F/b/c/d/e/f/g/h"] {
             assert_eq!(number(make_dir(format, &mut image, path, &BAD_TIME)), 8);
+            assert_eq!(number(make_dir(format, &mut image, path, &usual_time())), 8);
         }
-        assert_eq!(make_dir(format, &mut image, b"/D/D2/x", &usual_time()), Ok(()));
+        // With a name less it is the time that is judged next, then the way.
+        assert_eq!(number(make_dir(format, &mut image, b"/no/such/way/e/f/g/h", &BAD_TIME)), 14);
+        assert_eq!(number(make_dir(format, &mut image, b"/no/such/way/e/f/g/h", &usual_time())), 9);
+        assert_eq!(make_dir(format, &mut image, b"/D1/D2/D3/D4/D5/D6/x", &usual_time()), Ok(()));
+        assert_eq!(create(format, &mut image, b"/D1/D2/D3/D4/D5/D6/x/y", &usual_time(), b"y"), Ok(()));
     }
 }
 

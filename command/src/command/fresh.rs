@@ -1,6 +1,6 @@
 //! The command that makes a card: new.
 
-use ps2card::{allowed_clusters, image_file, Card, STANDARD_CLUSTERS};
+use ps2card::{allowed_clusters, image_file, Card, MOST_CLUSTERS, STANDARD_CLUSTERS};
 
 use super::{changeable, say, Command};
 use crate::arguments::{Call, Opt, Syntax};
@@ -21,7 +21,7 @@ fn new(call: &Call) -> Result<(), Failure> {
     let image = changeable(call)?;
     let clusters = call.number(1, "N")?.unwrap_or(STANDARD_CLUSTERS);
     if !allowed_clusters(clusters) {
-        return Err(call.usage(format!("N is a multiple of 8 from 32 to 8192, not {clusters}")));
+        return Err(call.usage(format!("N is a multiple of 8 from 32 to {MOST_CLUSTERS}, not {clusters}")));
     }
     let card =
         Card::fresh(call.format(), clusters, &call.stamp()).map_err(|refusal| Failure::refused(refusal, image))?;

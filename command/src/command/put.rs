@@ -6,7 +6,7 @@ use std::io::Read;
 use std::os::unix::ffi::{OsStrExt, OsStringExt};
 use std::path::Path;
 
-use ps2card::{Card, Refusal, Stamp, STANDARD_CLUSTERS};
+use ps2card::{Card, Refusal, Stamp, MOST_CLUSTERS};
 
 use super::{change, join, Command};
 use crate::arguments::{Call, Opt, Syntax};
@@ -48,7 +48,7 @@ fn put(call: &Call) -> Result<(), Failure> {
     }
     let name = name(call, source)?;
     let kind = fs::metadata(source).map_err(|error| Failure::host("read", source, error))?;
-    let mut gathered = Gathered { items: Vec::new(), room: STANDARD_CLUSTERS * 1024, too_much: false };
+    let mut gathered = Gathered { items: Vec::new(), room: MOST_CLUSTERS * 1024, too_much: false };
     match kind.is_dir() {
         true => gathered.directory(source, join(b"/", &name))?,
         false => gathered.file(source, join(b"/", &name))?,

@@ -24,41 +24,45 @@ static struct {
     uint8_t created[8], modified[8], name[32];
 } out;
 
-#define PATH(text) (const uint8_t *)text, sizeof text - 1
+/* The directories at six and at seven names, which is as deep as they go. */
+#define ABOVE "/a/b/c/d/e/f"
+#define DEEPEST ABOVE "/g"
+
+#define PATH(text) (const uint8_t *)(text), sizeof(text) - 1
 
 static uint32_t check(void) {
     return ps2card_check(format, work, image_length, &out.page, &out.clusters, &out.a, &out.b, &out.c);
 }
 static uint32_t find(void) {
-    return ps2card_find(format, work, image_length, PATH("/a/b/c/file"), &out.page, &out.mode, &out.length, out.created,
+    return ps2card_find(format, work, image_length, PATH(DEEPEST "/file"), &out.page, &out.mode, &out.length, out.created,
                         &out.first, &out.dir_entry, out.modified, &out.attribute, out.name);
 }
 static uint32_t step(void) {
-    return ps2card_step(format, work, image_length, PATH("/a/b/c"), 2, &out.page, &out.found, &out.at, &out.mode,
+    return ps2card_step(format, work, image_length, PATH(DEEPEST), 2, &out.page, &out.found, &out.at, &out.mode,
                         &out.length, out.created, &out.first, &out.dir_entry, out.modified, &out.attribute, out.name);
 }
 static uint32_t read_file(void) {
-    return ps2card_read(format, work, image_length, PATH("/a/b/c/file"), 1, bytes, sizeof bytes, &out.page, &out.a);
+    return ps2card_read(format, work, image_length, PATH(DEEPEST "/file"), 1, bytes, sizeof bytes, &out.page, &out.a);
 }
 static uint32_t list(void) {
     return ps2card_list(format, work, image_length, bytes, sizeof bytes) == 0;
 }
 static uint32_t create(void) {
-    return ps2card_create(format, work, image_length, PATH("/a/b/c/new"), time_of_change, bytes, sizeof bytes,
+    return ps2card_create(format, work, image_length, PATH(DEEPEST "/new"), time_of_change, bytes, sizeof bytes,
                           &out.page);
 }
 static uint32_t replace(void) {
-    return ps2card_replace(format, work, image_length, PATH("/a/b/c/file"), time_of_change, bytes, sizeof bytes,
+    return ps2card_replace(format, work, image_length, PATH(DEEPEST "/file"), time_of_change, bytes, sizeof bytes,
                            &out.page);
 }
 static uint32_t delete_file(void) {
-    return ps2card_delete(format, work, image_length, PATH("/a/b/c/file"), &out.page);
+    return ps2card_delete(format, work, image_length, PATH(DEEPEST "/file"), &out.page);
 }
 static uint32_t make_dir(void) {
-    return ps2card_make_dir(format, work, image_length, PATH("/a/b/new"), time_of_change, &out.page);
+    return ps2card_make_dir(format, work, image_length, PATH(ABOVE "/new"), time_of_change, &out.page);
 }
 static uint32_t remove_dir(void) {
-    return ps2card_remove_dir(format, work, image_length, PATH("/a/b/empty"), &out.page);
+    return ps2card_remove_dir(format, work, image_length, PATH(ABOVE "/empty"), &out.page);
 }
 
 /* One of the two takes the image, the other what becomes of it. */

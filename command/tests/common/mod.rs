@@ -201,11 +201,26 @@ pub fn unreadable_pages(format: Format, image: &[u8]) -> Vec<(Vec<u8>, Vec<usize
     files
 }
 
-/// A raw card with so many empty files in the directory `/SAVE`, `file0000` and on; an even number.
+/// The layout of the largest card, of 64 MiB, as `new` makes it.
+pub fn largest() -> Layout {
+    let (alloc_offset, backups) = (264, [8191, 8190]);
+    Layout {
+        clusters: 65_536,
+        alloc_offset,
+        alloc_end: 65_256,
+        table: (9..264).collect(),
+        backups,
+        ..Layout::standard()
+    }
+}
+
+/// A raw card with so many empty files in the directory `/SAVE`, `file0000` and on. It is a standard one, or of the
+/// largest size where that has no room.
 pub fn crowd(entries: usize) -> Vec<u8> {
-    let mut card = Assembly::new(Raw, Layout::standard());
+    let layout = if entries <= 16_000 { Layout::standard() } else { largest() };
+    let mut card = Assembly::new(Raw, layout);
     card.directory(&[0, 1], 3);
-    let chain: Vec<usize> = (2..2 + (entries + 2) / 2).collect();
+    let chain: Vec<usize> = (2..2 + (entries + 2).div_ceil(2)).collect();
     card.put(1, 0, &directory(b"SAVE", entries as u32 + 2, chain[0] as u32));
     card.directory(&chain, entries as u32 + 2);
     for number in 0..entries {

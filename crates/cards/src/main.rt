@@ -1,13 +1,10 @@
 // Lists every card of its data folder, as `list` does: good ones, worn ones, and one for each refusal.
+use listing::SMALL_IMAGE;
+use listing::SMALL_ROOM;
 use page::Format;
 
-// As `list` has it.
-const MOST_BYTES: usize = 59136;
-
-const ROOM: usize = 16384;
-
 fn show(image: &[u8]) {
-    let mut text = [0u8; ROOM];
+    let mut text = [0u8; SMALL_ROOM];
     let length = listing::list(Format::Raw, image, &mut text);
     io::write_all(1, listing::written(&text, length));
 }
@@ -19,10 +16,10 @@ fn card(title: &[u8], path: &[u8]) {
         os::fail(path);
         return;
     }
-    let mut image = [0u8; MOST_BYTES + 1];
+    let mut image = [0u8; SMALL_IMAGE + 1];
     let count = io::read_full(file, &mut image);
     libc::close(file);
-    if MOST_BYTES < count {
+    if SMALL_IMAGE < count {
         io::write_all(1, b"refused 1\n");
         return;
     }

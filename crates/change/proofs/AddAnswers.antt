@@ -1,5 +1,5 @@
 -- A new entry in a directory: each way out of the code is what the definition says.
-use Prim.Native.Nat.{ℕ, _-_, _<_}
+use Prim.Native.Nat.{ℕ, _-_, _*_, _<_, _≤_}
 use mathlib.Core.Bool.{Bool, false, true}
 use mathlib.Core.List.{List}
 use mathlib.Core.Path.{_∙_, _≡_, ap, ap₂, subst, sym}
@@ -11,6 +11,7 @@ use Rattle.tree.specs.declared.along.Place.the-variants as place
 use Rattle.tree.specs.Scan.{bearing, dying, scan}
 use Rattle.model.specs.Bytes.{wordLimit}
 use Rattle.model.specs.Entry.{entryOf, isDirectory}
+use Rattle.model.specs.View.{mostClusters}
 use Rattle.tree.specs.Slots.{nextOf, slotPages}
 use Rattle.change.specs.declared.entries.EntryAt.{EntryAt}
 use Rattle.change.specs.Calls.{CanAdd, CanAddIn, added, addedIn, contentsOf, deadOf, dotsOf, newOf, placeOf, refusedBy}
@@ -71,6 +72,6 @@ module _ (s : Superblock) (image table : List ℕ) (directory : EntryAt) (name :
       number-fits can e = let z = ap₂ numberBy (here .dead-is) (sym e) in omega (arith, numbered making (can (here .is-directory) (here .missing)))
         where
           numbered : (b : Bool) {contents : List ℕ} → CanAdd s image table directory (newOf b bytes (deadOf (viewBy (s .geometry) table image) table directory)) time name contents
-              → numberBy (deadOf (viewBy (s .geometry) table image) table directory) (entriesOf directory) < 65536
+              → numberBy (deadOf (viewBy (s .geometry) table image) table directory) (entriesOf directory) ≤ 2 * mostClusters
           numbered true x = x .low-slot
           numbered false x = x .low-slot

@@ -1,5 +1,5 @@
 -- What the code answers where a path's directory was found is what the model says of a creation.
-use Prim.Native.Nat.{ℕ, _+_, _<_, _≤_}
+use Prim.Native.Nat.{ℕ, _+_, _*_, _<_, _≤_}
 use mathlib.Core.Bool.{Bool, false, true}
 use mathlib.Core.List.{List, [], _∷_}
 use mathlib.Core.Path.{_∙_, _≡_, ap, ap₂, refl, sym}
@@ -27,7 +27,7 @@ use Rattle.model.specs.Pages.{newPage}
 use Rattle.model.specs.Plan.{newEntry}
 use Rattle.model.specs.Refusal.{mustLack, own, static}
 use Rattle.model.specs.Tree.{Root, Slot, Tree, entryPages, reached, times}
-use Rattle.model.specs.View.{topBit}
+use Rattle.model.specs.View.{mostClusters, topBit}
 use Rattle.model.proofs.CheckHolds.{check-holds}
 use Rattle.model.proofs.CountLaws.{card-used}
 use Rattle.model.proofs.Equality.{tf}
@@ -56,10 +56,10 @@ module _ (format : Format) (image : List ℕ) (s : Superblock) (root : Root) (m 
   holds : HoldsCard (see s image) root
   holds = (check-holds (see s image) root m ((checked-parts format image s root m checked) .1)) .0
 
-  pub end-few : s .end ≤ 8192
+  pub end-few : s .end ≤ mostClusters
   end-few = let g = open-facts format image s opened in omega (arith, g .room, g .most)
 
-  free-few : length (freeList (tableOf image s)) ≤ 8192
+  free-few : length (freeList (tableOf image s)) ≤ mostClusters
   free-few = free.free-few format image (tableOf image s) s opened (length-table image s)
 
   module _ (p : Path) (here : EntryAt) (site : Site (see s image) (tableOf image s) root p here) where
@@ -73,7 +73,7 @@ module _ (format : Format) (image : List ℕ) (s : Superblock) (root : Root) (m 
     chain-few : length (site .chain) ≤ s .end
     chain-few = few (s .end) (site .chain) (λ c. omega (arith, chain-reached c, holds .once c)) chain-low
 
-    pub entries-few : entriesOf here ≤ 16384
+    pub entries-few : entriesOf here ≤ 2 * mostClusters
     entries-few = omega (arith, site .long, chain-few, end-few)
 
     pub last-low : lastOf (tableOf image s) here < topBit
@@ -102,10 +102,10 @@ module _ (format : Format) (image : List ℕ) (s : Superblock) (root : Root) (m 
             (z .0, z .1, z .2 ∙ ap (λ l. getD l k 0) (sym (site .pages)))
 
     -- the number of the new slot
-    numbered : numberBy (deadOf (see s image) (tableOf image s) here) (entriesOf here) < 65536
+    numbered : numberBy (deadOf (see s image) (tableOf image s) here) (entriesOf here) ≤ 2 * mostClusters
     numbered = go (deadOf (see s image) (tableOf image s) here) dead-so
       where
-        go : (d : Place) → DeadAt (entryPages (Slot.directory (entryOf (here .page)) (site .chain))) (site .slots) d → numberBy d (entriesOf here) < 65536
+        go : (d : Place) → DeadAt (entryPages (Slot.directory (entryOf (here .page)) (site .chain))) (site .slots) d → numberBy d (entriesOf here) ≤ 2 * mostClusters
         go place.Nowhere z = omega (arith, entries-few)
         go (place.At k q) z =
             omega (arith, entries-few, z .1, site .two, slots-many (entryOf (here .page)) (site .chain) (site .slots) (see s image) (site .below) (site .two) (site .long) (site .held))
@@ -126,7 +126,7 @@ module _ (format : Format) (image : List ℕ) (s : Superblock) (root : Root) (m 
   -- ---- a change that puts a new entry down, with what the model does of it where the name is absent and enough is free
   module _ (c : Change) (fine : static c ≡ 0) (creating : creates c ≡ true) (lacking : (g : Found) → own c g ≡ mustLack g) (here : EntryAt)
       (site : Site (see s image) (tableOf image s) root (path c) here) (new : NewEntry) (dead-is : new .dead ≡ deadOf (see s image) (tableOf image s) here) (time bytes : List ℕ)
-      (many : size c ≡ clustersFor (length bytes)) (few-bytes : clustersFor (length bytes) ≤ 8192 → new .count < wordLimit)
+      (many : size c ≡ clustersFor (length bytes)) (few-bytes : clustersFor (length bytes) ≤ mostClusters → new .count < wordLimit)
       (does : lookIn (site .slots) (lastName (path c) ∷ []) ≡ absent → needOf here (new .dead) bytes ≤ length (freeList (tableOf image s)) → Adds format image s here c new time (lastName (path c)) bytes) where
     at-dead : DeadAt (entryPages (Slot.directory (entryOf (here .page)) (site .chain))) (site .slots) (new .dead)
     at-dead = rw dead-is (dead-so (path c) here site)

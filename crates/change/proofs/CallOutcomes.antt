@@ -21,7 +21,7 @@ use Rattle.lookup.proofs.SiteLaws as lookup
 use Rattle.model.specs.Change.{Change, Rules, path}
 use Rattle.model.specs.Check.{Marks, ok}
 use Rattle.model.specs.Entry.{entryOf, isDirectory}
-use Rattle.model.specs.Holds.{HoldsCard, deepest}
+use Rattle.model.specs.Holds.{HoldsCard, deepest, mostNames}
 use Rattle.model.specs.Lookup.{lookUp}
 use Rattle.model.specs.Names.{Path, goodNames, goodPath, lastName}
 use Rattle.model.specs.Refusal.{refusal, static, way}
@@ -67,28 +67,28 @@ no-path kind.Remove time bytes = refl
 
 module _ (p : Path) (good : goodPath (suc deepest) p ≡ true) where
   -- of a good path only a new directory's length is still to be judged
-  short : length p < 4 → goodPath deepest p ≡ true
+  short : length p < mostNames → goodPath deepest p ≡ true
   short h =
-      let names : goodNames p ≡ true = and-r (ltb 0 (length p) && leb (length p) 4) _ good in
-      let some-names : ltb 0 (length p) ≡ true = and-l _ _ (and-l (ltb 0 (length p) && leb (length p) 4) _ good) in
-      rw (some-names, le-leb (length p) 3 (omega arith), names)
+      let names : goodNames p ≡ true = and-r (ltb 0 (length p) && leb (length p) mostNames) _ good in
+      let some-names : ltb 0 (length p) ≡ true = and-l _ _ (and-l (ltb 0 (length p) && leb (length p) mostNames) _ good) in
+      rw (some-names, le-leb (length p) deepest (omega arith), names)
 
-  long : (length p < 4 → ⊥) → goodPath deepest p ≡ false
+  long : (length p < mostNames → ⊥) → goodPath deepest p ≡ false
   long h =
-      let some-names : ltb 0 (length p) ≡ true = and-l _ _ (and-l (ltb 0 (length p) && leb (length p) 4) _ good) in
-      rw (some-names, lt-leb (length p) 3 (omega arith))
+      let some-names : ltb 0 (length p) ≡ true = and-l _ _ (and-l (ltb 0 (length p) && leb (length p) mostNames) _ good) in
+      rw (some-names, lt-leb (length p) deepest (omega arith))
 
   -- 0, 8 or 14, by what the call takes
   pub static-fine : (K : Kind) (time bytes : List ℕ) → takesNames K (length p) ≡ true → takesTime K time ≡ true → static (changeOf K p time bytes) ≡ 0
   static-fine kind.Create time bytes n t = rw (good, t)
-  static-fine kind.Make time bytes n t = rw (short (ltb-true (length p) 4 (and-r (ltb 0 (length p)) _ n)), t)
+  static-fine kind.Make time bytes n t = rw (short (ltb-true (length p) mostNames (and-r (ltb 0 (length p)) _ n)), t)
   static-fine kind.Replace time bytes n t = rw (good, t)
   static-fine kind.Delete time bytes n t = rw good
   static-fine kind.Remove time bytes n t = rw good
 
   pub static-late : (K : Kind) (time bytes : List ℕ) → takesNames K (length p) ≡ true → takesTime K time ≡ false → static (changeOf K p time bytes) ≡ 14
   static-late kind.Create time bytes n t = rw (good, t)
-  static-late kind.Make time bytes n t = rw (short (ltb-true (length p) 4 (and-r (ltb 0 (length p)) _ n)), t)
+  static-late kind.Make time bytes n t = rw (short (ltb-true (length p) mostNames (and-r (ltb 0 (length p)) _ n)), t)
   static-late kind.Replace time bytes n t = rw (good, t)
   static-late kind.Delete time bytes n t = tf refl t
   static-late kind.Remove time bytes n t = tf refl t
@@ -96,7 +96,7 @@ module _ (p : Path) (good : goodPath (suc deepest) p ≡ true) where
 pub static-deep : (p : Path) → (0 < length p → goodPath (suc deepest) p ≡ true) → (K : Kind) (time bytes : List ℕ) → takesNames K (length p) ≡ false → static (changeOf K p time bytes) ≡ 8
 static-deep [] good K time bytes n = no-path K time bytes
 static-deep (a ∷ p) good kind.Create time bytes n = tf (lt-ltb 0 (length (a ∷ p)) (omega arith)) n
-static-deep (a ∷ p) good kind.Make time bytes n = rw (long (a ∷ p) (good (omega arith)) (λ h. tf (lt-ltb (length (a ∷ p)) 4 h) (rw (lt-ltb 0 (length (a ∷ p)) (omega arith)) at n)))
+static-deep (a ∷ p) good kind.Make time bytes n = rw (long (a ∷ p) (good (omega arith)) (λ h. tf (lt-ltb (length (a ∷ p)) mostNames h) (rw (lt-ltb 0 (length (a ∷ p)) (omega arith)) at n)))
 static-deep (a ∷ p) good kind.Replace time bytes n = tf (lt-ltb 0 (length (a ∷ p)) (omega arith)) n
 static-deep (a ∷ p) good kind.Delete time bytes n = tf (lt-ltb 0 (length (a ∷ p)) (omega arith)) n
 static-deep (a ∷ p) good kind.Remove time bytes n = tf (lt-ltb 0 (length (a ∷ p)) (omega arith)) n

@@ -19,7 +19,7 @@ use Rattle.model.specs.Names.{Name, goodName, legalBytes}
 use Rattle.model.specs.Pages.{decoded, entryPage, zeroCluster}
 use Rattle.model.specs.Plan.{Filling, Plan, after, directoryAfter, firstOf, killed, newContents, newDirectory, newFile, setAll}
 use Rattle.model.specs.Tree.{Root, reached, times}
-use Rattle.model.specs.View.{Link, View, pagesOf}
+use Rattle.model.specs.View.{Link, View, mostClusters, pagesOf}
 use Rattle.model.specs.Writes.{clusterWrites, directoryWrite, pageWrites, slotWrite}
 use Rattle.model.proofs.Allocation.{times-append}
 use Rattle.model.proofs.CountLaws.{card-used}
@@ -105,10 +105,10 @@ module _ (y : Rules) (v : View) (sized : (a : ℕ) → Sized (v .page a)) (reads
   pub taken-low : (c : ℕ) → y .allocEnd ≤ c → times (p .taken) c ≡ 0
   taken-low c u = omega (arith, d .low c u)
 
-  taken-few : length (p .taken) ≤ 8192
+  taken-few : length (p .taken) ≤ mostClusters
   taken-few = omega (arith, y .limited, few (y .allocEnd) (p .taken) (λ c. omega (arith, d .fit .clear c)) taken-low)
 
-  length-few : p .newLength ≤ 16384
+  length-few : p .newLength ≤ 2 * mostClusters
   length-few =
       omega (
         arith,

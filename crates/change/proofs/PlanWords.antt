@@ -10,11 +10,12 @@ use lib.Dec.{eqb}
 use Rattle.model.specs.Plan.{Plan}
 use Rattle.model.specs.Tree.{times}
 use Rattle.model.specs.Writes.{chainWords, clearedWords, wordTo, wordsAfter}
+use Rattle.model.specs.View.{mostClusters}
 use Rattle.model.proofs.Allocation.{times-append}
 use Rattle.model.proofs.Equality.{bool}
 use Rattle.model.proofs.Frame.{hit-self}
 
-module _ (end : ℕ) (small : end ≤ 8192) where
+module _ (end : ℕ) (small : end ≤ mostClusters) where
   to-fits : (cs : List ℕ) → ((c : ℕ) → end ≤ c → times cs c ≡ 0) → wordTo cs < 256 ^ 4
   to-fits [] low = omega arith
   to-fits (c ∷ cs) low = go (decLt c end)

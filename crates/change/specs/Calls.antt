@@ -1,5 +1,5 @@
 -- The five changes as the code does them in the directory that a path leads to: what is refused there, and the image afterwards.
-use Prim.Native.Nat.{ℕ, _+_, _-_, _/_, _<_, _≤_}
+use Prim.Native.Nat.{ℕ, _+_, _-_, _*_, _/_, _<_, _≤_}
 use mathlib.Core.Bool.{Bool, false, true}
 use mathlib.Core.List.{List, _++_}
 use mathlib.Core.Path.{_≡_}
@@ -21,7 +21,7 @@ use Rattle.model.specs.Entry.{clustersFor, entryOf, isDirectory}
 use Rattle.model.specs.Names.{Name, dotDotName, dotName}
 use Rattle.model.specs.Pages.{newPage}
 use Rattle.model.specs.Plan.{newEntry}
-use Rattle.model.specs.View.{View, topBit}
+use Rattle.model.specs.View.{View, mostClusters, topBit}
 use Rattle.tree.specs.Slots.{nextOf, slotPages}
 use Rattle.change.specs.declared.editing.Action.{Action}
 use Rattle.change.specs.declared.editing.Action.the-variants as action
@@ -91,9 +91,9 @@ module _ (s : Superblock) (image table : List ℕ) where
   pub record CanAdd (directory : EntryAt) (new : NewEntry) (time name bytes : List ℕ) : Type 0 where
     pub card : Open s image table
     pub some-entries : 1 ≤ entriesOf directory
-    pub few-entries : entriesOf directory < 65536
+    pub few-entries : entriesOf directory ≤ 2 * mostClusters
     pub low-last : lastOf table directory < topBit
-    pub low-slot : numberBy (new .dead) (entriesOf directory) < 65536
+    pub low-slot : numberBy (new .dead) (entriesOf directory) ≤ 2 * mostClusters
     pub small : enough table (needOf directory (new .dead) bytes) ≡ true → new .count < wordLimit
     pub lands : enough table (needOf directory (new .dead) bytes) ≡ true → Lands (s .end) (addedWrites table directory new time name bytes)
 

@@ -31,7 +31,7 @@ changeOf kind.Replace p time bytes = replace p time bytes
 changeOf kind.Delete p time bytes = delete p
 changeOf kind.Remove p time bytes = removeDirectory p
 
--- of a well-formed path's number of names: the root is none, and a new directory has at most three
+-- of a well-formed path's number of names: the root is none, and a new directory has fewer than mostNames
 abbrev pub takesNames : Kind → ℕ → Bool
 takesNames kind.Create n = ltb 0 n
 takesNames kind.Make n = ltb 0 n && ltb n mostNames

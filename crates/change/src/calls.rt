@@ -31,7 +31,7 @@ pub(crate) enum Kind {
     Remove,
 }
 
-// Whether a path of that many names can be the change's: the root is never, and a new directory has at most three.
+// Whether a path of that many names can be the change's: the root is never, and a new directory has fewer than MOST_NAMES.
 fn takes_names(kind: Kind, count: usize) -> bool
     ensures { λ r. ⌜ r ≡ takesNames kind count ⌝ }
 {

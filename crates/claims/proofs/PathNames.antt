@@ -1,4 +1,4 @@
--- Whatever stands in a tree stands at a path that can be handed in: its names are by the rule, and there are at most four.
+-- Whatever stands in a tree stands at a path that can be handed in: its names are by the rule, and there are at most mostNames.
 use Prim.Native.Nat.{ℕ, suc, _≤_, pred}
 use mathlib.Core.Bool.{Bool, _&&_, _||_, false, not, true}
 use mathlib.Core.List.{List, [], _++_, _∷_}

@@ -1,4 +1,4 @@
--- A path as bytes (RULES, "Changes"): `/`, or one to four names each after `/`, each name by the entry's name rule.
+-- A path as bytes (RULES, "Changes"): `/`, or one to mostNames names each after `/`, each name by the entry's name rule.
 use Prim.Native.Nat.{ℕ}
 use mathlib.Core.Bool.{_&&_, cond}
 use mathlib.Core.List.{List, [], _∷_}
@@ -20,7 +20,7 @@ abbrev pub splitNames : List ℕ → Path
 splitNames [] = [] ∷ []
 splitNames (b ∷ bs) = cond (eqb b 0x2F) ([] ∷ splitNames bs) (onFirst b (splitNames bs))
 
--- `/`, or one to four names each after `/`; everything else is malformed: no path
+-- `/`, or one to mostNames names each after `/`; everything else is malformed: no path
 abbrev pub pathOf : List ℕ → Option Path
 pathOf [] = none
 pathOf (b ∷ []) = cond (eqb b 0x2F) (some []) none

@@ -1,4 +1,4 @@
-// A path as bytes: `/`, or one to four names each after `/`.
+// A path as bytes: `/`, or one to MOST_NAMES names each after `/`.
 use crate::names::is_good_name;
 use model::MOST_NAMES;
 ghost use mathlib.Core.Path.{_≡_};

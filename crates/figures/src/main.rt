@@ -106,17 +106,33 @@ fn created_first(fresh: &[u8; BYTES]) {
     tell_free(&image);
 }
 
-// Four names: a file, but no directory. A read at the file's end, and one byte further.
-fn four_names(fresh: &[u8; BYTES]) {
+// Eight names: a file, but no directory; nine are none. A read at the file's end, and one byte further.
+fn eight_names(fresh: &[u8; BYTES]) {
     let mut image = *fresh;
+    let eight = b"/a/b/c/d/e/f/g/h";
     make_dir(&mut image, b"make /a", b"/a");
     make_dir(&mut image, b"make /a/b", b"/a/b");
     make_dir(&mut image, b"make /a/b/c", b"/a/b/c");
     make_dir(&mut image, b"make /a/b/c/d", b"/a/b/c/d");
-    create(&mut image, b"create /a/b/c/d", b"/a/b/c/d", b"twelve bytes");
-    tell_read(&image, b"/a/b/c/d", 0);
-    tell_read(&image, b"/a/b/c/d", 12);
-    tell_read(&image, b"/a/b/c/d", 13);
+    make_dir(&mut image, b"make /a/b/c/d/e", b"/a/b/c/d/e");
+    make_dir(&mut image, b"make /a/b/c/d/e/f", b"/a/b/c/d/e/f");
+    make_dir(&mut image, b"make /a/b/c/d/e/f/g", b"/a/b/c/d/e/f/g");
+    make_dir(&mut image, b"make /a/b/c/d/e/f/g/h", eight);
+    create(
+        &mut image,
+        b"create /a/b/c/d/e/f/g/h",
+        eight,
+        b"twelve bytes",
+    );
+    create(
+        &mut image,
+        b"create /a/b/c/d/e/f/g/h/i",
+        b"/a/b/c/d/e/f/g/h/i",
+        b"",
+    );
+    tell_read(&image, eight, 0);
+    tell_read(&image, eight, 12);
+    tell_read(&image, eight, 13);
 }
 
 // A save in its directory, and the whole listing; then all of it taken away again.
@@ -143,8 +159,8 @@ fn run(fresh: &[u8; BYTES]) {
     removed_first(fresh);
     say(b"== created first\n");
     created_first(fresh);
-    say(b"== four names\n");
-    four_names(fresh);
+    say(b"== eight names\n");
+    eight_names(fresh);
     say(b"== a save\n");
     save(fresh);
 }

@@ -10,7 +10,7 @@ use Rattle.model.specs.Names.{sameName}
 use Rattle.model.specs.View.{mostClusters}
 use Rattle.layout.specs.declared.Superblock.{Superblock}
 
--- The image has N clusters, as many bytes each as its format has; N is a multiple of 8 from 32 to 8,192.
+-- The image has N clusters, as many bytes each as its format has; N is a multiple of 8 from leastClusters to mostClusters.
 abbrev pub leastClusters : ℕ
 leastClusters = 32
 

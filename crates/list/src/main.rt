@@ -1,22 +1,19 @@
-// Reads an image of at most 59,136 bytes from standard input and writes its listing.
+// Reads a small image from standard input and writes its listing, for which there is room (`listing::small_fits`).
+use listing::SMALL_IMAGE;
+use listing::SMALL_ROOM;
 use page::Format;
 
-// The most bytes that are read; longer input is refused as an image of no allowed length.
-const MOST_BYTES: usize = 59136;
-
-// 56 clusters have at most 112 entries, and a line at most 142 bytes.
-const ROOM: usize = 16384;
-
 fn show(image: &[u8]) {
-    let mut text = [0u8; ROOM];
+    let mut text = [0u8; SMALL_ROOM];
     let length = listing::list(Format::Raw, image, &mut text);
     io::write_all(1, listing::written(&text, length));
 }
 
+// Longer input is refused as an image of no allowed length.
 fn main() {
-    let mut image = [0u8; MOST_BYTES + 1];
+    let mut image = [0u8; SMALL_IMAGE + 1];
     let count = io::read_full(0, &mut image);
-    if MOST_BYTES < count {
+    if SMALL_IMAGE < count {
         io::write_all(1, b"refused 1\n");
         return;
     }

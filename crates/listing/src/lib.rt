@@ -14,7 +14,7 @@ use model::MOST_CLUSTERS;
 use page::Format;
 use tree::Checked;
 use tree::Counts;
-use tree::check;
+use tree::check_in;
 ghost use mathlib.Core.Path.{_≡_};
 ghost use Prim.Native.Nat.{_≤_};
 ghost use lib.ListN.{length, take};
@@ -23,7 +23,18 @@ ghost use Rattle.model.specs.Check.{ok};
 ghost use Rattle.tree.specs.Counted.{checkOf};
 ghost use Rattle.listing.specs.Emit.{Wrote};
 ghost use Rattle.listing.specs.Render.{WroteTree};
+ghost use Rattle.listing.specs.Room.{Fits};
 ghost use Rattle.listing.specs.Text.{fitted, listingOf};
+
+// What the programs `list` and `cards` read at most, in bytes.
+pub const SMALL_IMAGE: usize = 59136;
+
+// A line has at most 270 bytes: a letter, ten digits, eight names of 31 bytes with `/` before each, two spaces, a newline.
+const LINE_ROOM: usize = 270;
+
+// The most bytes of the listing of so small an image. It has at most 57 clusters, and cluster 0 is not allocatable: the other 56
+// hold at most 112 entries, and four lines have the counts.
+pub const SMALL_ROOM: usize = (4 + 112) * LINE_ROOM;
 
 // The lines of all entries by the first `end` words of a table.
 fn list_words(
@@ -64,15 +75,18 @@ pub fn list(format: Format, image: &[u8], out: &mut [u8]) -> usize
     ensures length { λ r. ⌜ r ≡ length (listingOf format (now (image .entry))) ⌝ }
     ensures text { λ r. ⌜ now (out .exit) ≡ fitted (now (out .entry)) (listingOf format (now (image .entry))) ⌝ }
 {
-    let checked = check(format, image);
+    let mut table = [0u32; MOST_CLUSTERS];
+    let checked = check_in(format, image, &mut table);
     match checked {
         Checked::Refused(refusal) => put_refusal(out, refusal),
-        Checked::Card(counts) => {
-            let mut table = [0u32; MOST_CLUSTERS];
-            list_card(format, image, &mut table, counts, out)
-        }
+        Checked::Card(counts) => list_card(format, image, &mut table, counts, out),
     }
 }
+
+// The listing of a small image fits its room, whatever the image holds.
+pub fn small_fits()
+    ensures { λ _. do ⌜ Fits (← ⟦SMALL_IMAGE⟧ .entry) (← ⟦SMALL_ROOM⟧ .entry) ⌝ }
+{}
 
 // The part of a buffer in which a text of that length stands: all of the buffer where the text is longer.
 pub fn written(out: &[u8], length: usize) -> &[u8]

@@ -12,7 +12,7 @@ use Rattle.model.specs.View.{Link, View, firstLink, pagesOf}
 
 -- directories lie at most this many below the root
 abbrev pub deepest : ℕ
-deepest = 3
+deepest = 7
 
 -- the most names of a path: a file may stand in the deepest directory
 abbrev pub mostNames : ℕ

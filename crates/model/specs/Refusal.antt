@@ -18,7 +18,7 @@ abbrev pub first : ℕ → ℕ → ℕ
 first zero n = n
 first (suc m) n = suc m
 
--- 8: the path is malformed, names the root, or is a new directory's at four names. 14: the time is invalid. Removing takes no time.
+-- 8: the path is malformed, names the root, or is a new directory's with mostNames names. 14: the time is invalid. Removing takes no time.
 abbrev pub pathRefusal : ℕ → Path → ℕ
 pathRefusal most p = cond (goodPath most p) 0 8
 

@@ -8,7 +8,7 @@ use Rattle.model.specs.Entry.{Entry, endMark}
 
 -- the largest N; alloc_end is at most N
 abbrev pub mostClusters : ℕ
-mostClusters = 8192
+mostClusters = 65536
 
 -- An allocation table word: free, the end of a chain, or the next cluster.
 pub data Link : Type 0 where

@@ -3,11 +3,11 @@ ghost use Rattle.model.specs.Claims.{ChainsAreSound, CheckIsHolding, Vie
 ghost use Rattle.model.specs.Bench.{BenchNumbers};
 
 // The limits (RULES), each with its one name in code: the largest N, how far below the root a directory may lie, and the most names of a path.
-pub const MOST_CLUSTERS: usize = 8192;
+pub const MOST_CLUSTERS: usize = 65536;
 
-pub const DEEPEST: u32 = 3;
+pub const DEEPEST: u32 = 7;
 
-pub const MOST_NAMES: usize = 4;
+pub const MOST_NAMES: usize = 8;
 
 // The check follows exactly the sound chains: below alloc_end, not free, not reached before, the end mark at exactly the k-th.
 pub fn chains_are_sound()

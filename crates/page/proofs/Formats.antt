@@ -37,6 +37,11 @@ pub whole-clusters : (format : Format) (bytes : ℕ) → bytes % clusterBytes fo
 whole-clusters Raw bytes h = omega arith
 whole-clusters Plain bytes h = omega arith
 
+-- clusters have at least their data: 1,024 bytes each
+pub clusters-least : (format : Format) (n : ℕ) → 1024 * n ≤ clusterBytes format * n
+clusters-least Raw n = omega arith
+clusters-least Plain n = omega arith
+
 -- ---- whole pages with nothing after them
 pub pages-start : (format : Format) (n : ℕ) → pagesIn format (pageStart format n) ≡ n
 unfolding pagesIn pageStart

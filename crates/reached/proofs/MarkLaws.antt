@@ -17,7 +17,7 @@ use Rattle.model.specs.Check.{Marks, mark}
 use Rattle.model.specs.Counts.{totalBelow}
 use Rattle.model.specs.Tree.{hit}
 use Rattle.model.specs.View.{mostClusters}
-use Rattle.reached.specs.Marks.{Keeps, Sound, markCount, marked, markedIn, marksOf, noMarks, withBit, withMark}
+use Rattle.reached.specs.Marks.{Keeps, Sound, markCount, markWords, marked, markedIn, marksOf, noMarks, withBit, withMark}
 use Rattle.reached.specs.declared.Reached.{Reached}
 use Rattle.reached.proofs.Totalling.{total-bounds, total-mark, total-room, total-zero}
 use Rattle.reached.proofs.WordBits.{bit-kept, bit-set}
@@ -41,7 +41,7 @@ mark-old r c e = rw e (go (ltb c mostClusters) (ltb (r .count) mostClusters))
     go true false = refl
     go false b = refl
 
-module _ (r : Reached) (c : ℕ) (long : length (r .words) ≡ 128) (h : c < mostClusters) where
+module _ (r : Reached) (c : ℕ) (long : length (r .words) ≡ markWords) (h : c < mostClusters) where
   marked-same : marked (withBit r c) c ≡ true
   unfolding markedIn withBit
   marked-same =
@@ -90,7 +90,7 @@ module _ (r : Reached) (s : Sound r) (c : ℕ) (h : c < mostClusters) (new : mar
       go (yes e) = rw (← e, marked-same r c (s .words) h, new, hit-self c)
       go (no n) = rw (marked-other r c (s .words) h x (λ e. n (sym e)), hit-0 c x n) (omega arith)
 
-  bit-words : length (withBit r c .words) ≡ 128
+  bit-words : length (withBit r c .words) ≡ markWords
   unfolding withBit
   bit-words = simp length-set (s .words)
 
@@ -127,9 +127,9 @@ zeros (suc n) (suc i) = zeros n i
 
 none-word : (i : ℕ) → getD (noMarks .words) i 0 ≡ 0
 unfolding noMarks
-none-word i = zeros 128 i
+none-word i = zeros markWords i
 
-none-words : length (noMarks .words) ≡ 128
+none-words : length (noMarks .words) ≡ markWords
 unfolding noMarks
 none-words = refl
 

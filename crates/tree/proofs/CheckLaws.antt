@@ -20,7 +20,7 @@ use Rattle.model.proofs.CountLaws.{card-used}
 use Rattle.model.specs.Check.{Marks, Result, andThen, checkTree, fault, ok}
 use Rattle.model.specs.Counts.{isOrphan, totalBelow}
 use Rattle.model.specs.Tree.{Root, reached}
-use Rattle.model.specs.View.{View}
+use Rattle.model.specs.View.{View, mostClusters}
 use Rattle.reached.proofs.CountLaws.{free-count, orphan-count, reached-count}
 use Rattle.reached.specs.Totals.{freeWords, orphansIn}
 use Rattle.reached.specs.declared.Reached.{Reached}
@@ -82,7 +82,7 @@ module _ (format : Format) (image : List ℕ) where
     table-room before after f =
         rw (f ∙ ap (λ r. tableAfter image r before) (sym e)) (omega (arith, length-append (tableOf image s) (drop (s .end) before), length-table image s))
 
-    pub end-fits : s .end ≤ 8192
+    pub end-fits : s .end ≤ mostClusters
     end-fits = let g = open-facts format image s (sym e) in omega (arith, g .room, g .most)
 
     pub check-card : (t : List ℕ) → t ≡ tableOf image s → countsBy (s .clusters) (s .geometry) t image ≡ checkOf format image

@@ -2,10 +2,11 @@
 pub mod ChainPages
 pub mod ScanLaws
 pub mod SlotSteps
-pub mod FilterLaws
+pub mod MetLaws
 pub mod LookLaws
 pub mod PageReads
 pub mod TellLaws
+pub mod TaskLaws
 pub mod RootLaws
 pub mod CheckLaws
 pub mod SumLaws

@@ -1,7 +1,7 @@
 -- What the code reads of a slot, and the names before it, are the view's.
-use Rattle.layout.specs.See.{imagePage}
+use Rattle.layout.specs.See.{imagePage, pageIn}
 use Rattle.layout.specs.declared.Geometry.{Geometry}
-use Prim.Native.Nat.{_%_, _+_, _<_, _≤_, ℕ}
+use Prim.Native.Nat.{_%_, _*_, _+_, _<_, _≤_, ℕ}
 use mathlib.Core.Bool.{Bool, cond, false, true}
 use mathlib.Core.List.{List}
 use mathlib.Core.Option.{Option, none, some}
@@ -17,13 +17,13 @@ use Rattle.model.specs.Entry.{Entry, entryOf, isFile, isLive, isSubdirectory}
 use Rattle.model.specs.Names.{Name}
 use Rattle.model.specs.Pages.{decoded}
 use Rattle.model.specs.View.{View}
-use Rattle.page.specs.Page.{Read, isSome, orKept}
+use Rattle.page.specs.Page.{Read, isSome, orKept, pageAt}
 use Rattle.tree.specs.declared.walk.Look.{Look}
 use Rattle.tree.specs.declared.walk.Look.the-variants as look
-use Rattle.tree.specs.Filter.{Knows, hashOf, held, hold}
+use Rattle.tree.specs.Met.{Grows, Knows, hashOf, isMet, markOf, mostPages, withName}
 use Rattle.tree.specs.Slots.{clusterAt, liveBefore, liveHit, nextOf, slotPage, clusterAfter}
 use Rattle.tree.specs.Walk.{lookBy, lookedAt, pickLook}
-use Rattle.tree.proofs.FilterLaws.{knows-hold, knows-new, knows-skip}
+use Rattle.tree.proofs.MetLaws.{grows-self, knows-learnt, knows-new, knows-skip, learnt-grows}
 
 -- ---- a page that was read
 
@@ -40,6 +40,15 @@ was-read {o} {before} {after} k e = go o (sym (k .readable) ∙ e) (k .buffer)
     go : (o : Option (List ℕ)) → isSome o ≡ true → after ≡ orKept o before → decoded o ≡ some (entryOf after)
     go none h b = tf h refl
     go (some d) h b = ap {B = Option Entry} (λ x. some (entryOf x)) (sym b)
+
+-- a page that was read is one of the allocatable clusters
+pub read-low : (geometry : Geometry) (count : ℕ) (image : List ℕ) (page : ℕ) {before after : List ℕ} {r : Bool} → Read (pageIn geometry count image page) before r after → r ≡ true → page < 2 * count
+unfolding pageIn
+read-low geometry count image page k e = go (ltb page (2 * count)) refl (sym (k .readable) ∙ e)
+  where
+    go : (b : Bool) → ltb page (2 * count) ≡ b → isSome (cond b (pageAt (geometry .format) image (imagePage geometry page)) none) ≡ true → page < 2 * count
+    go true f h = ltb-true page (2 * count) f
+    go false f h = tf h refl
 
 -- the cluster of the next slot
 pub step-odd : (t : List ℕ) (c k x : ℕ) → k % 2 ≡ 1 → x ≡ nextOf t c → x ≡ clusterAfter t c k
@@ -64,57 +73,57 @@ look-kind e l =
     go false true = refl
     go false false = refl
 
-module _ (v : View) (t : List ℕ) (start k : ℕ) (bits : List ℕ) (kn : Knows v t start k bits) (c page : ℕ) (here : c ≡ clusterAt t start k) (at : page ≡ slotPage c k) where
-  abbrev shown : Option Entry
-  shown = v .entry (slotPage c k)
+module _ (v : View) (t : List ℕ) (first start k : ℕ) (cells : List ℕ) (kn : Knows v t first start k cells) (c page : ℕ) (here : c ≡ clusterAt t start k) (at : page ≡ slotPage c k)
+    (geometry : Geometry) where
+  -- what a look answers, and what the cells then know
+  abbrev pub Looked : Look → List ℕ → Type 0
+  Looked x after =
+      (x ≡ lookedAt (liveBefore v t start k) (imagePage geometry (slotPage c k)) (v .entry (slotPage c k))) × (Knows v t first start (k + 1) after × Grows cells after)
 
   own-page : (o : Option Entry) → v .entry page ≡ o → v .entry (slotPage (clusterAt t start k) k) ≡ o
   own-page o e = rw (at, here) at e
 
-  skip : ((n : Name) → liveHit (v .entry page) n ≡ 0) → Knows v t start (k + 1) bits
-  skip z = rw (add-one k) (knows-skip v t start k bits kn (λ n. rw (at, here) at (z n)))
+  skip : ((n : Name) → liveHit (v .entry page) n ≡ 0) → Knows v t first start (k + 1) cells × Grows cells cells
+  skip z = (rw (add-one k) (knows-skip v t first start k cells kn (λ n. rw (at, here) at (z n))), grows-self cells)
 
-  pub look-unread : (geometry : Geometry) (p : ℕ) → v .entry page ≡ none → p ≡ imagePage geometry page
-      → (look.Unreadable p ≡ lookedAt (liveBefore v t start k) (imagePage geometry (slotPage c k)) (v .entry (slotPage c k))) × Knows v t start (k + 1) bits
-  look-unread geometry p e q = (rw (← at, e, q), skip (λ n. rw e))
+  pub look-unread : (p : ℕ) → v .entry page ≡ none → p ≡ imagePage geometry page → Looked (look.Unreadable p) cells
+  look-unread p e q = (rw (← at, e, q), skip (λ n. rw e))
 
-  module _ (geometry : Geometry) (e : Entry) (i : v .entry page ≡ some e) where
-    pub look-dead : isLive e ≡ false
-        → (look.Dead ≡ lookedAt (liveBefore v t start k) (imagePage geometry (slotPage c k)) (v .entry (slotPage c k))) × Knows v t start (k + 1) bits
+  module _ (e : Entry) (i : v .entry page ≡ some e) where
+    pub look-dead : isLive e ≡ false → Looked look.Dead cells
     look-dead l = (rw (← at, i, l), skip (λ n. rw (i, l)))
 
-    module _ (l : isLive e ≡ true) (after : List ℕ) (h : after ≡ hold bits (hashOf 0 (e .name))) where
-      met : Knows v t start (k + 1) after
-      met = rw (add-one k, h) (knows-hold v t start k bits kn e (own-page (some e) i))
-
-      pub look-new : (x : Look) → x ≡ lookBy (kindOf e) → liveBefore v t start k (e .name) ≡ 0
-          → (x ≡ lookedAt (liveBefore v t start k) (imagePage geometry (slotPage c k)) (v .entry (slotPage c k))) × Knows v t start (k + 1) after
-      look-new x q z = (q ∙ sym (look-kind e l) ∙ shown-new, met)
-        where
-          shown-new : pickLook (isFile e) (look.File (e .length) (e .firstCluster)) (pickLook (isSubdirectory e) (look.Directory (e .length) (e .firstCluster)) look.Bad)
-              ≡ lookedAt (liveBefore v t start k) (imagePage geometry (slotPage c k)) (v .entry (slotPage c k))
-          shown-new =
-              sym (ap (lookedAt (liveBefore v t start k) (imagePage geometry (slotPage c k))) (ap (v .entry) (sym at) ∙ i)
-              ∙ ap (λ (b : Bool). pickLook b (pickLook (eqb (liveBefore v t start k (e .name)) 0)
-              (pickLook (isFile e) (look.File (e .length) (e .firstCluster)) (pickLook (isSubdirectory e) (look.Directory (e .length) (e .firstCluster)) look.Bad)) look.Bad) look.Dead) l
-              ∙ ap (λ (n : ℕ). pickLook (eqb n 0) (pickLook (isFile e) (look.File (e .length) (e .firstCluster)) (pickLook (isSubdirectory e) (look.Directory (e .length) (e .firstCluster)) look.Bad)) look.Bad) z)
-
-      pub look-met : (x : Look) → x ≡ lookBy (kindOf e) → (b : Bool) → b ≡ held bits (hashOf 0 (e .name)) → b ≡ false
-          → (x ≡ lookedAt (liveBefore v t start k) (imagePage geometry (slotPage c k)) (v .entry (slotPage c k))) × Knows v t start (k + 1) after
-      look-met x q b f g = look-new x q (knows-new v t start k bits kn (e .name) (sym f ∙ g))
-
-      pub look-taken : (b : Bool) → b ≡ ltb 0 (liveBefore v t start k (e .name)) → b ≡ true
-          → (look.Bad ≡ lookedAt (liveBefore v t start k) (imagePage geometry (slotPage c k)) (v .entry (slotPage c k))) × Knows v t start (k + 1) after
-      look-taken b f g =
-          let z : 0 < liveBefore v t start k (e .name) = ltb-true _ _ (sym f ∙ g) in (
-            sym (ap (lookedAt (liveBefore v t start k) (imagePage geometry (slotPage c k))) (ap (v .entry) (sym at) ∙ i)
-                ∙ ap (λ (b : Bool). pickLook b (pickLook (eqb (liveBefore v t start k (e .name)) 0)
-                (pickLook (isFile e) (look.File (e .length) (e .firstCluster)) (pickLook (isSubdirectory e) (look.Directory (e .length) (e .firstCluster)) look.Bad)) look.Bad) look.Dead) l
-                ∙ ap (λ (b : Bool). pickLook b (pickLook (isFile e) (look.File (e .length) (e .firstCluster)) (pickLook (isSubdirectory e) (look.Directory (e .length) (e .firstCluster)) look.Bad)) look.Bad)
-                (ne-eqb (liveBefore v t start k (e .name)) 0 (λ w. omega arith))),
-            met,
+    module _ (l : isLive e ≡ true) (low : page < mostPages) (after : List ℕ)
+        (h : after ≡ withName v t first start k (e .name) page cells) where
+      met : Knows v t first start (k + 1) after × Grows cells after
+      met =
+          let own : page ≡ slotPage (clusterAt t start k) k = rw (← here) at in (
+            rw (add-one k, h, own) (knows-learnt v t first start k cells kn e (own-page (some e) i) l (rw own at low)),
+            rw h (learnt-grows v t start k (e .name) (markOf (hashOf first (e .name))) page cells mostPages (hashOf first (e .name))),
           )
 
-      pub look-free : (x : Look) → x ≡ lookBy (kindOf e) → (b : Bool) → b ≡ ltb 0 (liveBefore v t start k (e .name)) → b ≡ false
-          → (x ≡ lookedAt (liveBefore v t start k) (imagePage geometry (slotPage c k)) (v .entry (slotPage c k))) × Knows v t start (k + 1) after
+      -- the look at a live entry, by whether its name is taken
+      abbrev byName : Bool → Look
+      byName new =
+          pickLook new (pickLook (isFile e) (look.File (e .length) (e .firstCluster)) (pickLook (isSubdirectory e) (look.Directory (e .length) (e .firstCluster)) look.Bad)) look.Bad
+
+      shown-by : (new : Bool) → eqb (liveBefore v t start k (e .name)) 0 ≡ new → lookedAt (liveBefore v t start k) (imagePage geometry (slotPage c k)) (v .entry (slotPage c k)) ≡ byName new
+      shown-by new f =
+          ap (lookedAt (liveBefore v t start k) (imagePage geometry (slotPage c k))) (ap (v .entry) (sym at) ∙ i)
+          ∙ ap (λ (b : Bool). pickLook b (byName (eqb (liveBefore v t start k (e .name)) 0)) look.Dead) l
+          ∙ ap byName f
+
+      pub look-new : (x : Look) → x ≡ lookBy (kindOf e) → liveBefore v t start k (e .name) ≡ 0 → Looked x after
+      look-new x q z = (q ∙ sym (look-kind e l) ∙ sym (shown-by true (eq-eqb _ 0 z)), met)
+
+      pub look-met : (x : Look) → x ≡ lookBy (kindOf e) → (b : Bool) → b ≡ isMet v t first start k (e .name) cells → b ≡ false
+          → Looked x after
+      look-met x q b f g = look-new x q (knows-new v t first start k cells kn (e .name) (sym f ∙ g))
+
+      pub look-taken : (b : Bool) → b ≡ ltb 0 (liveBefore v t start k (e .name)) → b ≡ true → Looked look.Bad after
+      look-taken b f g =
+          let z : 0 < liveBefore v t start k (e .name) = ltb-true _ _ (sym f ∙ g) in
+          (sym (shown-by false (ne-eqb (liveBefore v t start k (e .name)) 0 (λ w. omega arith))), met)
+
+      pub look-free : (x : Look) → x ≡ lookBy (kindOf e) → (b : Bool) → b ≡ ltb 0 (liveBefore v t start k (e .name)) → b ≡ false → Looked x after
       look-free x q b f g = let z : liveBefore v t start k (e .name) ≤ 0 = ltb-false _ _ (sym f ∙ g) in look-new x q (omega arith)

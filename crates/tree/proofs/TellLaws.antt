@@ -116,14 +116,36 @@ module _ (v : View) (geometry : Geometry) (below : ℕ) (t : List ℕ) where
         w ∙ rest-step links start c k left (marksOf r) l here
         ∙ ap (λ (z : Look). andThen (enteredLook v geometry below t (marksOf r) z) (λ n. rest start (clusterAfter t c k) (k + 1) (left - 1) n)) (sym f)
 
-    pub slot-stop : isSound x ≡ false → Tells whole x q
+    slot-stop : isSound x ≡ false → Tells whole x q
     slot-stop e = tells-stop (enteredLook v geometry below t (marksOf r) seen) (λ n. rest start (clusterAfter t c k) (k + 1) (left - 1) n) whole x q h e stepped
 
-    pub slot-go : isSound x ≡ true → (whole ≡ rest start (clusterAfter t c k) (k + 1) (left - 1) (marksOf q)) × Sound q
+    slot-go : isSound x ≡ true → (whole ≡ rest start (clusterAfter t c k) (k + 1) (left - 1) (marksOf q)) × Sound q
     slot-go e = tells-go (enteredLook v geometry below t (marksOf r) seen) (λ n. rest start (clusterAfter t c k) (k + 1) (left - 1) n) whole x q h e stepped
 
-  pub slots-done : (start c k left : ℕ) (whole : Result Marks) (r : Reached) → whole ≡ rest start c k left (marksOf r) → left ≡ 0 → Sound r → Tells whole verdict.Sound r
+  slots-done : (start c k left : ℕ) (whole : Result Marks) (r : Reached) → whole ≡ rest start c k left (marksOf r) → left ≡ 0 → Sound r → Tells whole verdict.Sound r
   slots-done start c k left whole r w e s = rw (w ∙ rest-done start c k left (marksOf r) e) (keeps-self r s)
+
+  -- Where the walk of the slots stands: sound so far, and what is left gives the whole; or refused.
+  abbrev pub Stands : ℕ → ℕ → ℕ → ℕ → Result Marks → Verdict → Reached → Type 0
+  Stands start c k left whole verdict.Sound r = (whole ≡ rest start c k left (marksOf r)) × Sound r
+  Stands start c k left whole (verdict.Refused f) r = Tells whole (verdict.Refused f) r
+
+  -- the end: no slot is left, or one was refused
+  pub stands-end : (start c k left : ℕ) (whole : Result Marks) (x : Verdict) (r : Reached) → Stands start c k left whole x r → (isSound x ≡ true → left ≡ 0) → Tells whole x r
+  stands-end start c k left whole verdict.Sound r h e = slots-done start c k left whole r (h .0) (e refl) (h .1)
+  stands-end start c k left whole (verdict.Refused f) r h e = h
+
+  pub stands-sound : (start c k left : ℕ) (whole : Result Marks) (x : Verdict) (r : Reached) → Stands start c k left whole x r → isSound x ≡ true
+      → (whole ≡ rest start c k left (marksOf r)) × Sound r
+  stands-sound start c k left whole verdict.Sound r h e = h
+  stands-sound start c k left whole (verdict.Refused f) r h e = tf e refl
+
+  -- one slot more
+  pub slot-on : (links : (c : ℕ) → v .link c ≡ tableLinks t c) (start c k left : ℕ) (whole : Result Marks) (r : Reached) → whole ≡ rest start c k left (marksOf r)
+      → 0 < left → c ≡ clusterAt t start k → (seen : Look) → seen ≡ lookedAt (liveBefore v t start k) (imagePage geometry (slotPage c k)) (v .entry (slotPage c k))
+      → (x : Verdict) (q : Reached) → Tells (enteredLook v geometry below t (marksOf r) seen) x q → Stands start (clusterAfter t c k) (k + 1) (left - 1) whole x q
+  slot-on links start c k left whole r w l here seen f verdict.Sound q h = slot-go links start c k left whole r w l here seen f verdict.Sound q h refl
+  slot-on links start c k left whole r w l here seen f (verdict.Refused g) q h = slot-stop links start c k left whole r w l here seen f (verdict.Refused g) q h refl
 
   dots-only : (r : Result (Unit {0})) (w : Result (Tree × Marks)) (x : Verdict) → Judges (onImage geometry r) x → isSound x ≡ true
       → onImage geometry (marksOnly (andThen r (λ y. w))) ≡ onImage geometry (marksOnly w)
@@ -141,17 +163,23 @@ module _ (v : View) (geometry : Geometry) (below : ℕ) (t : List ℕ) where
   dots-not (ok a) w (verdict.Refused f) q h e = absurd h
 
   module _ (first entries : ℕ) (m : Marks) (x : Verdict) (h : Judges (onImage geometry (judgeDots v (first ∷ []))) x) where
-    pub inside-stop : (q : Reached) → isSound x ≡ false → Tells (onImage geometry (insideOf v below t first entries m)) x q
+    inside-stop : (q : Reached) → isSound x ≡ false → Tells (onImage geometry (insideOf v below t first entries m)) x q
     unfolding insideOf
     inside-stop q e = dots-not (judgeDots v (first ∷ [])) (walkDirectory v below (slotPages t (nextOf t first) 0 (entries - 2)) (λ n. 0) m) x q h e
 
-    pub inside-go : isSound x ≡ true → (start left : ℕ) → start ≡ nextOf t first → left ≡ entries - 2
+    inside-go : isSound x ≡ true → (start left : ℕ) → start ≡ nextOf t first → left ≡ entries - 2
         → onImage geometry (insideOf v below t first entries m) ≡ rest start start 0 left m
     unfolding insideOf liveBefore
     inside-go e start left f g =
         dots-only (judgeDots v (first ∷ [])) (walkDirectory v below (slotPages t (nextOf t first) 0 (entries - 2)) (λ n. 0) m) x h e
         ∙ ap (λ (w : Result (Tree × Marks)). onImage geometry (marksOnly w)) (walk-is v below (slotPages t (nextOf t first) 0 (entries - 2)) (λ n. 0) m)
         ∙ rw (← f, ← g) (ap (λ (s : Name → ℕ). onImage geometry (marksOnly (walkSlots v (deeperOf v below) below (slotPages t start 0 left) s m))) (fun-ext (λ n. refl)))
+
+-- the start of a directory's slots, by the verdict on its first two entries
+pub inside-stands : (v : View) (geometry : Geometry) (below : ℕ) (t : List ℕ) (first entries : ℕ) (r : Reached) → Sound r → (x : Verdict) → Judges (onImage geometry (judgeDots v (first ∷ []))) x
+    → (start left : ℕ) → start ≡ nextOf t first → left ≡ entries - 2 → Stands v geometry below t start start 0 left (onImage geometry (insideOf v below t first entries (marksOf r))) x r
+inside-stands v geometry below t first entries r s verdict.Sound h start left f g = (inside-go v geometry below t first entries (marksOf r) verdict.Sound h refl start left f g, s)
+inside-stands v geometry below t first entries r s (verdict.Refused q) h start left f g = inside-stop v geometry below t first entries (marksOf r) (verdict.Refused q) h r refl
 
 -- ---- an entry and its chain
 

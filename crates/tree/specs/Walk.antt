@@ -1,6 +1,6 @@
 -- What the walk's functions answer, in terms of the model's check; the tree is left out, only what was reached is told.
 use Prim.Native.Nat.{ℕ, _+_, _-_, _/_, pred}
-use mathlib.Core.Bool.{Bool, true, false, cond}
+use mathlib.Core.Bool.{Bool, _&&_, true, false, cond}
 use mathlib.Core.List.{List, [], _∷_}
 use mathlib.Core.Option.{Option, none, some}
 use mathlib.Core.Path.{_≡_}
@@ -8,10 +8,11 @@ use lib.Dec.{eqb, ltb}
 use Rattle.fields.specs.declared.kinds.Kind.{Kind}
 use Rattle.fields.specs.declared.kinds.Kind.the-variants as kind
 use Rattle.layout.specs.declared.Geometry.{Geometry}
+use Rattle.layout.specs.declared.Refusal.the-variants as is
 use Rattle.layout.specs.Refusal.{numberOf, pageOf}
 use Rattle.layout.specs.See.{imagePage, onImage}
 use Rattle.model.specs.Check.{Marks, Result, andThen, fault, followChain, judgeDot, judgeDots, marks, ok, walkDirectory}
-use Rattle.model.specs.Entry.{Entry, clustersFor, isFile, isLive, isSubdirectory}
+use Rattle.model.specs.Entry.{Entry, clustersFor, endMark, isFile, isLive, isSubdirectory}
 use Rattle.model.specs.Names.{Name}
 use Rattle.model.specs.Tree.{Root, Tree}
 use Rattle.model.specs.View.{View}
@@ -20,6 +21,7 @@ use Rattle.reached.specs.Table.{firstLinkOf}
 use Rattle.reached.specs.Marks.{Keeps}
 use Rattle.tree.specs.declared.walk.Look.{Look}
 use Rattle.tree.specs.declared.walk.Look.the-variants as look
+use Rattle.tree.specs.declared.walk.Task.{Task}
 use Rattle.tree.specs.declared.walk.Verdict.{Verdict}
 use Rattle.tree.specs.declared.walk.Verdict.the-variants as verdict
 use Rattle.tree.specs.Slots.{liveBefore, nextOf, slotPage, slotPages}
@@ -83,6 +85,29 @@ enteredLook v geometry below table m (look.Directory length first) =
     cond (ltb 0 below)
     (onChain (followChain v ((length + 1) / 2) (firstLinkOf first) m) (λ cs. onImage geometry (insideOf v (pred below) table first length (marks m cs))))
     (fault 7 0)
+
+-- What a slot leads to, as the walk goes on from it: a verdict before any chain, then a chain, then a directory's inside.
+abbrev pub taskBy : Verdict → Task
+taskBy v = record { verdict = v; follows = false; first = 0; clusters = 0; enters = false; entries = 0 }
+
+abbrev pub pickTask : Bool → Task → Task → Task
+pickTask true a b = a
+pickTask false a b = b
+
+abbrev pub taskOf : ℕ → Look → Task
+taskOf below (look.Unreadable page) = taskBy (verdict.Refused (is.UnreadablePage page))
+taskOf below look.Bad = taskBy (verdict.Refused is.BadEntry)
+taskOf below look.Dead = taskBy verdict.Sound
+taskOf below (look.File length first) =
+    pickTask (eqb length 0 && eqb first endMark) (taskBy verdict.Sound)
+    (record { verdict = verdict.Sound; follows = true; first = first; clusters = clustersFor length; enters = false; entries = 0 })
+taskOf below (look.Directory length first) =
+    pickTask (eqb below 0) (taskBy (verdict.Refused is.BadEntry))
+    (record { verdict = verdict.Sound; follows = true; first = first; clusters = (length + 1) / 2; enters = true; entries = length })
+
+abbrev pub soundBy : Bool → Verdict
+soundBy true = verdict.Sound
+soundBy false = verdict.Refused is.BadChain
 
 -- one of a directory's first two entries, in page p
 abbrev pub dotIn : View → Name → ℕ → Result (Unit {0})

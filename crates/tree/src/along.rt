@@ -29,7 +29,13 @@ enum Sought {
 }
 
 // Whether a live entry with this name stands in the page.
-fn named_at(image: &[u8], table: &[u32], geometry: Geometry, page: usize, name: &[u8]) -> bool
+pub(crate) fn named_at(
+    image: &[u8],
+    table: &[u32],
+    geometry: Geometry,
+    page: usize,
+    name: &[u8],
+) -> bool
     ensures { λ r. ⌜ r ≡ bears (now (name .entry)) ((viewBy geometry (now (table .entry)) (now (image .entry))) .entry page) ⌝ }
 {
     let mut d = [0u8; 512];

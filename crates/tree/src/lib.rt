@@ -1,6 +1,6 @@
 // The check of a card: the walk of its directory tree and the counts of its clusters.
 pub mod along;
-mod filter;
+mod names;
 pub mod slots;
 mod walk;
 
@@ -58,8 +58,8 @@ fn count_card(image: &[u8], table: &[u32], end: usize, geometry: Geometry, clust
     }
 }
 
-// The whole check, with room for the table.
-fn check_in(format: Format, image: &[u8], table: &mut [u32; MOST_CLUSTERS]) -> Checked
+// The whole check, with room lent for the table: working room, of whose words afterwards nothing is told.
+pub fn check_in(format: Format, image: &[u8], table: &mut [u32; MOST_CLUSTERS]) -> Checked
     ensures { λ r. ⌜ toldCounts r ≡ checkOf format (now (image .entry)) ⌝ }
 {
     let opened = open_card(format, image, table);

@@ -9,7 +9,8 @@ ghost use lib.ListN.{length};
 ghost use Rattle.model.specs.Bytes.{pageLimit};
 ghost use Rattle.layout.specs.See.{pageIn};
 ghost use Rattle.page.specs.Page.{Read};
-ghost use Rattle.tree.specs.Slots.{nextOf, slotPage};
+ghost use Rattle.tree.specs.Slots.{clusterAfter, nextOf, slotPage};
+ghost use Rattle.tree.specs.Met.{isSlot};
 
 // The cluster after c in its chain.
 pub fn next_of(table: &[u32], c: u32) -> u32
@@ -26,11 +27,37 @@ pub fn next_of(table: &[u32], c: u32) -> u32
     w - 0x8000_0000
 }
 
+// The cluster of the slot after slot k, which lies in cluster c.
+pub(crate) fn cluster_after(table: &[u32], c: u32, k: u32) -> u32
+    ensures { λ r. ⌜ r ≡ clusterAfter (now (table .entry)) c k ⌝ }
+{
+    if k % 2 == 1 {
+        return next_of(table, c);
+    }
+    c
+}
+
 // The page of slot k, which lies in cluster c.
 pub fn slot_page(c: u32, k: u32) -> usize
     ensures { λ r. ⌜ (r ≡ slotPage c k) × (r < pageLimit) ⌝ }
 {
     c as usize * 2 + (k % 2) as usize
+}
+
+// Whether the page is that of a slot before slot k of the directory whose slots begin in cluster `start`.
+pub(crate) fn is_slot(table: &[u32], start: u32, k: u32, page: usize) -> bool
+    ensures { λ r. ⌜ r ≡ isSlot (now (table .entry)) start k page ⌝ }
+{
+    let mut c = start;
+    let mut i: u32 = 0;
+    while i < k {
+        if slot_page(c, i) == page {
+            return true;
+        }
+        c = cluster_after(table, c, i);
+        i += 1;
+    }
+    false
 }
 
 // How many slots a directory of that many entries has from 2 on.

@@ -1,6 +1,8 @@
 // The walk of the directory tree, depth first (RULES, "Directories"): the first fault met, or the clusters reached.
 use crate::along::name_taken;
-use crate::filter::meet;
+use crate::names::CELLS;
+use crate::names::meet;
+use crate::slots::cluster_after;
 use crate::slots::next_of;
 use crate::slots::read_slot;
 use crate::slots::slot_page;
@@ -28,9 +30,9 @@ ghost use mathlib.Core.List.{_∷_, []};
 ghost use Rattle.model.specs.Check.{checkTree, judgeDots};
 ghost use Rattle.model.specs.View.{mostClusters};
 ghost use Rattle.reached.specs.Marks.{Sound, marksOf};
-ghost use Rattle.tree.specs.Filter.{Knows};
+ghost use Rattle.tree.specs.Met.{Grows, Knows, mostPages};
 ghost use Rattle.tree.specs.Slots.{clusterAt};
-ghost use Rattle.tree.specs.Walk.{Judges, Tells, dotIn, enteredLook, insideOf, isSound, lookBy, lookedIn, rootMarks};
+ghost use Rattle.tree.specs.Walk.{Judges, Tells, dotIn, insideOf, isSound, lookBy, lookedIn, rootMarks, soundBy, taskBy, taskOf};
 
 // How a part of the tree is judged.
 pub(crate) enum Verdict {
@@ -38,10 +40,10 @@ pub(crate) enum Verdict {
     Refused(Refusal),
 }
 
-// A verdict with the record of the clusters reached so far.
+// The record of the clusters reached so far, with a verdict.
 pub(crate) struct Walked {
-    pub(crate) verdict: Verdict,
     pub(crate) reached: Reached,
+    pub(crate) verdict: Verdict,
 }
 
 // What stands in a slot, judged before its chain: page, entry rules, unique name.
@@ -51,6 +53,16 @@ pub(crate) enum Look {
     Dead,
     File { length: u32, first: u32 },
     Directory { length: u32, first: u32 },
+}
+
+// What a slot leads to: a chain, or nothing where it is refused, dead or an empty file; behind a directory's chain its inside.
+pub(crate) struct Task {
+    pub(crate) verdict: Verdict,
+    pub(crate) follows: bool,
+    pub(crate) first: u32,
+    pub(crate) clusters: u32,
+    pub(crate) enters: bool,
+    pub(crate) entries: u32,
 }
 
 fn is_sound(verdict: Verdict) -> bool
@@ -73,19 +85,82 @@ fn look_by(kind: Kind) -> Look
     }
 }
 
-// Slot k, in cluster c, of the directory whose slots begin in `start`. `bits` has the live names before it, and then its own.
+// A task with no chain.
+fn task_by(verdict: Verdict) -> Task
+    ensures { λ r. ⌜ r ≡ taskBy verdict ⌝ }
+{
+    Task {
+        verdict: verdict,
+        follows: false,
+        first: 0,
+        clusters: 0,
+        enters: false,
+        entries: 0,
+    }
+}
+
+// What a slot leads to where directories may lie `below` further down.
+fn task_of(look: Look, below: u32) -> Task
+    ensures { λ r. ⌜ r ≡ taskOf below look ⌝ }
+{
+    match look {
+        Look::Unreadable(page) => task_by(Verdict::Refused(Refusal::UnreadablePage(page))),
+        Look::Bad => task_by(Verdict::Refused(Refusal::BadEntry)),
+        Look::Dead => task_by(Verdict::Sound),
+        Look::File { length, first } => {
+            if (length == 0) & (first == 0xFFFF_FFFF) {
+                return task_by(Verdict::Sound);
+            }
+            Task {
+                verdict: Verdict::Sound,
+                follows: true,
+                first: first,
+                clusters: length / 1024 + (length % 1024 + 1023) / 1024,
+                enters: false,
+                entries: 0,
+            }
+        }
+        Look::Directory { length, first } => {
+            if below == 0 {
+                return task_by(Verdict::Refused(Refusal::BadEntry));
+            }
+            Task {
+                verdict: Verdict::Sound,
+                follows: true,
+                first: first,
+                clusters: length / 2 + length % 2,
+                enters: true,
+                entries: length,
+            }
+        }
+    }
+}
+
+// A chain's verdict.
+fn sound_by(sound: bool) -> Verdict
+    ensures { λ r. ⌜ r ≡ soundBy sound ⌝ }
+{
+    if sound {
+        return Verdict::Sound;
+    }
+    Verdict::Refused(Refusal::BadChain)
+}
+
+// Slot k, in cluster c, of the directory that begins with cluster `first` and whose slots begin in `start`.
+// The cells have the live names before it, and then its own.
 fn look_at(
     image: &[u8],
     table: &[u32],
     geometry: Geometry,
+    first: u32,
     start: u32,
     c: u32,
     k: u32,
-    bits: &mut [u64; 4096],
+    cells: &mut [u32; CELLS],
 ) -> Look
-    requires { ⌜ (c ≡ clusterAt (now table) start k) × Knows (viewBy geometry (now table) (now image)) (now table) start k (now bits) ⌝ }
+    requires { ⌜ (length (now table) ≤ mostClusters) × (c ≡ clusterAt (now table) start k) × Knows (viewBy geometry (now table) (now image)) (now table) first start k (now cells) ⌝ }
     ensures { λ r. ⌜ r ≡ lookedIn (viewBy geometry (now (table .entry)) (now (image .entry))) geometry (now (table .entry)) start c k ⌝ }
-    ensures { λ r. ⌜ Knows (viewBy geometry (now (table .entry)) (now (image .entry))) (now (table .entry)) start (k + 1) (now (bits .exit)) ⌝ }
+    ensures { λ r. ⌜ Knows (viewBy geometry (now (table .entry)) (now (image .entry))) (now (table .entry)) first start (k + 1) (now (cells .exit)) × Grows (now (cells .entry)) (now (cells .exit)) ⌝ }
 {
     let page = slot_page(c, k);
     let mut d = [0u8; 512];
@@ -95,7 +170,17 @@ fn look_at(
     if !is_live(&d) {
         return Look::Dead;
     }
-    if !meet(bits, entry_name(&d)) {
+    if !meet(
+        image,
+        table,
+        geometry,
+        first,
+        start,
+        k,
+        page,
+        entry_name(&d),
+        cells,
+    ) {
         return look_by(kind_of(&d));
     }
     if name_taken(image, table, geometry, start, k, &d) {
@@ -130,115 +215,60 @@ fn judge_dots(image: &[u8], table: &[u32], geometry: Geometry, first: u32) -> Ve
     judge_dot(image, table, geometry, page + 1, b"..")
 }
 
-// What a slot leads to, with `left` slots from it on; directories may lie `below` further down.
-fn walk_entry(
-    image: &[u8],
-    table: &[u32],
-    geometry: Geometry,
-    reached: Reached,
-    look: Look,
-    left: u32,
-    below: u32,
-) -> Walked
-    requires { ⌜ (length (now table) ≤ mostClusters) × Sound reached ⌝ }
-    ensures { λ r. ⌜ Tells (enteredLook (viewBy geometry (now (table .entry)) (now (image .entry))) geometry below (now (table .entry)) (marksOf reached) look) (r .verdict) (r .reached) ⌝ }
-{
-    match look {
-        Look::Unreadable(page) => Walked {
-            verdict: Verdict::Refused(Refusal::UnreadablePage(page)),
-            reached: reached,
-        },
-        Look::Bad => Walked {
-            verdict: Verdict::Refused(Refusal::BadEntry),
-            reached: reached,
-        },
-        Look::Dead => Walked {
-            verdict: Verdict::Sound,
-            reached: reached,
-        },
-        Look::File { length, first } => {
-            let a = walk_chain(
-                table,
-                reached,
-                first,
-                length / 1024 + (length % 1024 + 1023) / 1024,
-            );
-            let r = a.reached;
-            if a.sound {
-                return Walked {
-                    verdict: Verdict::Sound,
-                    reached: r,
-                };
-            }
-            Walked {
-                verdict: Verdict::Refused(Refusal::BadChain),
-                reached: r,
-            }
-        }
-        Look::Directory { length, first } => {
-            if below == 0 {
-                return Walked {
-                    verdict: Verdict::Refused(Refusal::BadEntry),
-                    reached: reached,
-                };
-            }
-            let a = walk_chain(table, reached, first, length / 2 + length % 2);
-            let r = a.reached;
-            if a.sound {
-                return walk_dir(image, table, geometry, r, first, length, below - 1);
-            }
-            Walked {
-                verdict: Verdict::Refused(Refusal::BadChain),
-                reached: r,
-            }
-        }
-    }
-}
-
-// The inside of a directory of that many entries whose sound chain begins with cluster `first`.
+// The inside of a directory of that many entries whose sound chain begins with cluster `first`; directories may lie `below`
+// further down. A slot that leads nowhere hands the record to nobody, and there is one way out, so that few copies are made.
 fn walk_dir(
     image: &[u8],
     table: &[u32],
     geometry: Geometry,
+    cells: &mut [u32; CELLS],
     reached: Reached,
     first: u32,
     entries: u32,
     below: u32,
 ) -> Walked
-    requires { ⌜ (length (now table) ≤ mostClusters) × Sound reached ⌝ }
+    requires { ⌜ (length (now table) ≤ mostClusters) × Sound reached × (length (now cells) ≡ mostPages) ⌝ }
     ensures { λ r. ⌜ Tells (onImage geometry (insideOf (viewBy geometry (now (table .entry)) (now (image .entry))) below (now (table .entry)) first entries (marksOf reached))) (r .verdict) (r .reached) ⌝ }
+    ensures { λ _. ⌜ Grows (now (cells .entry)) (now (cells .exit)) ⌝ }
 {
-    let dots = judge_dots(image, table, geometry, first);
-    if !is_sound(dots) {
-        return Walked {
-            verdict: dots,
-            reached: reached,
-        };
-    }
+    let mut v = judge_dots(image, table, geometry, first);
     let start = next_of(table, first);
-    let mut bits = [0u64; 4096];
     let mut r = reached;
     let mut c = start;
     let mut k: u32 = 0;
     let mut left = slots_of(entries);
-    while 0 < left {
-        let e = look_at(image, table, geometry, start, c, k, &mut bits);
-        let a = walk_entry(image, table, geometry, r, e, left, below);
-        let v = a.verdict;
-        if !is_sound(v) {
-            return a;
+    while (0 < left) & is_sound(v) {
+        let task = task_of(
+            look_at(image, table, geometry, first, start, c, k, cells),
+            below,
+        );
+        v = task.verdict;
+        if task.follows {
+            let a = walk_chain(table, r, task.first, task.clusters);
+            r = a.reached;
+            v = sound_by(a.sound);
+            if a.sound & task.enters {
+                let b = walk_dir(
+                    image,
+                    table,
+                    geometry,
+                    cells,
+                    r,
+                    task.first,
+                    task.entries,
+                    below - 1,
+                );
+                r = b.reached;
+                v = b.verdict;
+            }
         }
-        let q = a.reached;
-        r = q;
-        if k % 2 == 1 {
-            c = next_of(table, c);
-        }
+        c = cluster_after(table, c, k);
         k = k + 1;
         left = left - 1;
     }
     Walked {
-        verdict: Verdict::Sound,
         reached: r,
+        verdict: v,
     }
 }
 
@@ -250,14 +280,14 @@ pub(crate) fn walk_root(image: &[u8], table: &[u32], geometry: Geometry) -> Walk
     let mut d = [0u8; 512];
     if !read_slot(image, geometry, table.len(), 0, &mut d) {
         return Walked {
-            verdict: Verdict::Refused(Refusal::UnreadablePage(image_page(geometry, 0))),
             reached: Reached::new(),
+            verdict: Verdict::Refused(Refusal::UnreadablePage(image_page(geometry, 0))),
         };
     }
     if !is_root(&d) {
         return Walked {
-            verdict: Verdict::Refused(Refusal::BadEntry),
             reached: Reached::new(),
+            verdict: Verdict::Refused(Refusal::BadEntry),
         };
     }
     let n = word_at(&d, 4);
@@ -265,9 +295,10 @@ pub(crate) fn walk_root(image: &[u8], table: &[u32], geometry: Geometry) -> Walk
     let r = a.reached;
     if !a.sound {
         return Walked {
-            verdict: Verdict::Refused(Refusal::BadChain),
             reached: r,
+            verdict: Verdict::Refused(Refusal::BadChain),
         };
     }
-    walk_dir(image, table, geometry, r, 0, n, DEEPEST)
+    let mut cells = [0u32; CELLS];
+    walk_dir(image, table, geometry, &mut cells, r, 0, n, DEEPEST)
 }

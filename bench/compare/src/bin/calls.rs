@@ -1,15 +1,17 @@
 //! Whole calls side by side: the check in both formats, the conversions, reading every file of a raw image and creating
-//! until it is full; and the check by the number of files. `calls SIDE WORK` does one work once, for a tool that counts
-//! instructions.
+//! until it is full; the check by the number of files, of the full card of 64 MiB and of one directory of 60,000
+//! entries. `calls SIDE WORK` does one work once, for a tool that counts instructions; `calls SIDE check CARD` checks
+//! any of some cards, `calls SIDE nothing CARD` only builds it, and `calls entries CARD` tells how many entries it has.
 
 use std::env;
 use std::hint::black_box;
 use std::process::ExitCode;
 use std::time::Duration;
 
-use compare::cards::{full, many_files};
+use compare::cards::{entries, full, full_great, great_directory, many_directories, many_files, Names};
 use compare::clock::{median, thread_time};
-use reader::build::usual_time;
+use reader::build::{fresh, standard, usual_time};
+use reader::card::MOST_CLUSTERS;
 use reader::content::lines;
 use reader::Format::{Plain, Raw};
 
@@ -58,6 +60,10 @@ fn main() -> ExitCode {
     let arguments: Vec<String> = env::args().skip(1).collect();
     match arguments.iter().map(String::as_str).collect::<Vec<_>>()[..] {
         [] => table(),
+        ["entries", card] => {
+            let Some(image) = card_of(card) else { return ExitCode::from(2) };
+            println!("{}", entries(Raw, &image));
+        }
         [side, work] => {
             let Some(side) = SIDES.iter().find(|known| known.name == side) else { return ExitCode::from(2) };
             let (mut image, files) = card();
@@ -73,9 +79,32 @@ fn main() -> ExitCode {
                 _ => return ExitCode::from(2),
             }
         }
+        [side, work, card] => {
+            let side = SIDES.iter().find(|known| known.name == side);
+            let (Some(side), Some(image)) = (side, card_of(card)) else { return ExitCode::from(2) };
+            match work {
+                "nothing" => drop(black_box(image)),
+                "check" => assert!((side.check)(&image)),
+                _ => return ExitCode::from(2),
+            }
+        }
         _ => return ExitCode::from(2),
     }
     ExitCode::SUCCESS
+}
+
+/// Raw cards by their names: the full ones of 8 MB and of 64 MiB, 40 directories of 50 entries on the first size and one
+/// of 60,000 on the second, and fresh ones.
+fn card_of(name: &str) -> Option<Vec<u8>> {
+    Some(match name {
+        "full" => full(Raw),
+        "full-64" => full_great(Raw),
+        "many-50" => many_directories(Raw, Names::Ascending).image,
+        "one-60000" => great_directory(Raw, Names::Ascending).image,
+        "fresh" => standard(Raw),
+        "fresh-64" => fresh(Raw, MOST_CLUSTERS),
+        _ => return None,
+    })
 }
 
 /// The full card, and its files' paths.
@@ -149,5 +178,9 @@ fn table() {
     for count in [500, 1000, 2000, 4000] {
         let image = many_files(Raw, count);
         row(&format!("check of {count} files"), timed(RUNS * 5, |side| (side.check)(&image)));
+    }
+    for (name, card) in [("full card of 64 MiB", "full-64"), ("1 directory of 60,000", "one-60000")] {
+        let image = card_of(card).expect("a card of this name");
+        row(&format!("check, {name}"), timed(RUNS, |side| (side.check)(&image)));
     }
 }

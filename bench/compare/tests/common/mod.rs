@@ -4,6 +4,7 @@
 pub mod changes;
 pub mod converts;
 pub mod lookups;
+pub mod orders;
 pub mod requests;
 
 use reader::build::random::RandomCard;

@@ -1,8 +1,9 @@
 //! Seeded random requests of find, step and read: near what stands on a card, and far from it.
 
 use reader::build::draw::random_name;
+use reader::build::requests::stretched;
 use reader::content::Tree;
-use reader::paths;
+use reader::paths::{self, MOST_NAMES};
 use reader::rng::Rng;
 
 /// A path of the card, one that is nearly such a path, or a malformed one.
@@ -13,6 +14,7 @@ pub fn random_path(rng: &mut Rng, tree: &Tree) -> Vec<u8> {
         0..=5 => path,
         6 => paths::join(&path, &random_name(rng)),
         7 => paths::join(&paths::join(&path, &random_name(rng)), b"x"),
+        8 if rng.chance(1, 3) => stretched(rng, &path),
         8 => altered(rng, path),
         _ => malformed(rng, path),
     }
@@ -39,7 +41,7 @@ fn malformed(rng: &mut Rng, path: Vec<u8>) -> Vec<u8> {
         1 => return path[1..].to_vec(),
         2 => names.insert(at, Vec::new()),
         3 => names.push(Vec::new()),
-        4 => (names.len()..5).for_each(|_| names.push(random_name(rng))),
+        4 => (names.len()..=MOST_NAMES).for_each(|_| names.push(random_name(rng))),
         5 => names[at] = vec![b'n'; rng.between(32, 40)],
         6 => {
             let place = rng.between(0, names[at].len());

@@ -1,9 +1,10 @@
 //! Cards refused with 1 to 5, and with 2 before the tree; one for each rule and trap.
 
-use super::bad_entries;
 use super::good::{sample, wide};
 use super::scribble::{break_page, flip};
+use super::{bad_entries, deep};
 use super::{bench, Assembly, Layout};
+use crate::card::{LEAST_CLUSTERS, MOST_CLUSTERS};
 use crate::page::{put_half, put_word, Format};
 use crate::Refusal;
 
@@ -18,7 +19,7 @@ pub struct BadCard {
 /// Every bad card of a format.
 pub fn all(format: Format) -> Vec<BadCard> {
     let mut cards: Vec<BadCard> =
-        [lengths, superblocks, names, bad_entries::chains, bad_entries::entries, bad_entries::order]
+        [lengths, superblocks, names, bad_entries::chains, bad_entries::entries, bad_entries::order, deep::bad]
             .into_iter()
             .flat_map(|cards| cards(format))
             .collect();
@@ -55,8 +56,8 @@ fn lengths(format: Format) -> Vec<BadCard> {
         bad("one byte short", 56 * bytes - 1),
         bad("one byte long", 56 * bytes + 1),
         bad("N not a multiple of 8", 52 * bytes),
-        bad("N 24, below 32", 24 * bytes),
-        bad("N 8,200, above 8,192", 8200 * bytes),
+        bad("N 24, below 32", (LEAST_CLUSTERS - 8) * bytes),
+        bad("N 65,544, above 65,536", (MOST_CLUSTERS + 8) * bytes),
         bad("the other format's length", 56 * format.other().cluster_bytes()),
         bad("a page too many", 56 * bytes + format.page_bytes()),
     ]

@@ -117,7 +117,6 @@ pub(super) fn entries(format: Format) -> Vec<BadCard> {
         put("a directory of length 1", 1, 0, directory(b"D", 1, 3)),
         put("a directory of length 0", 1, 0, directory(b"D", 0, 3)),
         put("a directory of length 0 without a cluster", 1, 0, directory(b"D", 0, END_MARK)),
-        put("a directory 4 below the root", 10, 0, directory(b"D4", 2, 11)),
     ]
 }
 
@@ -179,22 +178,6 @@ pub(super) fn order(format: Format) -> Vec<BadCard> {
                 card.put(1, 1, &file(b"*", 1500, 5));
             },
             &[],
-        ),
-        other(
-            "a directory too deep before its chain",
-            7,
-            |card| {
-                card.put(10, 0, &directory(b"D4", 2, 20));
-            },
-            &[],
-        ),
-        other(
-            "a directory too deep before its inside",
-            7,
-            |card| {
-                card.put(10, 0, &directory(b"D4", 2, 11));
-            },
-            &[at(11, 0), at(11, 1)],
         ),
         other(
             "an earlier directory owns a shared cluster",

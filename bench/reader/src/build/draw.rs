@@ -48,6 +48,13 @@ pub fn put_name(rng: &mut Rng, data: &mut Data, name: &[u8]) {
     field[name.len()] = 0;
 }
 
+/// A name of 31 bytes; only a few of them differ.
+pub fn long_name(rng: &mut Rng) -> Vec<u8> {
+    let mut name = [b'n'; names::FIELD - 1];
+    (0..3).for_each(|_| name[rng.below(31)] = *rng.pick(b"aAbB. 01"));
+    name.to_vec()
+}
+
 /// A name by the rule; often short, so that names nearly collide.
 pub fn random_name(rng: &mut Rng) -> Vec<u8> {
     let length = if rng.chance(2, 3) { rng.between(1, 3) } else { rng.between(1, 31) };

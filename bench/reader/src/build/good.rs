@@ -1,7 +1,7 @@
 //! Cards that must be accepted although they look wrong, each with its counts.
 
 use super::scribble::{break_page, flip};
-use super::{bench, directory, file, standard, Assembly, Layout};
+use super::{bench, deep, directory, file, standard, Assembly, Layout};
 use crate::card::{END_MARK, USED};
 use crate::entry::Entry;
 use crate::page::{put_word, Format, DATA};
@@ -143,5 +143,6 @@ pub fn all(format: Format) -> Vec<GoodCard> {
         }
         cards.push(GoodCard { name: "a flip in every chunk of needed pages", format, image, counts: SAMPLE });
     }
+    cards.extend(deep::good(format));
     cards
 }

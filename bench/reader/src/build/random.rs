@@ -2,8 +2,8 @@
 
 use std::collections::{BTreeMap, HashSet};
 
-use super::draw::{put_kind, put_name, random_layout, random_name, random_page};
-use super::scribble;
+use super::draw::{long_name, put_kind, put_name, random_layout, random_name, random_page};
+use super::wear::wear;
 use super::{Assembly, Layout};
 use crate::card::{END_MARK, USED};
 use crate::content::{Item, Piece, Tree};
@@ -11,7 +11,7 @@ use crate::entry::{Entry, DIRECTORY, FILE, NO_CLUSTER};
 use crate::page::{Data, Format, CLUSTER_DATA, DATA};
 use crate::paths;
 use crate::rng::Rng;
-use crate::tree::{Counts, DEPTH};
+use crate::tree::{Counts, DEEPEST};
 
 /// A random card and what the check and the tree must say of it.
 #[derive(Clone, Debug)]
@@ -51,6 +51,8 @@ struct Drawn {
     chain: Vec<usize>,
     length: usize,
     names: HashSet<Vec<u8>>,
+    /// The same names in their order, to pick from.
+    listed: Vec<Vec<u8>>,
     /// The page that carries its length.
     page: usize,
 }
@@ -65,6 +67,8 @@ struct Sketch {
     /// Pages of files, whose damage the check never sees: page, path, piece number.
     file_pages: Vec<(usize, Vec<u8>, usize)>,
     tree: Tree,
+    /// Most names have 31 bytes.
+    has_long_names: bool,
 }
 
 impl Sketch {
@@ -87,6 +91,7 @@ impl Sketch {
             entries: BTreeMap::new(),
             file_pages: Vec::new(),
             tree: Tree::new(),
+            has_long_names: rng.chance(1, 8),
         };
         let page = sketch.card.page(0, 0);
         sketch.directory(rng, b"/".to_vec(), 0, 0, page);
@@ -95,13 +100,30 @@ impl Sketch {
         sketch
     }
 
-    /// Adds entries until the card's clusters or the draw run out.
+    /// Directories one below the other, as deep as they may lie or less; where room is scarce, fewer.
+    fn descend(&mut self, rng: &mut Rng) {
+        let depth = if rng.chance(2, 3) { DEEPEST } else { rng.between(1, DEEPEST) };
+        for at in 0..depth {
+            if self.pool.len() < 2 {
+                return;
+            }
+            let page = self.next_slot(at);
+            self.child_directory(rng, at, page);
+        }
+    }
+
+    /// Adds entries until the card's clusters or the draw run out. Half of the trees stay shallow, a third begin with a
+    /// descent.
     fn grow(&mut self, rng: &mut Rng) {
+        let deepest = if rng.chance(1, 2) { 3 } else { DEEPEST };
+        if deepest == DEEPEST && rng.chance(2, 3) {
+            self.descend(rng);
+        }
         let keep = rng.below(self.pool.len() + 1) / 2;
         let tries = rng.between(1, 2 + self.pool.len());
         for _ in 0..tries {
-            let deepest = self.drawn.len() - 1;
-            let at = if rng.chance(1, 3) { deepest } else { rng.below(self.drawn.len()) };
+            let last = self.drawn.len() - 1;
+            let at = if rng.chance(1, 3) { last } else { rng.below(self.drawn.len()) };
             let growth = usize::from(self.drawn[at].length.is_multiple_of(2));
             let bytes = match rng.below(8) {
                 0 => 0,
@@ -115,7 +137,7 @@ impl Sketch {
             let page = self.next_slot(at);
             match rng.below(10) {
                 0..=1 => self.dead(rng, at, page),
-                2..=4 if self.drawn[at].depth < DEPTH => self.child_directory(rng, at, page),
+                2..=4 if self.drawn[at].depth < deepest => self.child_directory(rng, at, page),
                 _ => self.file(rng, at, page, bytes),
             }
         }
@@ -134,10 +156,9 @@ impl Sketch {
 
     fn dead(&mut self, rng: &mut Rng, at: usize, page: usize) {
         let mut data = random_page(rng);
-        let mut names: Vec<&Vec<u8>> = self.drawn[at].names.iter().collect();
-        names.sort();
+        let names = &self.drawn[at].listed;
         if !names.is_empty() && rng.chance(1, 2) {
-            let name = *rng.pick(&names);
+            let name = rng.pick(names);
             put_name(rng, &mut data, name);
         }
         data[1] &= 0x7F;
@@ -189,18 +210,21 @@ impl Sketch {
             put_kind(&mut data, DIRECTORY);
             self.entries.insert(self.card.page(first, second), data);
         }
-        self.drawn.push(Drawn { path, depth, chain: vec![first], length: 2, names: HashSet::new(), page });
+        let (names, listed) = (HashSet::new(), Vec::new());
+        self.drawn.push(Drawn { path, depth, chain: vec![first], length: 2, names, listed, page });
     }
 
     /// A page for a live entry of this kind under a new name, and its path.
     fn named(&mut self, rng: &mut Rng, at: usize, kind: u16) -> (Vec<u8>, Data) {
+        let is_long = self.has_long_names && rng.chance(7, 8);
         let drawn = &mut self.drawn[at];
         let name = loop {
-            let name = random_name(rng);
+            let name = if is_long { long_name(rng) } else { random_name(rng) };
             if drawn.names.insert(name.clone()) {
                 break name;
             }
         };
+        drawn.listed.push(name.clone());
         let mut data = random_page(rng);
         put_name(rng, &mut data, &name);
         put_kind(&mut data, kind);
@@ -251,38 +275,6 @@ impl Sketch {
             wear(rng, &mut image, &needed, &self.file_pages, &mut self.tree);
         }
         RandomCard { format, image, layout, counts, tree: self.tree }
-    }
-}
-
-/// Junk spare bytes and mendable flips anywhere in a raw image; ruin where the check doesn't look.
-fn wear(rng: &mut Rng, image: &mut [u8], needed: &HashSet<usize>, files: &[(usize, Vec<u8>, usize)], tree: &mut Tree) {
-    let format = Format::Raw;
-    let worn = rng.below(8);
-    let mut ruined = HashSet::new();
-    for page in 0..image.len() / format.page_bytes() {
-        let chunk = rng.below(4);
-        if !needed.contains(&page) && rng.chance(worn, 60) {
-            scribble::ruin(format, image, page, chunk, rng);
-            ruined.insert(page);
-        }
-        for other in (0..4).filter(|&other| other != chunk || !ruined.contains(&page)) {
-            if rng.chance(worn, 30) {
-                scribble::mendable(format, image, page, other, rng);
-            }
-        }
-        if rng.chance(3, 4) {
-            scribble::junk_spare(image, page, rng);
-        }
-    }
-    for (page, path, index) in files.iter().filter(|(page, ..)| ruined.contains(page)) {
-        let pieces = &mut tree.get_mut(path).expect("a file drawn").pieces;
-        if let Some(piece) = pieces.get_mut(*index) {
-            let bytes = match piece {
-                Piece::Bytes(bytes) => bytes.len(),
-                Piece::Unreadable { .. } => unreachable!("page {page} is visited once"),
-            };
-            *piece = Piece::Unreadable { bytes };
-        }
     }
 }
 

@@ -1,9 +1,9 @@
 //! Seeded random requests against a card: paths that exist, nearly exist, or can't.
 
-use super::draw::random_name;
+use super::draw::{long_name, random_name};
 use crate::change::Change;
 use crate::content::Tree;
-use crate::paths;
+use crate::paths::{self, MOST_NAMES};
 use crate::rng::Rng;
 use crate::time::{stamp, Time};
 
@@ -22,18 +22,36 @@ pub fn random_time(rng: &mut Rng) -> Time {
     )
 }
 
+/// Paths that are malformed wherever they stand, and the root.
+const STRANGE: [&[u8]; 10] =
+    [b"", b"/", b"a", b"//", b"/a/", b"/.", b"/../x", b"/a*", b"/a/b/c/d/e/f/g/h/i", b"/a/b/c/d/e/f/g/h/"];
+
 /// A path: one of the tree's, a new name in one of its directories, or a strange one.
 pub fn random_path(rng: &mut Rng, tree: &Tree, fresh: bool) -> Vec<u8> {
     let all: Vec<&Vec<u8>> = tree.keys().collect();
     let directories: Vec<&Vec<u8>> = tree.iter().filter(|(_, item)| item.is_directory).map(|(path, _)| path).collect();
-    let (any, directory, name) = (*rng.pick(&all), *rng.pick(&directories), random_name(rng));
+    let (any, mut directory) = (*rng.pick(&all), *rng.pick(&directories));
+    if rng.chance(1, 6) {
+        directory = directories.iter().max_by_key(|path| paths::depth(path)).expect("the root is one");
+    }
+    let name = if rng.chance(1, 10) { long_name(rng) } else { random_name(rng) };
     match rng.below(30) {
-        0 => rng.pick(&[&b""[..], b"/", b"a", b"//", b"/a/", b"/.", b"/../x", b"/a*", b"/a/b/c/d/e"]).to_vec(),
+        0 => rng.pick(&STRANGE).to_vec(),
         1 => paths::join(any, &name),
         2 => paths::join(&paths::join(directory, &name), b"x"),
+        3 => stretched(rng, directory),
         _ if fresh => paths::join(directory, &name),
         _ => any.clone(),
     }
+}
+
+/// The path with new names after it, as many names in all as a path may have, or one more.
+pub fn stretched(rng: &mut Rng, path: &[u8]) -> Vec<u8> {
+    let names = MOST_NAMES + usize::from(rng.chance(1, 3));
+    (paths::depth(path)..names).fold(path.to_vec(), |path, _| {
+        let name = if rng.chance(1, 3) { long_name(rng) } else { random_name(rng) };
+        paths::join(&path, &name)
+    })
 }
 
 /// A random change; most of them fit the card.

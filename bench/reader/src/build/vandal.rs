@@ -2,10 +2,12 @@
 
 use super::draw::random_name;
 use super::random::random;
-use super::scribble;
+use super::{directory, scribble};
 use crate::card::{END_MARK, USED};
 use crate::content::visit;
-use crate::page::{self, put_half, put_word, word, Data, Format};
+use crate::entry::{DIRECTORY, FILE};
+use crate::page::{self, put_half, put_word, word, Data, Format, DATA};
+use crate::paths::{self, MOST_NAMES};
 use crate::rng::Rng;
 use crate::tree::Checked;
 
@@ -28,10 +30,12 @@ pub fn vandalised(format: Format, seed: u64) -> Vec<u8> {
         match rng.below(40) {
             0 => image.truncate(rng.below(image.len())),
             1..=2 => alter(format, &mut image, 0, |data| superblock_fault(&mut rng, data)),
-            3..=4 => alter(format, &mut image, 2 * indirect, |data| {
+            3..=4 => {
+                let name = rng.below(card.layout.table.len());
                 let value = *rng.pick(&[0, indirect as u32, 1, 2, END_MARK, card.layout.alloc_offset as u32]);
-                put_word(data, 4 * rng.below(card.layout.table.len().min(128)), value);
-            }),
+                let page = 2 * indirect + name / 128;
+                alter(format, &mut image, page, |data| put_word(data, 4 * (name % 128), value));
+            }
             5..=14 => {
                 let cluster = rng.below(end);
                 let page = tables[cluster / 128];
@@ -49,6 +53,37 @@ pub fn vandalised(format: Format, seed: u64) -> Vec<u8> {
         }
     }
     image
+}
+
+/// A random card on which a file of a directory 7 below the root has become a directory, with a sound inside where no
+/// entry lives; nothing, where the card has no such file.
+pub fn too_deep(format: Format, seed: u64) -> Option<Vec<u8>> {
+    let mut image = random(format, seed).image;
+    let checked = Checked::of(format, &image).expect("a random card passes");
+    let mut files = Vec::new();
+    visit(&checked.root, b"/", &mut |path, node| {
+        if paths::depth(path) == MOST_NAMES && !node.chain.is_empty() {
+            files.push(node.clone());
+        }
+    });
+    if files.is_empty() {
+        return None;
+    }
+    let file = Rng::new(seed ^ 0xDEE9).pick(&files).clone();
+    let length = 2 * file.chain.len();
+    for slot in 0..length {
+        let data = match slot {
+            0 => directory(b".", 0, 0).page(),
+            1 => directory(b"..", 0, 0).page(),
+            _ => [0; DATA],
+        };
+        page::write(format, &mut image, checked.card.slot_page(&file.chain, slot), &data);
+    }
+    alter(format, &mut image, file.page, |data| {
+        put_half(data, 0, file.entry.mode ^ (DIRECTORY | FILE));
+        put_word(data, 4, length as u32);
+    });
+    Some(image)
 }
 
 /// Rewrites a page where it is still readable.

@@ -9,8 +9,8 @@ use borrow.Author.Needs.{needs}
 use Rattle.listing.proofs.list.Statement.{statement}
 use Rattle.listing.proofs.list.Tie as tie
 
-check-requires : tie.Need-check-requires
-check-requires c κs = search needs
+check-in-requires : tie.Need-check-in-requires
+check-in-requires c κs = search needs
 
 enum-known-checked : tie.Need-enum-known-checked
 enum-known-checked c = search needs
@@ -23,31 +23,36 @@ enum-known-checked-2 c = search needs
 
 list-card-requires : tie.Need-list-card-requires
 list-card-requires c κs =
-    sym (ap toldCounts (c .before .before .before .checked2 .given .1)) ∙ c .before .before .before .before .before .check .ensures
+    let passed = c .before .before .before in
+    sym (ap toldCounts (passed .checked2 .given .1)) ∙ passed .before .before .check-in .ensures
 
 same-length : tie.Need-same-length
 same-length c = search needs
 
 returns : tie.Need-returns
 returns c =
-    let format = c .before .before .before .before .before .before .before .before .before .before .args .format in
-    let image = c .before .before .before .before .before .before .before .before .before .before .args .image .now in
-    let refusal = c .before .before .before .before .before .checked .given .0 .0 in
-    let refused = listing-refused format image (numberOf refusal) (pageOf refusal) (sym (ap toldCounts (c .before .before .before .before .before .checked .given .1)) ∙ c .before .before .before .before .before .before .before .check .ensures) in
-    wrote-listing (listing-short format image) (wrote-as refused (c .before .before .put-refusal .ensures))
+    let wrote = c .before .before in
+    let refused = wrote .before .before .before in
+    let checked = refused .before .before in
+    let a = checked .before .before .before .before .args in
+    let r = refused .checked .given .0 .0 in
+    let text = listing-refused (a .format) (a .image .now) (numberOf r) (pageOf r) (sym (ap toldCounts (refused .checked .given .1)) ∙ checked .check-in .ensures) in
+    wrote-listing (listing-short (a .format) (a .image .now)) (wrote-as text (wrote .put-refusal .ensures))
 
 same-length-2 : tie.Need-same-length-2
 same-length-2 c = search needs
 
 returns-2 : tie.Need-returns-2
 returns-2 c =
-    wrote-listing (listing-short (c .before .before .before .before .before .before .before .before .before .before .before .args .format) (c .before .before .before .before .before .before .before .before .before .before .before .args .image .now)) (c .before .before .list-card .ensures)
+    let wrote = c .before .before in
+    let a = wrote .before .before .before .before .before .before .before .before .before .before .args in
+    wrote-listing (listing-short (a .format) (a .image .now)) (wrote .list-card .ensures)
 
 pub list-spec : {M : Type 1} → statement M
 list-spec =
     tie.close
     (tie.spec
-    check-requires
+    check-in-requires
     enum-known-checked
     put-refusal-requires
     enum-known-checked-2

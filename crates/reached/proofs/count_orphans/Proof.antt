@@ -1,6 +1,7 @@
 -- The loop keeps the count of the orphaned clusters passed; the code's test of a word and its mark is the model's.
 use Prim.Native.Nat.{_-_, _<_, _≤_}
 use mathlib.Core.Logic.{⊎-elim}
+use mathlib.Core.List.{[]}
 use mathlib.Core.Path.{_∙_, _≡_, ap, refl}
 use native.Mathlib.Omega.{arith}
 use borrow.Author.Needs.{needs}
@@ -15,7 +16,7 @@ use Rattle.reached.proofs.count_orphans.Tie as tie
 
 abbrev Inv-loop : tie.InvT-loop
 Inv-loop table words n₀ i₀ n i =
-    (i ≤ length table) × (n ≡ totalBelow (orphanAt table (record { words = words; count = 0 })) i) × (n ≤ i)
+    (i ≤ length table) × (n ≡ totalBelow (orphanAt table (record { words = words; count = 0; spare = [] })) i) × (n ≤ i)
 
 abbrev μ-loop : tie.MeasureT-loop
 μ-loop table words n₀ i₀ n i = length table - i

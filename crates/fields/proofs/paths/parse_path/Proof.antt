@@ -8,6 +8,7 @@ use denote.Ref.{now}
 use lib.ListN.{drop, length}
 use Rattle.fields.specs.PathBytes.{splitNames}
 use Rattle.fields.proofs.PathLaws.{bad-first, end-inside, names-last, names-more, names-some, parse-bad, parse-good, parse-many, parse-nothing, parse-relative, parse-root}
+use Rattle.model.specs.Holds.{mostNames}
 use Rattle.model.specs.Names.{Path, goodNames}
 use Rattle.fields.proofs.paths.parse_path.Statement.{statement}
 use Rattle.fields.proofs.paths.parse_path.Tie as tie
@@ -17,7 +18,7 @@ Inv-loop path from₀ count₀ from count =
     (from ≤ length path) × (length (splitNames (drop 1 path)) ≡ count + length (splitNames (drop from path))) × (goodNames (splitNames (drop 1 path)) ≡ goodNames (splitNames (drop from path)))
 
 abbrev μ-loop : tie.MeasureT-loop
-μ-loop path from₀ count₀ from count = 4 - count
+μ-loop path from₀ count₀ from count = mostNames - count
 
 -- a name ends inside the bytes
 inside : (c : tie.After-name-end Inv-loop μ-loop) → c .name-end .result ≤ length (now (c .before .before .before .before .before .before .before .before .args .path))

@@ -5,6 +5,7 @@ use borrow.Author.Needs.{needs}
 use borrow.Author.Tests.{ltb-true}
 use lib.Dec.{ltb}
 use Rattle.model.proofs.Equality.{and-l, and-r}
+use Rattle.model.specs.View.{mostClusters}
 use Rattle.reached.specs.Marks.{withBit, withMark}
 use Rattle.reached.proofs.WordBits.{one-shl}
 use Rattle.reached.proofs.Reached.mark.Statement.{statement}
@@ -18,7 +19,7 @@ mul-w c = search needs
 
 element-copy-out-w : tie.Need-element-copy-out-w
 element-copy-out-w c =
-    let below : c .before .before .before .before .args .c < 8192 = ltb-true _ _ (and-l _ _ (c .if1 .taken)) in
+    let below : c .before .before .before .before .args .c < mostClusters = ltb-true _ _ (and-l _ _ (c .if1 .taken)) in
     omega arith
 
 shl-self : tie.Need-shl-self
@@ -29,12 +30,12 @@ mul-self c = search needs
 
 element-write-self : tie.Need-element-write-self
 element-write-self c =
-    let below : c .before .before .before .before .before .args .c < 8192 = ltb-true _ _ (and-l _ _ (c .before .if1 .taken)) in
+    let below : c .before .before .before .before .before .args .c < mostClusters = ltb-true _ _ (and-l _ _ (c .before .if1 .taken)) in
     omega arith
 
 add-self : tie.Need-add-self
 add-self c =
-    let room : c .before .before .before .before .before .args .t1 .count < 8192 = ltb-true _ _ (and-l _ _ (and-r (ltb (c .before .before .before .before .before .args .c) 8192) _ (c .before .if1 .taken))) in
+    let room : c .before .before .before .before .before .args .t1 .count < mostClusters = ltb-true _ _ (and-l _ _ (and-r (ltb (c .before .before .before .before .before .args .c) mostClusters) _ (c .before .if1 .taken))) in
     omega arith
 
 returns : tie.Need-returns

@@ -22,7 +22,7 @@ new-requires c κs = search needs
 returns : tie.Need-returns
 returns c =
     let a = c .before .before .before .before .before .before .before .args in
-    root-unread (viewBy (a .geometry) (a .table .now) (a .image .now)) (a .geometry) (c .before .image-page .result) _ (unread (c .before .before .before .read-slot .ensures) (not-true _ (c .before .before .if1 .taken))) (omega (arith, c .before .image-page .ensures))
+    root-unread (viewBy (a .geometry) (a .table .now) (a .image .now)) (a .geometry) (c .image-page .result) _ (unread (c .before .before .before .read-slot .ensures) (not-true _ (c .before .before .if1 .taken))) (omega (arith, c .image-page .ensures))
 
 is-root-requires : tie.Need-is-root-requires
 is-root-requires c κs = search needs
@@ -55,23 +55,25 @@ returns-3 c =
 
 walk-dir-requires : tie.Need-walk-dir-requires
 walk-dir-requires c κs =
-    let a = c .before .before .before .before .before .before .before .before .before .before .before .before .before .before .before .args in
-    let n = c .before .before .before .before .before .word-at .result in
-    (c .before .before .before .before .before .before .before .before .before .before .before .before .before .before .before .pre, root-sound (viewBy (a .geometry) (a .table .now) (a .image .now)) (a .geometry) _ (was-read (c .before .before .before .before .before .before .before .before .before .before .before .read-slot .ensures) (not-false _ (c .before .before .before .before .before .before .before .before .before .before .if1 .left))) (sym (c .before .before .before .before .before .before .before .before .is-root .ensures) ∙ not-false _ (c .before .before .before .before .before .before .before .if2 .left)) (a .table .now) (c .before .before .before .before .before .before .before .before .before .before .before .before .before .before .before .pre) (λ x. refl) (n / 2 + n % 2) (omega (arith, c .before .before .before .before .before .word-at .ensures)) _ (c .before .before .before .before .new3 .ensures) (c .before .before .before .walk-chain .result) (c .before .before .before .walk-chain .ensures) (not-false _ (c .if3 .left)))
+    let s = c .before .before .before .before .before .before .before .before .before .before .before .before .before .before .before .before in
+    let a = s .args in
+    let n = c .before .before .before .before .before .before .word-at .result in
+    (s .pre, root-sound (viewBy (a .geometry) (a .table .now) (a .image .now)) (a .geometry) _ (was-read (c .before .before .before .before .before .before .before .before .before .before .before .before .read-slot .ensures) (not-false _ (c .before .before .before .before .before .before .before .before .before .before .before .if1 .left))) (sym (c .before .before .before .before .before .before .before .before .before .is-root .ensures) ∙ not-false _ (c .before .before .before .before .before .before .before .before .if2 .left)) (a .table .now) (s .pre) (λ x. refl) (n / 2 + n % 2) (omega (arith, c .before .before .before .before .before .before .word-at .ensures)) _ (c .before .before .before .before .before .new3 .ensures) (c .before .before .before .before .walk-chain .result) (c .before .before .before .before .walk-chain .ensures) (not-false _ (c .before .if3 .left)), refl)
 
 returns-4 : tie.Need-returns-4
 returns-4 c =
-    let a = c .before .before .before .before .before .before .before .before .before .before .before .before .before .before .before .before .args in
-    let n = c .before .before .before .before .before .before .word-at .result in
-    root-good (viewBy (a .geometry) (a .table .now) (a .image .now)) (a .geometry) _ (was-read (c .before .before .before .before .before .before .before .before .before .before .before .before .read-slot .ensures) (not-false _ (c .before .before .before .before .before .before .before .before .before .before .before .if1 .left))) (sym (c .before .before .before .before .before .before .before .before .before .is-root .ensures) ∙ not-false _ (c .before .before .before .before .before .before .before .before .if2 .left)) (a .table .now) (c .before .before .before .before .before .before .before .before .before .before .before .before .before .before .before .before .pre) (λ x. refl) (n / 2 + n % 2) (omega (arith, c .before .before .before .before .before .before .word-at .ensures)) _ (c .before .before .before .before .before .new3 .ensures) (c .before .before .before .before .walk-chain .result) (c .before .before .before .before .walk-chain .ensures) (not-false _ (c .before .if3 .left)) _ _ (rw (c .before .before .before .before .before .before .word-at .ensures) at (c .walk-dir .ensures))
+    let s = c .before .before .before .before .before .before .before .before .before .before .before .before .before .before .before .before .before in
+    let a = s .args in
+    let n = c .before .before .before .before .before .before .before .word-at .result in
+    root-good (viewBy (a .geometry) (a .table .now) (a .image .now)) (a .geometry) _ (was-read (c .before .before .before .before .before .before .before .before .before .before .before .before .before .read-slot .ensures) (not-false _ (c .before .before .before .before .before .before .before .before .before .before .before .before .if1 .left))) (sym (c .before .before .before .before .before .before .before .before .before .before .is-root .ensures) ∙ not-false _ (c .before .before .before .before .before .before .before .before .before .if2 .left)) (a .table .now) (s .pre) (λ x. refl) (n / 2 + n % 2) (omega (arith, c .before .before .before .before .before .before .before .word-at .ensures)) _ (c .before .before .before .before .before .before .new3 .ensures) (c .before .before .before .before .before .walk-chain .result) (c .before .before .before .before .before .walk-chain .ensures) (not-false _ (c .before .before .if3 .left)) _ _ (rw (c .before .before .before .before .before .before .before .word-at .ensures) at (c .walk-dir .ensures .0))
 
 pub walk-root-spec : {M : Type 1} → statement M
 walk-root-spec =
     tie.close
     (tie.spec
     read-slot-requires
-    image-page-requires
     new-requires
+    image-page-requires
     returns
     is-root-requires
     new-requires-2

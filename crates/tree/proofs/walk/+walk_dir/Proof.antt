@@ -1,0 +1,227 @@
+-- The walk of a directory's inside: the model's walk, slot by slot.
+-- The loop keeps where the walk stands: sound so far, and what is left of the slots gives what the whole inside gives; or refused.
+use Prim.Native.Nat.{_*_, _+_, _-_, _<_, _≤_, _^_, ℕ}
+use mathlib.Core.Bool.{Bool, _&&_, false, true}
+use mathlib.Core.Logic.{⊎-elim}
+use mathlib.Core.Path.{_∙_, _≡_, ap, refl, sym}
+use native.Mathlib.Omega.{arith}
+use borrow.Author.Needs.{needs}
+use borrow.Author.Tests.{ltb-false, ltb-true}
+use borrow.Fn.Kinds.{In}
+use borrow.Fn.PlainCycle.{Measures, and, falls, is}
+use lib.Dec.{ltb}
+use Rattle.layout.specs.See.{onImage, viewBy}
+use Rattle.model.proofs.Equality.{and-l, and-r}
+use Rattle.reached.specs.Marks.{Sound, marksOf}
+use Rattle.tree.specs.Met.{Grows, Knows}
+use Rattle.tree.specs.Slots.{clusterAt}
+use Rattle.tree.specs.Walk.{Tells, enteredLook, insideOf}
+use Rattle.tree.proofs.MetLaws.{grows-self, knows-none, knows-on}
+use Rattle.tree.proofs.ScanLaws.{cluster-start, cluster-step}
+use Rattle.tree.proofs.TaskLaws.{task-chain, task-idle, task-inside}
+use Rattle.tree.proofs.TellLaws.{Stands, inside-stands, slot-on, stands-end, stands-sound}
+use Rattle.tree.proofs.walk.walk_dir.Reads as walk-dir
+use Rattle.tree.proofs.walk.walk_dir.Kinds as walk-dir-kinds
+use Rattle.tree.proofs.walk.+walk_dir.Lts-walk_dir as walk-dir-lts
+use Rattle.reached.proofs.walk_chain.Reads as walk-chain-reads
+use Rattle.tree.proofs.slots.cluster_after.Reads as cluster-after-reads
+use Rattle.tree.proofs.slots.next_of.Reads as next-of-reads
+use Rattle.tree.proofs.slots.slots_of.Reads as slots-of-reads
+use Rattle.tree.proofs.walk.is_sound.Reads as is-sound-reads
+use Rattle.tree.proofs.walk.judge_dots.Reads as judge-dots-reads
+use Rattle.tree.proofs.walk.look_at.Reads as look-at-reads
+use Rattle.tree.proofs.walk.sound_by.Reads as sound-by-reads
+use Rattle.tree.proofs.walk.task_of.Reads as task-of-reads
+use Rattle.tree.proofs.walk.+walk_dir.{statement}
+use Rattle.tree.proofs.walk.+walk_dir.Tie.{close}
+
+-- a loop that ends while all is sound has no slot left
+ended : (left : ℕ) (told sound : Bool) → (ltb 0 left && told) ≡ false → told ≡ sound → sound ≡ true → left ≡ 0
+ended left told sound h e f = let none : left ≤ 0 = ltb-false 0 left (go (ltb 0 left) (rw (e ∙ f) at h)) in omega arith
+  where
+    go : (b : Bool) → (b && true) ≡ false → b ≡ false
+    go true q = q
+    go false q = refl
+
+abbrev μ-walk-dir : Measures 3 walk-dir-kinds.ps ℕ
+μ-walk-dir κs a = a .1 .1 .1 .1 .1 .1 .1 .0
+
+abbrev walk-dir-at : ℕ → In 3 walk-dir-kinds.ps
+walk-dir-at t = and 3 walk-dir-kinds.ps (is 3 walk-dir-kinds.ps μ-walk-dir t) walk-dir.Pre
+
+abbrev walk-dir-below : ℕ → In 3 walk-dir-kinds.ps
+walk-dir-below t =
+    and 3 walk-dir-kinds.ps (falls 3 walk-dir-kinds.ps _<_ μ-walk-dir t) walk-dir.Pre
+
+-- what it may use of the functions that it calls
+abbrev calls : ℕ → walk-dir-lts.Claims
+calls t = (
+  judge-dots-reads.Asked,
+  judge-dots-reads.Learnt,
+  next-of-reads.Asked,
+  next-of-reads.Learnt,
+  slots-of-reads.Asked,
+  slots-of-reads.Learnt,
+  is-sound-reads.Asked,
+  is-sound-reads.Learnt,
+  look-at-reads.Asked,
+  look-at-reads.Learnt,
+  task-of-reads.Asked,
+  task-of-reads.Learnt,
+  walk-chain-reads.Asked,
+  walk-chain-reads.Learnt,
+  sound-by-reads.Asked,
+  sound-by-reads.Learnt,
+  walk-dir-below t,
+  walk-dir.Post,
+  cluster-after-reads.Asked,
+  cluster-after-reads.Learnt,
+)
+
+abbrev Inv-loop : walk-dir-lts.InvT-loop
+Inv-loop image table geometry cells₀ first entries below v₀ start r₀ c₀ k₀ left₀ cells v r c k left =
+    Stands (viewBy geometry table image) geometry below table start c k left (onImage geometry (insideOf (viewBy geometry table image) below table first entries (marksOf r₀))) v r
+    × (c ≡ clusterAt table start k) × (k + left ≡ left₀) × Knows (viewBy geometry table image) table first start k cells × Grows cells₀ cells
+
+abbrev μ-loop : walk-dir-lts.MeasureT-loop
+μ-loop image table geometry cells₀ first entries below v₀ start r₀ c₀ k₀ left₀ cells v r c k left = left
+
+judge-dots-requires : (t : ℕ) → walk-dir-lts.Need-judge-dots-requires (calls t) (walk-dir-at t) walk-dir.Post Inv-loop μ-loop
+judge-dots-requires t c κs = search needs
+
+next-of-requires : (t : ℕ) → walk-dir-lts.Need-next-of-requires (calls t) (walk-dir-at t) walk-dir.Post Inv-loop μ-loop
+next-of-requires t c κs = search needs
+
+slots-of-requires : (t : ℕ) → walk-dir-lts.Need-slots-of-requires (calls t) (walk-dir-at t) walk-dir.Post Inv-loop μ-loop
+slots-of-requires t c κs = search needs
+
+loop-holds : (t : ℕ) → walk-dir-lts.Need-loop-holds (calls t) (walk-dir-at t) walk-dir.Post Inv-loop μ-loop
+loop-holds t c =
+    let s = c .before .before .before .before .before in
+    let v = viewBy (s .args .geometry) (s .args .table .now) (s .args .image .now) in (
+      inside-stands v (s .args .geometry) (s .args .below) (s .args .table .now) (s .args .first) (s .args .entries) (s .args .reached) (s .pre .1 .1) _ (c .before .before .judge-dots .ensures) (c .before .next-of .result) (c .slots-of .result) (c .before .next-of .ensures) (c .slots-of .ensures),
+      cluster-start _ _,
+      omega arith,
+      knows-none v (s .args .table .now) (s .args .first) (c .before .next-of .result) (s .args .cells .now) (s .pre .1 .2),
+      grows-self _,
+    )
+
+is-sound-requires : (t : ℕ) → walk-dir-lts.Need-is-sound-requires (calls t) (walk-dir-at t) walk-dir.Post Inv-loop μ-loop
+is-sound-requires t c κs = search needs
+
+look-at-requires : (t : ℕ) → walk-dir-lts.Need-look-at-requires (calls t) (walk-dir-at t) walk-dir.Post Inv-loop μ-loop
+look-at-requires t c κs = (c .before .before .before .before .before .before .before .before .before .pre .1 .0, c .before .before .before .loop .inv .1, c .before .before .before .loop .inv .3)
+
+task-of-requires : (t : ℕ) → walk-dir-lts.Need-task-of-requires (calls t) (walk-dir-at t) walk-dir.Post Inv-loop μ-loop
+task-of-requires t c κs = search needs
+
+walk-chain-requires : (t : ℕ) → walk-dir-lts.Need-walk-chain-requires (calls t) (walk-dir-at t) walk-dir.Post Inv-loop μ-loop
+walk-chain-requires t c κs = search needs
+
+sound-by-requires : (t : ℕ) → walk-dir-lts.Need-sound-by-requires (calls t) (walk-dir-at t) walk-dir.Post Inv-loop μ-loop
+sound-by-requires t c κs = search needs
+
+-- a directory that is entered: another level is left below, and its chain keeps the record sound
+entered : (t : ℕ) (c : walk-dir-lts.After-walk-dir-arg (calls t) (walk-dir-at t) walk-dir.Post Inv-loop μ-loop)
+    → (0 < c .before .before .before .before .before .before .before .before .before .before .before .before .before .before .before .before .before .before .before .args .below) × Sound (c .before .before .before .before .before .before .walk-chain .result .reached)
+entered t c =
+    let s = c .before .before .before .before .before .before .before .before .before .before .before .before .before .before .before .before .before .before .before in
+    let v = viewBy (s .args .geometry) (s .args .table .now) (s .args .image .now) in
+    let w = c .before .before .before .before .before .before .before .before .before .before .before .before .before .loop in
+    let task = c .before .before .before .before .before .before .before .before .task-of .ensures in
+    let sound = sym (c .before .before .before .before .before .before .before .before .before .before .before .before .is-sound .ensures) ∙ and-r (ltb 0 (w .left)) (c .before .before .before .before .before .before .before .before .before .before .before .before .is-sound .result) (c .before .before .before .before .before .before .before .before .before .before .before .if1 .taken) in
+    let whole = onImage (s .args .geometry) (insideOf v (s .args .below) (s .args .table .now) (s .args .first) (s .args .entries) (marksOf (s .args .reached))) in
+    let stands = stands-sound v (s .args .geometry) (s .args .below) (s .args .table .now) (c .before .before .before .before .before .before .before .before .before .before .before .before .before .before .before .next-of .result) (w .c) (w .k) (w .left) whole (w .v) (w .r) (w .inv .0) sound in
+    let go = task-inside (s .args .table .now) (s .pre .1 .0) v (λ n. refl) (s .args .geometry) (s .args .below) (w .r) (stands .1) (c .before .before .before .before .before .before .walk-chain .result) (c .before .before .before .before .before .before .before .before .before .look-at .result) (rw task at (c .before .before .before .before .before .before .before .if2 .taken)) (rw task at (c .before .before .before .before .before .before .walk-chain .ensures)) (rw task at (c .before .if3 .taken)) in
+    (go .0, go .1)
+
+sub-walk-dir : (t : ℕ) → walk-dir-lts.Need-sub-walk-dir (calls t) (walk-dir-at t) walk-dir.Post Inv-loop μ-loop
+sub-walk-dir t c = omega (arith, (entered t c) .0)
+
+walk-dir-requires : (t : ℕ) → walk-dir-lts.Need-walk-dir-requires (calls t) (walk-dir-at t) walk-dir.Post Inv-loop μ-loop
+walk-dir-requires t c κs =
+    let s = c .before .before .before .before .before .before .before .before .before .before .before .before .before .before .before .before .before .before .before in
+    let v = viewBy (s .args .geometry) (s .args .table .now) (s .args .image .now) in
+    let filled = (knows-on v (s .args .table .now) (s .args .first) _ _ _ _ _ _ (c .before .before .before .before .before .before .before .before .before .before .before .before .before .loop .inv .4) (c .before .before .before .before .before .before .before .before .before .look-at .ensures .1) (grows-self _)) .1 in
+    (omega (arith, (entered t c) .0, s .pre .0), (s .pre .1 .0, (entered t c) .1, filled .room ∙ s .pre .1 .2))
+
+cluster-after-requires : (t : ℕ) → walk-dir-lts.Need-cluster-after-requires (calls t) (walk-dir-at t) walk-dir.Post Inv-loop μ-loop
+cluster-after-requires t c κs = search needs
+
+add-k : (t : ℕ) → walk-dir-lts.Need-add-k (calls t) (walk-dir-at t) walk-dir.Post Inv-loop μ-loop
+add-k t c = omega (arith, c .before .before .before .before .before .before .before .loop .inv .2)
+
+sub-left : (t : ℕ) → walk-dir-lts.Need-sub-left (calls t) (walk-dir-at t) walk-dir.Post Inv-loop μ-loop
+sub-left t c = let w = c .before .before .before .before .before .before .before .loop in omega (arith, ltb-true 0 (w .left) (and-l (ltb 0 (w .left)) _ (c .before .before .before .before .before .if1 .taken)))
+
+loop-less : (t : ℕ) → walk-dir-lts.Need-loop-less (calls t) (walk-dir-at t) walk-dir.Post Inv-loop μ-loop
+loop-less t c = let w = c .before .before .before .before .before .before .before .loop in omega (arith, ltb-true 0 (w .left) (and-l (ltb 0 (w .left)) _ (c .before .before .before .before .before .if1 .taken)))
+
+loop-again : (t : ℕ) → walk-dir-lts.Need-loop-again (calls t) (walk-dir-at t) walk-dir.Post Inv-loop μ-loop
+loop-again t c =
+    let s = c .before .before .before .before .before .before .before .before .before .before .before .before .before in
+    let g = s .args .geometry in
+    let tb = s .args .table .now in
+    let v = viewBy g tb (s .args .image .now) in
+    let w = c .before .before .before .before .before .before .before .loop in
+    let seen = c .before .before .before .look-at in
+    let task = c .before .before .task-of .ensures in
+    let more = ltb-true 0 (w .left) (and-l (ltb 0 (w .left)) _ (c .before .before .before .before .before .if1 .taken)) in
+    let sound = sym (c .before .before .before .before .before .before .is-sound .ensures) ∙ and-r (ltb 0 (w .left)) (c .before .before .before .before .before .before .is-sound .result) (c .before .before .before .before .before .if1 .taken) in
+    let whole = onImage g (insideOf v (s .args .below) tb (s .args .first) (s .args .entries) (marksOf (s .args .reached))) in
+    let stands = stands-sound v g (s .args .below) tb (c .before .before .before .before .before .before .before .before .before .next-of .result) (w .c) (w .k) (w .left) whole (w .v) (w .r) (w .inv .0) sound in
+    let told : Tells (enteredLook v g (s .args .below) tb (marksOf (w .r)) (seen .result)) (c .before .if2 .v) (c .before .if2 .r) =
+    ⊎-elim
+    (λ z.
+    let go = task-inside tb (s .pre .1 .0) v (λ n. refl) g (s .args .below) (w .r) (stands .1) (z .1 .result) (seen .result) (rw task at (z .0 .taken)) (rw task at (z .1 .ensures)) (rw task at (z .6 .taken)) in
+    rw (z .11, z .12) (go .2 _ _ (rw task at (z .8 .ensures .0))))
+    (⊎-elim
+    (λ z. rw (z .8, z .9, z .3 .ensures) (task-chain tb (s .pre .1 .0) v (λ n. refl) g (s .args .below) (w .r) (stands .1) (z .1 .result) (seen .result) (rw task at (z .0 .taken)) (rw task at (z .1 .ensures)) (rw task at (z .6 .left))))
+    (λ z. rw (z .2, z .3, task) (task-idle tb (s .pre .1 .0) v (λ n. refl) g (s .args .below) (w .r) (stands .1) (seen .result) (rw task at (z .0 .left)))))
+    (c .before .if2 .came) in
+    let cells : Knows v tb (s .args .first) (c .before .before .before .before .before .before .before .before .before .next-of .result) (w .k + 1) (c .before .if2 .cells) × Grows (s .args .cells .now) (c .before .if2 .cells) =
+    ⊎-elim
+    (λ z. rw (z .10) (knows-on v tb (s .args .first) _ _ _ _ _ _ (w .inv .4) (seen .ensures .1) (z .8 .ensures .1)))
+    (⊎-elim
+    (λ z. rw (z .7) (knows-on v tb (s .args .first) _ _ _ _ _ _ (w .inv .4) (seen .ensures .1) (grows-self _)))
+    (λ z. rw (z .1) (knows-on v tb (s .args .first) _ _ _ _ _ _ (w .inv .4) (seen .ensures .1) (grows-self _))))
+    (c .before .if2 .came) in (
+      rw (c .cluster-after .ensures) (slot-on v g (s .args .below) tb (λ n. refl) (c .before .before .before .before .before .before .before .before .before .next-of .result) (w .c) (w .k) (w .left) _ (w .r) (stands .0) more (w .inv .1) (seen .result) (seen .ensures .0) (c .before .if2 .v) (c .before .if2 .r) told),
+      cluster-step tb (c .before .before .before .before .before .before .before .before .before .next-of .result) (w .c) (w .k) _ (w .inv .1) (c .cluster-after .ensures),
+      omega (arith, w .inv .2, more),
+      cells .0,
+      cells .1,
+    )
+
+returns : (t : ℕ) → walk-dir-lts.Need-returns (calls t) (walk-dir-at t) walk-dir.Post Inv-loop μ-loop
+returns t c =
+    let s = c .before .before .before .before .before .before .before .before in
+    let v = viewBy (s .args .geometry) (s .args .table .now) (s .args .image .now) in
+    let w = c .before .before .loop in
+    (stands-end v (s .args .geometry) (s .args .below) (s .args .table .now) _ (w .c) (w .k) (w .left) _ (w .v) (w .r) (w .inv .0) (ended (w .left) _ _ (c .if1 .left) (c .before .is-sound .ensures)), w .inv .4)
+
+pub +walk-dir-spec : {M : Type 1} → statement M
++walk-dir-spec =
+    close μ-walk-dir
+    (λ t. walk-dir-lts.spec (calls t)
+    (walk-dir-at t)
+    walk-dir.Post
+    Inv-loop
+    μ-loop
+    (judge-dots-requires t)
+    (next-of-requires t)
+    (slots-of-requires t)
+    (loop-holds t)
+    (is-sound-requires t)
+    (look-at-requires t)
+    (task-of-requires t)
+    (walk-chain-requires t)
+    (sound-by-requires t)
+    (sub-walk-dir t)
+    (walk-dir-requires t)
+    (cluster-after-requires t)
+    (add-k t)
+    (sub-left t)
+    (loop-less t)
+    (loop-again t)
+    (returns t))
