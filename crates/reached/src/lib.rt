@@ -9,7 +9,7 @@ ghost use Rattle.reached.specs.Totals.{freeWords, orphansIn};
 const TOP_BIT: u32 = 0x8000_0000;
 
 // The end of a chain, as a table word and as a first cluster.
-const END_MARK: u32 = 0xFFFF_FFFF;
+pub const END_MARK: u32 = 0xFFFF_FFFF;
 
 // The words of the record, 64 marks to a word.
 pub const MARK_WORDS: usize = MOST_CLUSTERS / 64;

@@ -19,9 +19,9 @@ use Rattle.model.specs.Entry.{Entry, isLive}
 use Rattle.model.specs.Names.{Name, sameName}
 use Rattle.model.specs.View.{View}
 use Rattle.tree.specs.declared.names.Hash.{Hash}
-use Rattle.tree.specs.Met.{Grows, Knows, cellOf, hashOf, isMet, isSame, isSlot, known, learnt, markOf, mixed, mostPages, withName, wordOf}
+use Rattle.tree.specs.Met.{Grows, Knows, cellOf, hashOf, isMet, isSame, known, learnt, markOf, mixed, mostPages, withName, wordOf}
 use Rattle.tree.specs.Scan.{bears}
-use Rattle.tree.specs.Slots.{clusterAt, liveBefore, liveHit, slotPage}
+use Rattle.tree.specs.Slots.{clusterAt, isSlot, liveBefore, liveHit, slotPage}
 
 -- ---- the slots before slot k
 

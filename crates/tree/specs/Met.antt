@@ -1,6 +1,6 @@
 -- The names met on the walk, in cells: what the check asks of them is only that none is forgotten, whatever the hash.
 use Prim.Native.Nat.{ℕ, zero, suc, _+_, _*_, _/_, _%_, _<_, _≤_}
-use mathlib.Core.Bool.{Bool, _&&_, _||_, cond, false, true}
+use mathlib.Core.Bool.{Bool, _&&_, cond, false, true}
 use mathlib.Core.List.{List, [], _∷_}
 use mathlib.Core.Path.{_≡_}
 use lib.Dec.{eqb}
@@ -8,7 +8,7 @@ use lib.ListN.{getD, length, set}
 use Rattle.model.specs.Names.{Name}
 use Rattle.model.specs.View.{View, mostClusters}
 use Rattle.tree.specs.Scan.{bears}
-use Rattle.tree.specs.Slots.{clusterAt, liveBefore, slotPage}
+use Rattle.tree.specs.Slots.{isSlot, liveBefore}
 use Rattle.tree.specs.declared.names.Hash.{Hash}
 
 -- as many cells as pages of allocatable clusters
@@ -54,11 +54,6 @@ abbrev pub cellOf : Hash → ℕ
 cellOf h = h .c % mostPages
 
 -- ---- the cells
-
--- whether the page is that of a slot before slot k of the directory whose slots begin in cluster `start`
-unfoldable pub isSlot : List ℕ → ℕ → ℕ → ℕ → Bool
-isSlot table start zero page = false
-isSlot table start (suc k) page = isSlot table start k page || eqb page (slotPage (clusterAt table start k) k)
 
 module _ (v : View) (table : List ℕ) (start k : ℕ) (n : Name) (mark : ℕ) where
   -- a word is the name's: its mark, the name in its page, and that this is a slot before slot k

@@ -1,6 +1,6 @@
 -- The slots of a directory from 2 on, as the code steps through them: k counts them, two to a cluster.
 use Prim.Native.Nat.{ℕ, zero, suc, _+_, _-_, _*_, _%_}
-use mathlib.Core.Bool.{cond}
+use mathlib.Core.Bool.{Bool, _||_, cond, false}
 use mathlib.Core.List.{List, [], _∷_}
 use mathlib.Core.Option.{Option, none, some}
 use lib.Dec.{eqb}
@@ -30,6 +30,11 @@ slotPage c k = 2 * c + k % 2
 unfoldable pub slotPages : List ℕ → ℕ → ℕ → ℕ → List ℕ
 slotPages table c k zero = []
 slotPages table c k (suc n) = slotPage c k ∷ slotPages table (clusterAfter table c k) (suc k) n
+
+-- whether the page is that of a slot before slot k of the directory whose slots begin in cluster `start`
+unfoldable pub isSlot : List ℕ → ℕ → ℕ → ℕ → Bool
+isSlot table start zero page = false
+isSlot table start (suc k) page = isSlot table start k page || eqb page (slotPage (clusterAt table start k) k)
 
 -- how often a live entry bears the name: in one page, and in the slots before slot k
 abbrev pub liveHit : Option Entry → Name → ℕ

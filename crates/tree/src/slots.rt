@@ -9,8 +9,7 @@ ghost use lib.ListN.{length};
 ghost use Rattle.model.specs.Bytes.{pageLimit};
 ghost use Rattle.layout.specs.See.{pageIn};
 ghost use Rattle.page.specs.Page.{Read};
-ghost use Rattle.tree.specs.Slots.{clusterAfter, nextOf, slotPage};
-ghost use Rattle.tree.specs.Met.{isSlot};
+ghost use Rattle.tree.specs.Slots.{clusterAfter, isSlot, nextOf, slotPage};
 
 // The cluster after c in its chain.
 pub fn next_of(table: &[u32], c: u32) -> u32

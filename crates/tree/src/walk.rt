@@ -19,6 +19,7 @@ use layout::Geometry;
 use layout::Refusal;
 use layout::image_page;
 use model::DEEPEST;
+use reached::END_MARK;
 use reached::Reached;
 use reached::walk_chain;
 ghost use mathlib.Core.Path.{_≡_};
@@ -108,7 +109,7 @@ fn task_of(look: Look, below: u32) -> Task
         Look::Bad => task_by(Verdict::Refused(Refusal::BadEntry)),
         Look::Dead => task_by(Verdict::Sound),
         Look::File { length, first } => {
-            if (length == 0) & (first == 0xFFFF_FFFF) {
+            if (length == 0) & (first == END_MARK) {
                 return task_by(Verdict::Sound);
             }
             Task {

@@ -6,8 +6,7 @@ use native.Mathlib.Numerals.{add-one}
 use native.Mathlib.Omega.{arith}
 use borrow.Author.Needs.{needs}
 use denote.Ref.{now}
-use Rattle.tree.specs.Met.{isSlot}
-use Rattle.tree.specs.Slots.{clusterAt, slotPage}
+use Rattle.tree.specs.Slots.{clusterAt, isSlot, slotPage}
 use Rattle.tree.proofs.MetLaws.{slot-here, slot-none, slot-not, slot-up}
 use Rattle.tree.proofs.ScanLaws.{cluster-start, cluster-step}
 use Rattle.tree.proofs.slots.is_slot.Statement.{statement}
