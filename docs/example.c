@@ -112,7 +112,8 @@ int main(int count, char **words) {
     fclose(file);
 
     accepted("check", ps2card_check_counts(format, image, image_length, &page, &counts), page);
-    printf("%lu clusters, %lu free\n", (unsigned long)counts.clusters, (unsigned long)counts.free);
+    printf("%lu clusters, %lu free, %lu held back\n", (unsigned long)counts.clusters, (unsigned long)counts.free,
+           (unsigned long)counts.held);
     show_directory("/");
     put_note();
     show_listing();

@@ -22,6 +22,10 @@
  *   for a number that names no format. Every call but the two conversions checks the whole card first.
  * The check reads the superblock, the table and every directory, but NO FILE DATA: a card that it accepts may have
  *   files with unreadable pages. Only ps2card_read of all of a file's bytes shows that they can be read.
+ * Room: a change takes free clusters, the lowest first. A card of 8,192 clusters has a reserved tail, as on consoles:
+ *   its allocatable clusters from index 8,000 on. No change takes a new cluster there: one that the table has as free,
+ *   also one that a change has just freed, is held back and not free. What stands in the tail is read, replaced and
+ *   deleted as anywhere else. No other card has a tail.
  * path, path_length: a path on the card as bytes, without a zero at the end: "/" alone, or one to eight names, each
  *   after a "/". A name has 1 to 31 bytes from 0x20 to 0x7E, none of them * / or ?, and is neither "." nor "..". Names
  *   are compared whole: case and blanks count. Directories have one to seven names, files one to eight. So a path has
@@ -45,9 +49,9 @@
 #include <stddef.h>
 #include <stdint.h>
 
-#define PS2CARD_VERSION "0.3.0"
+#define PS2CARD_VERSION "0.4.0"
 /* 10,000 for each major, 100 for each minor version, and the patch. */
-#define PS2CARD_VERSION_NUMBER 300
+#define PS2CARD_VERSION_NUMBER 400
 
 /* Clusters of the largest card. */
 #define PS2CARD_MOST_CLUSTERS 65536
@@ -107,11 +111,16 @@ enum ps2card_mode {
 extern "C" {
 #endif
 
-/* Checks the card: its clusters, and how many of the allocatable ones are free, reached by a chain, and neither.
- * Refusals: 1 to 7. Untouched on a refusal: clusters, free, reached, orphaned.
+/* Checks the card: its clusters, and how many of the allocatable ones are
+ *   free        free in the table, and a change can take them: so many times 1,024 bytes are left
+ *   reached     in the chain of a directory or a file
+ *   orphaned    not free in the table, and in no chain
+ *   held        held back: free in the table, but in the reserved tail, so that no change takes them
+ * The four add up to the allocatable clusters.
+ * Refusals: 1 to 7. Untouched on a refusal: clusters, free, reached, orphaned, held.
  * Stack: at most 1,200 KiB. */
 uint32_t ps2card_check(uint32_t format, const uint8_t *image, size_t image_length, size_t *page, uint32_t *clusters,
-                       size_t *free, size_t *reached, size_t *orphaned);
+                       size_t *free, size_t *reached, size_t *orphaned, size_t *held);
 
 /* Finds the entry at a path, for the root its first one, and hands out its fields: ps2card_find_entry below has them as
  * a struct.
@@ -145,6 +154,7 @@ uint32_t ps2card_read(uint32_t format, const uint8_t *image, size_t image_length
  *   free COUNT
  *   reached COUNT
  *   orphaned COUNT
+ *   held COUNT
  *   d ENTRIES PATH       a directory; its first two entries and dead ones count too
  *   f BYTES PATH         a file
  * the last two for each entry in tree order: slot order, a directory before its inside; the root has no line. On a
@@ -206,7 +216,7 @@ uint32_t ps2card_to_raw(const uint8_t *image, size_t image_length, uint8_t *out,
 /* What the check counts. */
 typedef struct ps2card_counts {
     uint32_t clusters;
-    size_t free, reached, orphaned;
+    size_t free, reached, orphaned, held;
 } ps2card_counts;
 
 /* A directory entry. */
@@ -225,7 +235,7 @@ typedef struct ps2card_entry {
 static inline uint32_t ps2card_check_counts(uint32_t format, const uint8_t *image, size_t image_length, size_t *page,
                                             ps2card_counts *counts) {
     return ps2card_check(format, image, image_length, page, &counts->clusters, &counts->free, &counts->reached,
-                         &counts->orphaned);
+                         &counts->orphaned, &counts->held);
 }
 
 /* ps2card_find with an entry. Untouched on a refusal: entry. */

@@ -2,17 +2,20 @@
 
 use crate::{Format, Refusal};
 
-/// What the check counts. Free, reached and orphaned add up to the allocatable clusters.
+/// What the check counts. Free, reached, orphaned and held back add up to the allocatable clusters.
 #[derive(Clone, Copy, Debug, Default, PartialEq, Eq)]
 pub struct Counts {
     /// All clusters of the card.
     pub clusters: u32,
-    /// Allocatable clusters that the table has as free.
+    /// Allocatable clusters that the table has as free and a change can take: so many times 1,024 bytes are left.
     pub free: usize,
     /// Those that the chain of a directory or a file reaches.
     pub reached: usize,
-    /// Those that are not free and that no chain reaches.
+    /// Those that the table has not as free and that no chain reaches.
     pub orphaned: usize,
+    /// Held back: those that the table has as free, but that no change takes, because they lie in the reserved tail of a
+    /// card of 8,192 clusters, from index 8,000 on. It is 0 on every other card.
+    pub held: usize,
 }
 
 /// A card: an image and its format. The image may be any bytes; every call checks it first and answers a refusal where

@@ -4,7 +4,7 @@ use std::fmt;
 
 use ps2card_sys as calls;
 
-/// Clusters of the standard card of 8 MB.
+/// Clusters of the standard card of 8 MB, the only size with a reserved tail.
 pub const STANDARD_CLUSTERS: usize = 8_192;
 
 /// Clusters of the largest card, of 64 MiB.

@@ -54,7 +54,7 @@ struct Layout {
 
 impl Layout {
     /// All clusters between the table and the backup blocks are allocatable, with the smallest table that has a word
-    /// for each.
+    /// for each. The standard card's reserved tail is among them: it is in the table, and held back.
     fn of(clusters: usize) -> Layout {
         let rest = clusters - BACKUPS - INDIRECT - 1;
         let table = rest.div_ceil(WORDS + 1);

@@ -66,6 +66,6 @@ mod tests {
         assert_eq!((line.kind, line.length, line.path.as_slice()), (Kind::File, 1500, &b"/SAVE/A B"[..]));
         assert_eq!(line.parent(), b"/SAVE");
         assert_eq!(parse(b"d 3 /SAVE").expect("a directory").parent(), b"/");
-        assert!([&b"card 56"[..], b"free 24", b""].iter().all(|line| parse(line).is_none()));
+        assert!([&b"card 56"[..], b"free 24", b"held 0", b""].iter().all(|line| parse(line).is_none()));
     }
 }

@@ -18,14 +18,17 @@ impl<B: AsRef<[u8]>> Card<B> {
     ///
     /// let card = Card::fresh(Format::Raw, 56, &Stamp::now())?;
     /// let counts = card.check()?;
-    /// assert_eq!((counts.clusters, counts.free, counts.reached, counts.orphaned), (56, 29, 1, 0));
+    /// assert_eq!((counts.clusters, counts.free, counts.reached, counts.orphaned, counts.held), (56, 29, 1, 0, 0));
+    /// // The standard card has 8,135 allocatable clusters: 8,000 that changes can take, and its reserved tail.
+    /// let counts = Card::fresh(Format::Raw, 8_192, &Stamp::now())?.check()?;
+    /// assert_eq!((counts.free, counts.reached, counts.orphaned, counts.held), (7_999, 1, 0, 135));
     /// assert_eq!(Card::raw(&b"no card"[..]).check(), Err(Refusal::BadLength));
     /// # Ok::<(), Refusal>(())
     /// ```
     pub fn check(&self) -> Result<Counts, Refusal> {
         let image = self.image();
         let (mut counts, mut page) = (Counts::default(), 0);
-        // SAFETY: pointer and length are those of one slice, which is only read; the five numbers are places of their
+        // SAFETY: pointer and length are those of one slice, which is only read; the six numbers are places of their
         // own, and all of them outlive the call.
         let number = unsafe {
             calls::ps2card_check(
@@ -37,6 +40,7 @@ impl<B: AsRef<[u8]>> Card<B> {
                 &mut counts.free,
                 &mut counts.reached,
                 &mut counts.orphaned,
+                &mut counts.held,
             )
         };
         verdict(number, page).map(|()| counts)
@@ -184,7 +188,7 @@ impl<B: AsRef<[u8]>> Card<B> {
     /// let mut card = Card::fresh(Format::Raw, 56, &Stamp::now())?;
     /// card.make_dir(b"/SAVE", &Stamp::now())?;
     /// card.create(b"/SAVE/A", &Stamp::now(), &[0; 1500])?;
-    /// assert_eq!(card.list()?, b"card 56\nfree 24\nreached 6\norphaned 0\nd 3 /SAVE\nf 1500 /SAVE/A\n");
+    /// assert_eq!(card.list()?, b"card 56\nfree 24\nreached 6\norphaned 0\nheld 0\nd 3 /SAVE\nf 1500 /SAVE/A\n");
     /// # Ok::<(), ps2card::Refusal>(())
     /// ```
     pub fn list(&self) -> Result<Vec<u8>, Refusal> {

@@ -39,7 +39,7 @@ pub enum Refusal {
     WrongKind,
     /// 11: the path to create exists.
     Exists,
-    /// 12: fewer free clusters than needed.
+    /// 12: fewer free clusters than needed; those held back are not free.
     NoRoom,
     /// 13: the directory to remove has a live entry.
     NotEmpty,

@@ -14,8 +14,9 @@ fn standard_card() {
         let folder = Folder::of(format);
         folder.run(&["new", "card", "--stamp", USUAL]).done();
         assert!(folder.read("card") == build::standard(format));
-        let counts = "card: OK, 8134 KB free\ncard 8192\nfree 8134\nreached 1\norphaned 0\n";
-        assert_eq!(folder.run(&["check", "card"]).text(), counts);
+        let counts = "card 8192\nfree 7999\nreached 1\norphaned 0\nheld 135\n";
+        assert_eq!(folder.run(&["check", "card"]).text(), format!("card: OK, 7999 KB free\n{counts}"));
+        assert_eq!(folder.run(&["list", "card"]).text(), counts);
         assert_eq!(folder.names(), ["card"]);
     }
 }
@@ -74,7 +75,8 @@ fn judge(format: Format, clusters: usize) -> Vec<u8> {
     }
     let [alloc_offset, alloc_end] = [0x34, 0x38].map(|at| page::word(&first, at) as usize);
     assert_eq!(alloc_offset + alloc_end, clusters - 16);
-    assert_eq!(counts.free, alloc_end - 1);
+    let held = if clusters == 8_192 { alloc_end - 8_000 } else { 0 };
+    assert_eq!((counts.free, counts.held), (alloc_end - 1 - held, held));
     if clusters.is_multiple_of(256) || !(128..=8_192).contains(&clusters) {
         let table = (9..alloc_offset).collect::<Vec<usize>>();
         assert_eq!(table.len(), alloc_end.div_ceil(256));
@@ -91,8 +93,8 @@ fn large_cards() {
         let folder = Folder::of(format);
         for (clusters, free) in [(8_200, 8_142), (65_528, 65_247), (65_536, 65_255)] {
             folder.run(&["new", "card", &clusters.to_string()]).done();
-            let counts = format!("card: OK, {free} KB free\ncard {clusters}\nfree {free}\nreached 1\norphaned 0\n");
-            assert_eq!(folder.run(&["check", "card"]).text(), counts);
+            let counts = format!("card {clusters}\nfree {free}\nreached 1\norphaned 0\nheld 0\n");
+            assert_eq!(folder.run(&["check", "card"]).text(), format!("card: OK, {free} KB free\n{counts}"));
             assert_eq!(
                 fs::metadata(folder.path("card")).expect("a file").len(),
                 clusters * format.cluster_bytes() as u64
@@ -107,7 +109,8 @@ fn large_cards() {
 fn smallest_card() {
     let folder = Folder::new();
     folder.run(&["new", "card", "32"]).done();
-    assert_eq!(folder.run(&["check", "card"]).text(), "card: OK, 5 KB free\ncard 32\nfree 5\nreached 1\norphaned 0\n");
+    let counts = "card: OK, 5 KB free\ncard 32\nfree 5\nreached 1\norphaned 0\nheld 0\n";
+    assert_eq!(folder.run(&["check", "card"]).text(), counts);
     folder.write("fits", &[3; 4 * 1024]);
     folder.run(&["create", "card", "/A", "fits"]).done();
     folder.run(&["create", "card", "/B", "fits"]).refused(Refusal::number(12));

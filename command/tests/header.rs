@@ -5,7 +5,7 @@ mod c;
 mod common;
 
 use common::{in_wrapper, Folder};
-use ps2card::{Card, Entry, Format, Kind, Refusal, Stamp};
+use ps2card::{Card, Counts, Entry, Format, Kind, Refusal, Stamp};
 use reader::build;
 
 /// What stands in an output before a call of the C program.
@@ -55,8 +55,19 @@ impl Script {
 
     fn check(&mut self) {
         let answer = self.card.check();
-        let counts = answer.map_or([UNTOUCHED; 4], |c| [c.clusters as usize, c.free, c.reached, c.orphaned]);
-        self.say(format!("check {} {} {} {} {}\n", told(&answer), counts[0], counts[1], counts[2], counts[3]));
+        self.counted(&answer);
+    }
+
+    /// The check of the image without its last byte, which is refused.
+    fn check_cut(&mut self) {
+        let image = self.card.image();
+        let answer = Card::new(self.card.format(), &image[..image.len() - 1]).check();
+        self.counted(&answer);
+    }
+
+    fn counted(&mut self, answer: &Result<Counts, Refusal>) {
+        let counts = answer.map_or([UNTOUCHED; 5], |c| [c.clusters as usize, c.free, c.reached, c.orphaned, c.held]);
+        self.say(format!("check {} {}\n", told(answer), counts.map(|count| count.to_string()).join(" ")));
     }
 
     fn find(&mut self, path: &str) {
@@ -129,6 +140,7 @@ impl Script {
         let time = Stamp(build::usual_time());
         let no_time = Stamp([1, 0, 0, 0, 0, 0, 0, 0]);
         self.check();
+        self.check_cut();
         self.change("make_dir", |card| card.make_dir(b"/D", &time));
         self.change("make_dir", |card| card.make_dir(b"/D", &time));
         self.change("make_dir", |card| card.make_dir(b"/E", &no_time));
@@ -159,37 +171,47 @@ impl Script {
     }
 }
 
-/// C through the header and Rust through the wrapper tell the same and leave the same image, in both formats and however
-/// C is compiled.
+/// C through the header and Rust through the wrapper tell the same and leave the same image, in both formats, on a small
+/// card and on one with a reserved tail, and however C is compiled.
 #[test]
 fn c_program() {
-    for (format, option) in [(reader::Format::Raw, None), (reader::Format::Plain, Some("--plain"))] {
-        let bench = build::bench(format);
-        let mut script = Script { card: Card::new(in_wrapper(format), bench.clone()), text: String::new() };
-        script.run();
-        let Script { card, text } = script;
-        let other = match card.format() {
-            Format::Raw => card.to_plain(),
-            Format::Plain => card.to_raw(),
-        };
-        for way in c::WAYS {
-            let folder = Folder::new();
-            folder.write("card", &bench);
-            let words: Vec<&str> = option.into_iter().chain(["card", "changed", "converted"]).collect();
-            let told = c::compiled(&folder, c::test("header"), way).run(&folder, &words).text();
-            assert_eq!(told, text, "{way:?}");
-            assert!(folder.read("changed") == card.image() && folder.read("changed") != bench);
-            assert!(folder.read("converted") == other.as_ref().expect("it is readable").image());
+    for way in c::WAYS {
+        let folder = Folder::new();
+        let program = c::compiled(&folder, c::test("header"), way);
+        for format in reader::Format::BOTH {
+            let cards = [(build::bench(format), "56 29 1 0 0"), (build::standard(format), "8192 7999 1 0 135")];
+            for (image, counts) in cards {
+                let text = same(&folder, &program, format, &image);
+                let checks = format!("check 0 77 {counts}\ncheck 1 77 77 77 77 77 77\n");
+                assert!(text.starts_with(&checks), "{way:?} {format:?}: {text}");
+            }
         }
-        let calls = |line: &&str| !["list", "card", "free", "reached", "orphaned", "d", "f"].contains(&word(line, 0));
-        let numbers: Vec<u32> =
-            text.lines().filter(calls).map(|line| word(line, 1).parse().expect("a number")).collect();
-        for number in [0, 1, 9, 10, 11, 13, 14, 15, 23] {
-            assert!(numbers.contains(&number), "{number}: {text}");
-        }
-        assert_eq!(numbers.contains(&2), format == reader::Format::Raw, "{text}");
-        assert_eq!(text.contains("\nconvert 2 7 0\n"), format == reader::Format::Raw, "{text}");
     }
+}
+
+/// What both tell of a card.
+fn same(folder: &Folder, program: &c::Program, format: reader::Format, image: &[u8]) -> String {
+    let mut script = Script { card: Card::new(in_wrapper(format), image.to_vec()), text: String::new() };
+    script.run();
+    let Script { card, text } = script;
+    let (other, option) = match card.format() {
+        Format::Raw => (card.to_plain(), None),
+        Format::Plain => (card.to_raw(), Some("--plain")),
+    };
+    folder.write("card", image);
+    let words: Vec<&str> = option.into_iter().chain(["card", "changed", "converted"]).collect();
+    assert_eq!(program.run(folder, &words).text(), text);
+    assert!(folder.read("changed") == card.image() && folder.read("changed") != image);
+    assert!(folder.read("converted") == other.expect("it is readable").image());
+    let listed = ["list", "card", "free", "reached", "orphaned", "held", "d", "f"];
+    let calls = text.lines().filter(|line| !listed.contains(&word(line, 0)));
+    let numbers: Vec<u32> = calls.map(|line| word(line, 1).parse().expect("a number")).collect();
+    for number in [0, 1, 9, 10, 11, 13, 14, 15, 23] {
+        assert!(numbers.contains(&number), "{number}: {text}");
+    }
+    assert_eq!(numbers.contains(&2), format == reader::Format::Raw, "{text}");
+    assert_eq!(text.contains("\nconvert 2 7 0\n"), format == reader::Format::Raw, "{text}");
+    text
 }
 
 fn word(line: &str, place: usize) -> &str {

@@ -11,8 +11,9 @@ use reader::Format::{Plain, Raw};
 use reader::{Counts, Entry, Format, Refusal};
 
 fn counts(format: Format, image: &[u8]) -> String {
-    let Counts { clusters, free, reached, orphaned } = reader::check(format, image).expect("an accepted card");
-    format!("card: OK, {free} KB free\ncard {clusters}\nfree {free}\nreached {reached}\norphaned {orphaned}\n")
+    let Counts { clusters, free, reached, orphaned, held } = reader::check(format, image).expect("an accepted card");
+    let of_table = format!("free {free}\nreached {reached}\norphaned {orphaned}\nheld {held}\n");
+    format!("card: OK, {free} KB free\ncard {clusters}\n{of_table}")
 }
 
 #[test]

@@ -110,6 +110,26 @@ fn depths() {
     assert!(card.find(b"/").is_ok() && card.find(&path(8)).is_ok());
 }
 
+/// A file takes what is free, beside the cluster that the root grows by, and no byte more.
+#[test]
+fn room() {
+    says(
+        HEADER,
+        "A card of 8,192 clusters has a reserved tail, as on consoles: its allocatable clusters from index 8,000 on.",
+    );
+    says(HEADER, "No other card has a tail.");
+    for (clusters, free, held) in [(56, 29, 0), (8_184, 8_126, 0), (8_192, 7_999, 135), (8_200, 8_142, 0)] {
+        let mut card = Card::fresh(Format::Plain, clusters, &time()).expect("a fresh card");
+        let told = |card: &Card| card.check().map(|counts| (counts.free, counts.reached, counts.held));
+        assert_eq!(told(&card), Ok((free, 1, held)));
+        let bytes = vec![7; (free - 1) * 1_024 + 1];
+        assert_eq!(card.create(b"/A", &time(), &bytes), Err(Refusal::NoRoom));
+        assert_eq!(card.create(b"/A", &time(), &bytes[1..]), Ok(()));
+        assert_eq!(told(&card), Ok((0, free + 1, held)));
+        assert_eq!((card.delete(b"/A"), told(&card)), (Ok(()), Ok((free - 1, 2, held))));
+    }
+}
+
 #[test]
 fn times() {
     says(HEADER, "zero, second, minute, hour, day, month, year in two bytes, low one first");
@@ -125,7 +145,8 @@ fn times() {
 
 #[test]
 fn listing() {
-    let lines = ["card CLUSTERS", "free COUNT", "reached COUNT", "orphaned COUNT", "d ENTRIES PATH", "f BYTES PATH"];
+    let counts = ["card CLUSTERS", "free COUNT", "reached COUNT", "orphaned COUNT", "held COUNT"];
+    let lines: Vec<&str> = counts.into_iter().chain(["d ENTRIES PATH", "f BYTES PATH"]).collect();
     lines.iter().for_each(|line| says(HEADER, line));
     let mut card = fresh();
     card.make_dir(b"/d", &time()).expect("a directory");
@@ -138,7 +159,7 @@ fn listing() {
     for (told, words) in told.iter().zip(&words) {
         assert_eq!((told[0], told.len()), (words[0], words.len()));
     }
-    assert_eq!((&told[4][1..], &told[5][1..]), (&["3", "/d"][..], &["4", "/d/f"][..]));
+    assert_eq!((&told[5][1..], &told[6][1..]), (&["3", "/d"][..], &["4", "/d/f"][..]));
 }
 
 /// The proved program, as `rt check list` and `rt ci` build it.

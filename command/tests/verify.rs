@@ -148,7 +148,7 @@ fn several_images() {
     assert_eq!(given.out, expected(Raw, &good, b"good/").0);
 
     let given = folder.feed(&[b"check", b"-", b"bad", b"good"], &torn);
-    let counts = "card 56\nfree 24\nreached 6\norphaned 0\n";
+    let counts = "card 56\nfree 24\nreached 6\norphaned 0\nheld 0\n";
     let text = format!("standard input: OK, 24 KB free\n{counts}good: OK, 24 KB free\n{counts}");
     assert_eq!((given.status, String::from_utf8(given.out).expect("text")), (1, text));
     assert!(given.err.starts_with("refused 6: ") && given.err.ends_with(" (bad)\n"), "{}", given.err);

@@ -76,12 +76,12 @@ pub fn recorded(tree: &str) -> Vec<Recorded> {
     text.lines().filter(|line| !line.starts_with('#')).map(Recorded::parse).collect()
 }
 
-/// The counts of a card by what PCSX2 read from it: each line's length gives its clusters.
-/// PCSX2 left no orphans, so what isn't reached of `alloc_end` clusters is free.
-pub fn counts_by_tree(tree: &str, clusters: usize, alloc_end: usize) -> Counts {
+/// The counts of a card by what PCSX2 read from it: each line's length gives its clusters. PCSX2 left no orphans and
+/// took no cluster of the tail, so what isn't reached below it is free.
+pub fn counts_by_tree(tree: &str, layout: &Layout) -> Counts {
     let unit = |line: &Recorded| if line.is_directory() { 2 } else { 1024 };
     let reached = recorded(tree).iter().map(|line| (line.length as usize).div_ceil(unit(line))).sum();
-    Counts { clusters, free: alloc_end - reached, reached, orphaned: 0 }
+    layout.counts(reached)
 }
 
 /// How the names of one directory are chosen and ordered; a slow search for twins would show in one of them.
@@ -136,8 +136,7 @@ pub fn crowd(format: Format, layout: Layout, directories: &[usize], names: Names
         card.directory(&chain, 0);
         put_files(&mut card, &chain, &names.of(files));
     }
-    let (clusters, end) = (card.layout.clusters, card.layout.alloc_end);
-    let counts = Counts { clusters, free: end - next, reached: next, orphaned: 0 };
+    let counts = card.layout.counts(next);
     Crowd { image: card.finish(), counts, entries }
 }
 

@@ -34,6 +34,7 @@ struct Outputs {
     free: usize,
     reached: usize,
     orphaned: usize,
+    held: usize,
 }
 
 const UNTOUCHED: Outputs = Outputs {
@@ -42,15 +43,16 @@ const UNTOUCHED: Outputs = Outputs {
     free: usize::MAX - 3,
     reached: usize::MAX - 4,
     orphaned: usize::MAX - 5,
+    held: usize::MAX - 6,
 };
 
 impl Outputs {
     /// The answer for a returned number, if every output that must stay has stayed.
     fn answer(self, number: u32) -> Result<Result<Counts, Refusal>, Broken> {
-        let Outputs { page, clusters, free, reached, orphaned } = self;
+        let Outputs { page, clusters, free, reached, orphaned, held } = self;
         let counts_stay = Outputs { page: NO_PAGE, ..self } == UNTOUCHED;
         let accepted = verdict(number, &REFUSALS, page, counts_stay)?;
-        Ok(accepted.map(|()| Counts { clusters: clusters as usize, free, reached, orphaned }))
+        Ok(accepted.map(|()| Counts { clusters: clusters as usize, free, reached, orphaned, held }))
     }
 }
 
@@ -69,6 +71,7 @@ pub fn check(format: impl Into<Number>, image: &[u8]) -> Result<Counts, Refusal>
             &mut out.free,
             &mut out.reached,
             &mut out.orphaned,
+            &mut out.held,
         )
     };
     out.answer(number).unwrap_or_else(|broken| panic!("{broken}: {out:?}"))
@@ -78,11 +81,11 @@ pub fn check(format: impl Into<Number>, image: &[u8]) -> Result<Counts, Refusal>
 mod tests {
     use super::*;
 
-    const COUNTS: Outputs = Outputs { page: NO_PAGE, clusters: 56, free: 29, reached: 1, orphaned: 0 };
+    const COUNTS: Outputs = Outputs { page: NO_PAGE, clusters: 56, free: 29, reached: 1, orphaned: 3, held: 5 };
 
     #[test]
     fn answers() {
-        assert_eq!(COUNTS.answer(0), Ok(Ok(Counts { clusters: 56, free: 29, reached: 1, orphaned: 0 })));
+        assert_eq!(COUNTS.answer(0), Ok(Ok(Counts { clusters: 56, free: 29, reached: 1, orphaned: 3, held: 5 })));
         assert_eq!(Outputs { page: 9, ..UNTOUCHED }.answer(2), Ok(Err(Refusal::unreadable(9))));
         for number in [1, 3, 4, 5, 6, 7] {
             assert_eq!(UNTOUCHED.answer(number), Ok(Err(Refusal::number(number as u8))));
@@ -97,6 +100,7 @@ mod tests {
             Outputs { free: 0, ..UNTOUCHED },
             Outputs { reached: 0, ..UNTOUCHED },
             Outputs { orphaned: 0, ..UNTOUCHED },
+            Outputs { held: 0, ..UNTOUCHED },
         ];
         for number in REFUSALS {
             assert!(touched.iter().all(|out| out.answer(number).is_err()), "{number}");

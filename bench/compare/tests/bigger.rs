@@ -9,15 +9,15 @@ use reader::build::{directory, file, fresh, Assembly, Layout};
 use reader::card::{is_allowed, END_MARK, MOST_CLUSTERS, USED};
 use reader::page::{self, put_word};
 use reader::rng::Rng;
-use reader::{Counts, Format, Refusal};
+use reader::{Format, Refusal};
 
 fn refused(number: u8) -> Answer {
     Err(Refusal::number(number))
 }
 
-/// The counts of a card where nothing is orphaned.
+/// The counts of a card where nothing is orphaned and no chain is in the tail.
 fn counts(layout: &Layout, reached: usize) -> Answer {
-    Ok(Counts { clusters: layout.clusters, free: layout.alloc_end - reached, reached, orphaned: 0 })
+    Ok(layout.counts(reached))
 }
 
 /// The answer with one word of a page set; the page is put back.

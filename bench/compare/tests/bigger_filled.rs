@@ -2,90 +2,39 @@
 
 mod common;
 
-use common::changes::{same_image, Changes};
+use common::both::{bytes, Both};
 use common::lookups::Lookups;
-use compare::listing;
-use reader::build::{fresh, usual_time, Layout};
+use reader::build::{fresh, Layout};
 use reader::card::MOST_CLUSTERS;
 use reader::rng::Rng;
-use reader::{Change, Counts, Format};
+use reader::{Counts, Format};
 
 /// The allocatable clusters of a fresh card.
 const ALL: usize = 65_256;
 
-/// A card on each side; after every change the two are compared.
-struct Both {
-    ours: Vec<u8>,
-    readers: Vec<u8>,
-    changes: Changes,
+/// The fresh card on each side.
+fn fresh_card(format: Format) -> Both {
+    assert_eq!(Layout::fresh(MOST_CLUSTERS).alloc_end, ALL);
+    Both::new(format, fresh(format, MOST_CLUSTERS))
 }
 
-impl Both {
-    fn new(format: Format) -> Both {
-        assert_eq!(Layout::fresh(MOST_CLUSTERS).alloc_end, ALL);
-        let image = fresh(format, MOST_CLUSTERS);
-        Both { readers: image.clone(), ours: image, changes: Changes::new(format) }
-    }
-
-    /// The number of the refusal, 0 for acceptance.
-    fn apply(&mut self, change: &Change) -> u8 {
-        let what = || "greatest card".to_string();
-        let answer = self.changes.apply_to_each(&mut self.ours, &mut self.readers, change, what);
-        same_image(self.changes.format, &self.ours, &self.readers, || {
-            format!("after {}", change.path().escape_ascii())
-        });
-        answer.map_or_else(|refusal| refusal.number, |()| 0)
-    }
-
-    fn create(&mut self, path: &str, data: &[u8]) -> u8 {
-        self.apply(&Change::Create { path: path.into(), time: usual_time(), data: data.to_vec() })
-    }
-
-    fn replace(&mut self, path: &str, data: &[u8]) -> u8 {
-        self.apply(&Change::Replace { path: path.into(), time: usual_time(), data: data.to_vec() })
-    }
-
-    fn make_dir(&mut self, path: &str) -> u8 {
-        self.apply(&Change::MakeDir { path: path.into(), time: usual_time() })
-    }
-
-    fn delete(&mut self, path: &str) -> u8 {
-        self.apply(&Change::Delete { path: path.into() })
-    }
-
-    fn remove_dir(&mut self, path: &str) -> u8 {
-        self.apply(&Change::RemoveDir { path: path.into() })
-    }
-
-    /// Both checks; nothing is ever orphaned here.
-    fn free(&self) -> usize {
-        let counts = common::same(self.changes.format, &self.ours, "greatest card").expect("an accepted card");
-        let reached = ALL - counts.free;
-        assert_eq!(counts, Counts { clusters: MOST_CLUSTERS, free: counts.free, reached, orphaned: 0 });
-        counts.free
-    }
-
-    fn listed(&self) -> String {
-        let text = listing::whole(self.changes.format, &self.ours);
-        assert!(text == reader::list(self.changes.format, &self.ours), "the listings differ");
-        text
-    }
-}
-
-/// Bytes that differ from page to page.
-fn bytes(count: usize) -> Vec<u8> {
-    (0..count).map(|at| (at / 512 + at) as u8).collect()
+/// Both checks; nothing is ever orphaned here, and nothing held back.
+fn free(both: &Both) -> usize {
+    let counts = both.counts();
+    let reached = ALL - counts.free;
+    assert_eq!(counts, Counts { clusters: MOST_CLUSTERS, free: counts.free, reached, orphaned: 0, held: 0 });
+    counts.free
 }
 
 /// One cluster for the root's growth, all others for the file; a byte more is 12.
 fn one_file(format: Format) {
-    let mut both = Both::new(format);
+    let mut both = fresh_card(format);
     let most = (ALL - 2) * 1024;
     let data = bytes(most + 1);
     assert_eq!(both.create("/A", &data), 12);
     assert_eq!(both.create("/A", &data[..most]), 0);
-    assert_eq!(both.free(), 0);
-    assert_eq!(both.listed(), format!("card 65536\nfree 0\nreached {ALL}\norphaned 0\nf {most} /A\n"));
+    assert_eq!(free(&both), 0);
+    assert_eq!(both.listed(), format!("card 65536\nfree 0\nreached {ALL}\norphaned 0\nheld 0\nf {most} /A\n"));
 
     let mut lookups = Lookups::new(format);
     let mut piece = |offset: usize, size: usize, ours: &[u8]| {
@@ -105,10 +54,10 @@ fn one_file(format: Format) {
     assert_eq!(both.create("/C", b""), 12);
     assert_eq!(both.replace("/A", b"x"), 12);
     assert_eq!(both.replace("/A", b""), 0);
-    assert_eq!(both.free(), ALL - 2);
+    assert_eq!(free(&both), ALL - 2);
     assert_eq!(both.replace("/B", &data), 12);
     assert_eq!(both.replace("/B", &data[1..]), 0);
-    assert_eq!((both.free(), both.delete("/B"), both.free()), (0, 0, ALL - 2));
+    assert_eq!((free(&both), both.delete("/B"), free(&both)), (0, 0, ALL - 2));
     both.changes.met([0, 12], 3);
 }
 
@@ -126,15 +75,15 @@ fn one_file_plain() {
 /// a file takes what they had in pieces, and everything is removed.
 fn many_files(format: Format) {
     let mut rng = Rng::new(65_536);
-    let mut both = Both::new(format);
+    let mut both = fresh_card(format);
     let directories = ["/D0", "/D1", "/D2"];
     directories.iter().for_each(|path| assert_eq!(both.make_dir(path), 0));
     let mut made = Vec::new();
-    while both.free() > 0 {
+    while free(&both) > 0 {
         let number = made.len();
         // Every second file of a directory makes it grow.
         let growth = 1 - number / 3 % 2;
-        let data = bytes(rng.between(5_000_000, 9_000_000).min((both.free() - growth) * 1024));
+        let data = bytes(rng.between(5_000_000, 9_000_000).min((free(&both) - growth) * 1024));
         made.push(format!("{}/file{number}", directories[number % 3]));
         assert_eq!(both.create(&made[number], &data), 0);
     }
@@ -144,17 +93,17 @@ fn many_files(format: Format) {
 
     let (gone, rest): (Vec<String>, Vec<String>) = made.into_iter().partition(|path| path.starts_with("/D0"));
     gone.iter().for_each(|path| assert_eq!(both.delete(path), 0));
-    let free = both.free();
-    assert_eq!(both.create("/D0/pieces", &bytes(free * 1024 + 1)), 12);
-    assert_eq!(both.create("/D0/pieces", &bytes(free * 1024)), 0);
-    assert_eq!(both.free(), 0);
-    assert_eq!(both.listed().lines().count(), 4 + 3 + rest.len() + 1);
+    let left = free(&both);
+    assert_eq!(both.create("/D0/pieces", &bytes(left * 1024 + 1)), 12);
+    assert_eq!(both.create("/D0/pieces", &bytes(left * 1024)), 0);
+    assert_eq!(free(&both), 0);
+    assert_eq!(both.listed().lines().count(), 5 + 3 + rest.len() + 1);
 
     assert_eq!((both.delete("/D0/pieces"), both.remove_dir("/D1")), (0, 13));
     rest.iter().for_each(|path| assert_eq!(both.delete(path), 0));
     directories.iter().for_each(|path| assert_eq!(both.remove_dir(path), 0));
     // The root keeps its five slots.
-    assert_eq!((both.free(), both.listed().lines().count()), (ALL - 3, 4));
+    assert_eq!((free(&both), both.listed().lines().count()), (ALL - 3, 5));
 }
 
 #[test]

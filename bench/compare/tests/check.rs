@@ -15,7 +15,7 @@ use reader::{Counts, Format, Refusal};
 #[test]
 fn bench_card() {
     for format in Format::BOTH {
-        let fresh = Counts { clusters: 56, free: 29, reached: 1, orphaned: 0 };
+        let fresh = Counts { clusters: 56, free: 29, reached: 1, orphaned: 0, held: 0 };
         assert_eq!(same(format, &bench(format), "bench card"), Ok(fresh));
     }
 }
@@ -23,7 +23,7 @@ fn bench_card() {
 #[test]
 fn pcsx2_sample() {
     for format in Format::BOTH {
-        let counts = counts_by_tree("bench-sample.tree", 56, 30);
+        let counts = counts_by_tree("bench-sample.tree", &Layout::bench());
         assert_eq!(same(format, &bench_sample(format), "PCSX2's sample"), Ok(counts));
     }
 }
@@ -119,7 +119,7 @@ fn lengths_of_both_formats() {
         let card = |format, clusters| Assembly::with_root(format, Layout { clusters, ..Layout::bench() }).finish();
         let images = [card(Format::Raw, raw), card(Format::Plain, plain)];
         assert_eq!(images[0].len(), images[1].len());
-        let counts = |clusters| Counts { clusters, free: 29, reached: 1, orphaned: 0 };
+        let counts = |clusters| Counts { clusters, free: 29, reached: 1, orphaned: 0, held: 0 };
         assert_eq!(same(Format::Raw, &images[0], "raw as raw"), Ok(counts(raw)));
         assert_eq!(same(Format::Plain, &images[1], "plain as plain"), Ok(counts(plain)));
         assert_eq!(same(Format::Plain, &images[0], "raw as plain"), Err(Refusal::number(4)));

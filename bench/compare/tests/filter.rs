@@ -12,7 +12,7 @@ use compare::cards::{files_in_root, Names};
 use compare::clock::{times, Check};
 use reader::build::Layout;
 use reader::rng::Rng;
-use reader::{Counts, Format, Refusal};
+use reader::{Format, Refusal};
 
 const FILES: usize = 200;
 
@@ -89,7 +89,7 @@ fn card(format: Format, names: &[Vec<u8>]) -> Vec<u8> {
 /// The names by themselves, then with twins at both ends and at random places.
 fn twins(format: Format, names: &[Vec<u8>], rounds: usize, what: &str) {
     let reached = (2 + names.len()).div_ceil(2);
-    let counts = Counts { clusters: 8192, free: 8135 - reached, reached, orphaned: 0 };
+    let counts = Layout::standard().counts(reached);
     assert_eq!(same(format, &card(format, names), what), Ok(counts), "{what}");
 
     let mut rng = Rng::new(names.len() as u64);

@@ -4,16 +4,16 @@ mod common;
 
 use common::{flip_each_chunk, many_flips, needed_pages, same, with_page, Tally};
 use compare::cards::{counts_by_tree, full};
-use reader::build::{crowded, scribble};
+use reader::build::{crowded, scribble, Layout};
 use reader::page;
 use reader::rng::Rng;
-use reader::{Counts, Format, Refusal};
+use reader::{Format, Refusal};
 
 /// The counts aren't the reader's: they follow from what PCSX2 read.
 #[test]
 fn full_card() {
     for format in Format::BOTH {
-        let counts = counts_by_tree("full-small.tree", 8192, 8135);
+        let counts = counts_by_tree("full-small.tree", &Layout::standard());
         assert_eq!(same(format, &full(format), "full card"), Ok(counts));
     }
 }
@@ -22,7 +22,7 @@ fn full_card() {
 /// often from its code alone.
 fn single_pages(format: Format, seeds: std::ops::Range<u64>) -> Tally {
     let mut image = full(format);
-    let counts = counts_by_tree("full-small.tree", 8192, 8135);
+    let counts = counts_by_tree("full-small.tree", &Layout::standard());
     let needed = needed_pages(format, &image, 8);
     let mut tally = Tally::default();
     for seed in seeds {
@@ -78,7 +78,7 @@ fn crowded_card() {
     // 21 clusters of the root, 26 of each directory, and each file's own.
     let files: usize = (0..40 * 50).map(|n| (1 + (n / 50 * 977 + n % 50 * 211) % 2500_usize).div_ceil(1024)).sum();
     let reached = 21 + 40 * 26 + files;
-    let counts = Counts { clusters: 8192, free: 8135 - reached, reached, orphaned: 0 };
+    let counts = Layout::standard().counts(reached);
     for format in Format::BOTH {
         assert_eq!(same(format, &crowded(format), "crowded card"), Ok(counts));
     }

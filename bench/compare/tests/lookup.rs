@@ -240,7 +240,7 @@ fn every_path() {
 fn longest_file() {
     for format in Format::BOTH {
         let mut rng = Rng::new(8192);
-        let data = rng.bytes(8133 * 1024 - 7);
+        let data = rng.bytes(7998 * 1024 - 7);
         let mut image = standard(format);
         reader::create(format, &mut image, b"/LONG", &usual_time(), &data).expect("there is room");
         let mut lookups = Lookups::new(format);

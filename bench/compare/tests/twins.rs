@@ -8,7 +8,7 @@ use common::requests::{random_offset, random_path, random_size, random_slot};
 use common::Tally;
 use compare::cards::{full, full_great};
 use compare::{change, check, find, listing, read, step};
-use reader::build::random::random;
+use reader::build::random::{random, tight};
 use reader::build::requests::random_change;
 use reader::build::scribble::junk_spare;
 use reader::build::usual_time;
@@ -131,6 +131,18 @@ fn random_cards() {
     run.steps.met([0, 8, 9, 10], 150);
     run.reads.met([0, 8, 9, 10, 15], 150);
     run.changes.met([0, 8, 9, 10, 11, 12, 13, 14], 20);
+}
+
+/// Cards with a reserved tail and hardly a free cluster below it.
+#[test]
+fn tight_cards() {
+    let mut run = Run::default();
+    for seed in 0..10 {
+        let mut rng = Rng::new(seed ^ 0x7217);
+        let mut twins = Twins::of(tight(Format::Plain, seed).image, &mut rng);
+        run.sequence(&mut twins, 6, &mut rng, || format!("tight card {seed}"));
+    }
+    run.changes.met([0, 12], 5);
 }
 
 #[test]

@@ -11,6 +11,8 @@ pub mod random;
 pub mod requests;
 pub mod samples;
 pub mod scribble;
+mod sketch;
+pub mod tail;
 pub mod vandal;
 mod wear;
 
@@ -18,6 +20,7 @@ use crate::card::{END_MARK, FORMAT, USED};
 use crate::entry::{name_field, Entry};
 use crate::page::{self, put_half, put_word, Data, Format, CLUSTER_DATA, DATA};
 use crate::time::{stamp, Time};
+use crate::tree::Counts;
 
 /// The time on cards built here: 12:34:56 on 29 February 2000.
 pub fn usual_time() -> Time {
@@ -75,6 +78,28 @@ impl Layout {
             backups: [blocks as u32 - 1, blocks as u32 - 2],
             version: "1.2.0.0",
         }
+    }
+
+    /// The same card with fewer allocatable clusters; nobody has those behind them.
+    pub fn ending(mut self, alloc_end: usize) -> Layout {
+        assert!((1..=self.alloc_end).contains(&alloc_end), "fewer clusters, at least 1");
+        self.table.truncate(alloc_end.div_ceil(256));
+        Layout { alloc_end, ..self }
+    }
+
+    /// The table index from which no new cluster is taken: only a card of 8,192 clusters has a tail.
+    pub fn limit(&self) -> usize {
+        if self.clusters == 8192 {
+            self.alloc_end.min(8000)
+        } else {
+            self.alloc_end
+        }
+    }
+
+    /// The counts where so many clusters are reached, all of them below the limit, and none is orphaned.
+    pub fn counts(&self, reached: usize) -> Counts {
+        let limit = self.limit();
+        Counts { clusters: self.clusters, free: limit - reached, reached, orphaned: 0, held: self.alloc_end - limit }
     }
 }
 

@@ -11,6 +11,9 @@ pub const BLOCK: u64 = 8;
 /// Clusters of the smallest card and of the greatest.
 pub const LEAST_CLUSTERS: usize = 32;
 pub const MOST_CLUSTERS: usize = 65_536;
+/// A card of so many clusters keeps its last allocatable ones back, from this table index up.
+pub const TAIL_CLUSTERS: usize = 8192;
+pub const TAIL: usize = 8000;
 /// Table words in a cluster.
 pub const WORDS: usize = 256;
 /// The table word that ends a chain.
@@ -144,8 +147,17 @@ impl Card {
         link(self.table[cluster])
     }
 
-    /// The clusters whose table words are free, ascending.
+    /// No new cluster is taken from this table index up: 8,000 where N is 8,192 and alloc_end above 8,000, else
+    /// alloc_end.
+    pub fn limit(&self) -> usize {
+        match self.clusters == TAIL_CLUSTERS && self.alloc_end > TAIL {
+            true => TAIL,
+            false => self.alloc_end,
+        }
+    }
+
+    /// The clusters below the limit whose table words are free, ascending: those that may be taken.
     pub fn free(&self) -> impl Iterator<Item = usize> + '_ {
-        (0..self.alloc_end).filter(|&cluster| self.link(cluster) == Link::Free)
+        (0..self.limit()).filter(|&cluster| self.link(cluster) == Link::Free)
     }
 }

@@ -14,11 +14,7 @@ pub fn list(format: Format, image: &[u8]) -> String {
         Ok(checked) => checked,
         Err(refusal) => return format!("{refusal}\n"),
     };
-    let counts = checked.counts();
-    let mut text = format!(
-        "card {}\nfree {}\nreached {}\norphaned {}\n",
-        counts.clusters, counts.free, counts.reached, counts.orphaned
-    );
+    let mut text = checked.counts().to_string();
     visit(&checked.root, b"/", &mut |path, node| {
         if path != b"/" {
             let kind = if node.inside.is_some() { 'd' } else { 'f' };

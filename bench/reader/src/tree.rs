@@ -1,6 +1,7 @@
 //! The check: chains, directories and entries, depth first, the first fault deciding.
 
 use std::collections::{HashMap, HashSet};
+use std::fmt;
 
 use crate::card::{needed, Card, Link};
 use crate::entry::{Entry, DIRECTORY, FILE, NO_CLUSTER};
@@ -14,13 +15,22 @@ pub const DEEPEST: usize = 7;
 const BAD_CHAIN: Refusal = Refusal::number(6);
 const BAD_ENTRY: Refusal = Refusal::number(7);
 
-/// Free, reached and orphaned are each counted over the table by their own definition.
+/// Free, reached, orphaned and held back are each counted over the table by their own definition.
 #[derive(Clone, Copy, Debug, PartialEq, Eq)]
 pub struct Counts {
     pub clusters: usize,
     pub free: usize,
     pub reached: usize,
     pub orphaned: usize,
+    pub held: usize,
+}
+
+impl fmt::Display for Counts {
+    /// The first lines of a listing.
+    fn fmt(&self, out: &mut fmt::Formatter<'_>) -> fmt::Result {
+        let Counts { clusters, free, reached, orphaned, held } = self;
+        write!(out, "card {clusters}\nfree {free}\nreached {reached}\norphaned {orphaned}\nheld {held}\n")
+    }
 }
 
 /// A live entry from slot 2 on, or the root by its first entry.
@@ -71,13 +81,15 @@ impl Checked {
     }
 
     pub fn counts(&self) -> Counts {
-        let all = 0..self.card.alloc_end;
-        let is_free = |cluster: usize| self.card.link(cluster) == Link::Free;
+        let (limit, end) = (self.card.limit(), self.card.alloc_end);
+        let is_free = |cluster: &usize| self.card.link(*cluster) == Link::Free;
+        let is_reached = |cluster: &usize| self.reached.contains(cluster);
         Counts {
             clusters: self.card.clusters,
-            free: all.clone().filter(|&cluster| is_free(cluster)).count(),
-            reached: all.clone().filter(|cluster| self.reached.contains(cluster)).count(),
-            orphaned: all.filter(|&cluster| !is_free(cluster) && !self.reached.contains(&cluster)).count(),
+            free: (0..limit).filter(is_free).count(),
+            reached: (0..end).filter(is_reached).count(),
+            orphaned: (0..end).filter(|cluster| !is_free(cluster) && !is_reached(cluster)).count(),
+            held: (limit..end).filter(is_free).count(),
         }
     }
 }

@@ -11,14 +11,14 @@ use reader::{check, find, list, read, step, tree, Format, Piece, Refusal};
 
 /// The pages of files that must be unreadable, on cards as varied as they are meant to be.
 fn counts_and_tree(format: Format) -> usize {
-    let (mut orphans, mut damaged, mut tables, mut longest) = (0, 0, 0, 0);
+    let (mut orphans, mut damaged, mut tables, mut longest, mut tails) = (0, 0, 0, 0, 0);
     let mut deepest = [0; MOST_NAMES + 1];
     for seed in 0..400 {
         let card = random(format, seed);
         assert_eq!(check(format, &card.image), Ok(card.counts), "seed {seed}");
         assert!(tree(format, &card.image).unwrap() == card.tree, "seed {seed}");
         let counts = card.counts;
-        assert_eq!(counts.free + counts.reached + counts.orphaned, card.layout.alloc_end);
+        assert_eq!(counts.free + counts.reached + counts.orphaned + counts.held, card.layout.alloc_end);
         deepest[card.tree.keys().map(|path| depth(path)).max().unwrap()] += 1;
         longest = longest.max(card.tree.keys().map(Vec::len).max().unwrap());
         orphans += counts.orphaned;
@@ -29,10 +29,12 @@ fn counts_and_tree(format: Format) -> usize {
             .filter(|piece| matches!(piece, Piece::Unreadable { .. }))
             .count();
         tables = tables.max(card.layout.table.len());
+        tails += usize::from(counts.held > 0);
     }
     println!("{format:?}, cards by the most names of a path: {deepest:?}");
     assert!(deepest.iter().all(|&cards| cards >= 5), "{deepest:?}");
     assert!(orphans > 1000 && tables > 10 && longest == MOST_BYTES, "{orphans} {tables} {longest}");
+    assert!(tails >= 3, "{tails} cards with clusters held back");
     damaged
 }
 
@@ -121,7 +123,7 @@ fn lookups_agree_with_the_tree() {
         let mut rng = Rng::new(seed);
         let lines = lines(format, &card.image).unwrap();
         let text = list(format, &card.image);
-        assert_eq!(text.lines().count(), 4 + lines.len() - 1);
+        assert_eq!(text.lines().count(), 5 + lines.len() - 1);
         for _ in 0..12 {
             let line = rng.pick(&lines);
             assert_eq!(find(format, &card.image, &line.path), Ok(line.entry.clone()));

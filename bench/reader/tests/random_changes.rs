@@ -2,9 +2,9 @@
 
 use std::collections::{BTreeSet, HashMap};
 
-use reader::build::random::random;
+use reader::build::random::{random, tight, RandomCard};
 use reader::build::requests::random_change;
-use reader::content::{lines, Item, Piece, Tree};
+use reader::content::{Item, Piece, Tree};
 use reader::ecc::code_of;
 use reader::page::{self, DATA};
 use reader::rng::Rng;
@@ -23,7 +23,24 @@ fn room(format: Format, image: &[u8], directory: &[u8]) -> (bool, bool) {
     (live + 2 < length, length.is_multiple_of(2))
 }
 
-/// The number a change must be refused with, from the tree, the free count and the room.
+/// The table index from which nothing new is put.
+fn limit(checked: &Checked) -> usize {
+    let end = checked.card.alloc_end;
+    if checked.card.clusters == 8192 {
+        end.min(8000)
+    } else {
+        end
+    }
+}
+
+/// Free words below the limit, and from it up.
+fn free_words(format: Format, image: &[u8]) -> [usize; 2] {
+    let checked = Checked::of(format, image).unwrap();
+    let (below, above) = checked.card.table.split_at(limit(&checked));
+    [below, above].map(|words| words.iter().filter(|&word| word >> 31 == 0).count())
+}
+
+/// The number a change must be refused with, from the tree, the free words and the room.
 fn predicted(format: Format, image: &[u8], tree: &Tree, change: &Change) -> Option<u8> {
     let Some(names) = paths::parse(change.path()).filter(|names| !names.is_empty()) else { return Some(8) };
     if matches!(change, Change::MakeDir { .. }) && names.len() == paths::MOST_NAMES {
@@ -46,7 +63,7 @@ fn predicted(format: Format, image: &[u8], tree: &Tree, change: &Change) -> Opti
         }
     }
     let there = tree.get(change.path());
-    let free = check(format, image).unwrap().free;
+    let free = free_words(format, image)[0];
     let clusters = |data: &Vec<u8>| data.len().div_ceil(1024);
     if change.is_creation() {
         if there.is_some() {
@@ -137,6 +154,7 @@ fn table_is_right(format: Format, before: &[u8], after: &[u8]) {
         match (one >> 31, other >> 31) {
             (0, 0) => assert_eq!(one, other),
             (1, 0) => assert_eq!(other, one & 0x7FFF_FFFF),
+            (0, 1) => assert!(cluster < limit(&old)),
             (1, 1) if one != other => {
                 assert_eq!(one, 0xFFFF_FFFF);
                 assert_eq!(old.card.table[(other & 0x7FFF_FFFF) as usize] >> 31, 0);
@@ -166,14 +184,14 @@ fn entry_is_kept(format: Format, before: &[u8], after: &[u8], change: &Change) {
 fn counts_are_right(format: Format, before: &[u8], after: &[u8]) {
     let (old, new) = (check(format, before).unwrap(), check(format, after).unwrap());
     assert_eq!(old.orphaned, new.orphaned);
-    assert_eq!(old.free + old.reached, new.free + new.reached);
+    assert_eq!(old.free + old.reached + old.held, new.free + new.reached + new.held);
+    assert_eq!([new.free, new.held], free_words(format, after));
 }
 
-/// A sequence on each seeded card; acceptance and each refusal are met.
-fn changes_do_what_the_model_says(format: Format, seeds: std::ops::Range<u64>) {
+/// A sequence on each seeded card; acceptance and each refusal are met so often.
+fn changes_do_what_the_model_says(cards: impl Iterator<Item = RandomCard>, times: usize) {
     let mut seen: HashMap<u8, usize> = HashMap::new();
-    for seed in seeds {
-        let mut image = random(format, seed).image;
+    for (seed, RandomCard { format, mut image, .. }) in (0..).zip(cards) {
         let mut rng = Rng::new(seed + 1_000_000);
         let steps = if image.len() > 400_000 { 6 } else { 30 };
         for step in 0..steps {
@@ -203,81 +221,22 @@ fn changes_do_what_the_model_says(format: Format, seeds: std::ops::Range<u64>) {
         }
     }
     for number in [0, 8, 9, 10, 11, 12, 13, 14] {
-        assert!(seen.get(&number).is_some_and(|&count| count >= 10), "number {number}: {seen:?}");
+        assert!(seen.get(&number).is_some_and(|&count| count >= times), "number {number}: {seen:?}");
     }
 }
 
 #[test]
 fn raw_cards() {
-    changes_do_what_the_model_says(Format::Raw, 0..260);
+    changes_do_what_the_model_says((0..260).map(|seed| random(Format::Raw, seed)), 10);
 }
 
 #[test]
 fn plain_cards() {
-    changes_do_what_the_model_says(Format::Plain, 0..260);
+    changes_do_what_the_model_says((0..260).map(|seed| random(Format::Plain, seed)), 10);
 }
 
-/// New clusters are the lowest free ones, ascending, growth first.
+/// Cards with a tail, where the limit decides.
 #[test]
-fn lowest_free_clusters() {
-    for seed in 0..300 {
-        let format = Format::BOTH[seed as usize % 2];
-        let image = random(format, seed).image;
-        let mut rng = Rng::new(seed + 2_000_000);
-        let change = random_change(&mut rng, &tree(format, &image).unwrap());
-        let mut after = image.clone();
-        if change.apply(format, &mut after).is_err() {
-            continue;
-        }
-        let (old, new) = (Checked::of(format, &image).unwrap(), Checked::of(format, &after).unwrap());
-        let free: Vec<usize> = old.card.free().collect();
-        let taken: Vec<usize> = free.iter().copied().filter(|&cluster| new.card.table[cluster] >> 31 == 1).collect();
-        assert_eq!(taken, free[..taken.len()]);
-        if change.is_removal() {
-            assert!(taken.is_empty());
-            continue;
-        }
-        let names = paths::parse(change.path()).unwrap();
-        let node = reader::lookup::locate(&new.root, &names).unwrap();
-        assert_eq!(node.chain, taken[taken.len() - node.chain.len()..]);
-    }
-}
-
-/// Fill a card to the last cluster, empty it, and find every cluster again.
-#[test]
-fn fill_and_empty() {
-    for seed in 0..80 {
-        let format = Format::BOTH[seed as usize % 2];
-        let mut image = random(format, seed).image;
-        if image.len() > 300_000 {
-            continue;
-        }
-        let mut rng = Rng::new(seed);
-        let mut made = Vec::new();
-        loop {
-            let path = paths::join(b"/", format!("fill{}", made.len()).as_bytes());
-            let data = rng.bytes(1024 * (1 + made.len() % 3));
-            match reader::create(format, &mut image, &path, &reader::build::usual_time(), &data) {
-                Ok(()) => made.push((path, data)),
-                Err(refusal) => {
-                    assert_eq!(refusal.number, 12);
-                    break;
-                }
-            }
-        }
-        let items = tree(format, &image).unwrap();
-        for (path, data) in &made {
-            assert_eq!(items[path].bytes().as_ref(), Some(data));
-        }
-        let lines = lines(format, &image).unwrap();
-        for line in lines.iter().rev().filter(|line| line.path != b"/") {
-            match line.item.is_directory {
-                true => reader::remove_dir(format, &mut image, &line.path).unwrap(),
-                false => reader::delete(format, &mut image, &line.path).unwrap(),
-            }
-        }
-        let counts = check(format, &image).unwrap();
-        assert_eq!(counts.reached, find(format, &image, b"/").unwrap().length.div_ceil(2) as usize);
-        assert_eq!(tree(format, &image).unwrap().len(), 1);
-    }
+fn tight_cards() {
+    changes_do_what_the_model_says((0..100).map(|seed| tight(Format::BOTH[seed as usize % 2], seed)), 10);
 }

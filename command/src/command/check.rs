@@ -22,15 +22,16 @@ pub const CHECK: Command = Command {
 
 fn check(format: Format, name: &Path) -> Result<(), Failure> {
     let counts = Image::load(format, name)?.check()?;
-    // A cluster has 1,024 bytes, so that the free ones are the free room in KB.
+    // A cluster has 1,024 bytes, so that the free ones, which a change can take, are the free room in KB.
     let text = format!(
-        "{}: OK, {} KB free\ncard {}\nfree {}\nreached {}\norphaned {}\n",
+        "{}: OK, {} KB free\ncard {}\nfree {}\nreached {}\norphaned {}\nheld {}\n",
         shown(name),
         counts.free,
         counts.clusters,
         counts.free,
         counts.reached,
-        counts.orphaned
+        counts.orphaned,
+        counts.held
     );
     print(text.as_bytes())
 }

@@ -22,6 +22,7 @@ extern "C" {
         free: *mut usize,
         reached: *mut usize,
         orphaned: *mut usize,
+        held: *mut usize,
     ) -> u32;
 
     /// The entry at a path.

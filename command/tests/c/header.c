@@ -37,12 +37,13 @@ static void print_entry(const ps2card_entry *e) {
     printf("\n");
 }
 
-static void check(void) {
-    ps2card_counts c = {UNTOUCHED, UNTOUCHED, UNTOUCHED, UNTOUCHED};
+static void check(size_t length) {
+    ps2card_counts c = {UNTOUCHED, UNTOUCHED, UNTOUCHED, UNTOUCHED, UNTOUCHED};
     size_t page = UNTOUCHED;
-    uint32_t number = ps2card_check_counts(format, image, image_length, &page, &c);
-    printf("check %lu %lu %lu %lu %lu %lu\n", (unsigned long)number, (unsigned long)page, (unsigned long)c.clusters,
-           (unsigned long)c.free, (unsigned long)c.reached, (unsigned long)c.orphaned);
+    uint32_t number = ps2card_check_counts(format, image, length, &page, &c);
+    printf("check %lu %lu %lu %lu %lu %lu %lu\n", (unsigned long)number, (unsigned long)page,
+           (unsigned long)c.clusters, (unsigned long)c.free, (unsigned long)c.reached, (unsigned long)c.orphaned,
+           (unsigned long)c.held);
 }
 
 static void find(const char *path) {
@@ -169,7 +170,8 @@ int main(int count, char **words) {
     }
     image_length = fread(image, 1, sizeof image, file);
     fclose(file);
-    check();
+    check(image_length);
+    check(image_length - 1);
     make_dir("/D", time_of_change);
     make_dir("/D", time_of_change);
     make_dir("/E", no_time);
@@ -194,7 +196,7 @@ int main(int count, char **words) {
     remove_dir("/D");
     make_dir("/E", time_of_change);
     remove_dir("/E");
-    check();
+    check(image_length);
     list();
     needed = conversions();
     return leave(words[2], image, image_length) && leave(words[3], converted, needed) ? 0 : 2;

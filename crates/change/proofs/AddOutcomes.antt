@@ -59,7 +59,7 @@ module _ (format : Format) (image : List ℕ) (s : Superblock) (root : Root) (m 
   pub end-few : s .end ≤ mostClusters
   end-few = let g = open-facts format image s opened in omega (arith, g .room, g .most)
 
-  free-few : length (freeList (tableOf image s)) ≤ mostClusters
+  free-few : length (freeList s (tableOf image s)) ≤ mostClusters
   free-few = free.free-few format image (tableOf image s) s opened (length-table image s)
 
   module _ (p : Path) (here : EntryAt) (site : Site (see s image) (tableOf image s) root p here) where
@@ -127,12 +127,12 @@ module _ (format : Format) (image : List ℕ) (s : Superblock) (root : Root) (m 
   module _ (c : Change) (fine : static c ≡ 0) (creating : creates c ≡ true) (lacking : (g : Found) → own c g ≡ mustLack g) (here : EntryAt)
       (site : Site (see s image) (tableOf image s) root (path c) here) (new : NewEntry) (dead-is : new .dead ≡ deadOf (see s image) (tableOf image s) here) (time bytes : List ℕ)
       (many : size c ≡ clustersFor (length bytes)) (few-bytes : clustersFor (length bytes) ≤ mostClusters → new .count < wordLimit)
-      (does : lookIn (site .slots) (lastName (path c) ∷ []) ≡ absent → needOf here (new .dead) bytes ≤ length (freeList (tableOf image s)) → Adds format image s here c new time (lastName (path c)) bytes) where
+      (does : lookIn (site .slots) (lastName (path c) ∷ []) ≡ absent → needOf here (new .dead) bytes ≤ length (freeList s (tableOf image s)) → Adds format image s here c new time (lastName (path c)) bytes) where
     at-dead : DeadAt (entryPages (Slot.directory (entryOf (here .page)) (site .chain))) (site .slots) (new .dead)
     at-dead = rw dead-is (dead-so (path c) here site)
 
-    room-for : enough (tableOf image s) (needOf here (new .dead) bytes) ≡ true → needOf here (new .dead) bytes ≤ length (freeList (tableOf image s))
-    room-for e = leb-true (needOf here (new .dead) bytes) (length (freeList (tableOf image s))) e
+    room-for : enough s (tableOf image s) (needOf here (new .dead) bytes) ≡ true → needOf here (new .dead) bytes ≤ length (freeList s (tableOf image s))
+    room-for e = leb-true (needOf here (new .dead) bytes) (length (freeList s (tableOf image s))) e
 
     pub can-add : placeOf (see s image) (tableOf image s) here (lastName (path c)) ≡ place.Nowhere → CanAdd s image (tableOf image s) here new time (lastName (path c)) bytes
     can-add lacks =
@@ -146,16 +146,16 @@ module _ (format : Format) (image : List ℕ) (s : Superblock) (root : Root) (m 
           lands = λ e. (does (absent-so (path c) here site lacks) (room-for e)) .lands;
         }
 
-    judged : placeOf (see s image) (tableOf image s) here (lastName (path c)) ≡ place.Nowhere → (b : Bool) → enough (tableOf image s) (needOf here (new .dead) bytes) ≡ b
+    judged : placeOf (see s image) (tableOf image s) here (lastName (path c)) ≡ place.Nowhere → (b : Bool) → enough s (tableOf image s) (needOf here (new .dead) bytes) ≡ b
         → pickOutcome b (doneWith (addedImage s image (tableOf image s) here new time (lastName (path c)) bytes)) (refusedBy 12 image) ≡ changed format c image
     judged l true e = sym ((does (absent-so (path c) here site l) (room-for e)) .done)
     judged l false e =
         sym (added-full format image s root m checked c fine here site creating (new .dead) at-dead (lacking _ ∙ ap mustLack (absent-so (path c) here site l))
-        (omega (arith, many, leb-false (needOf here (new .dead) bytes) (length (freeList (tableOf image s))) e)))
+        (omega (arith, many, leb-false (needOf here (new .dead) bytes) (length (freeList s (tableOf image s))) e)))
 
     pub added-at : (x : Place) → placeOf (see s image) (tableOf image s) here (lastName (path c)) ≡ x
         → unlessThere s image (tableOf image s) x (added s image (tableOf image s) here new time (lastName (path c)) bytes) ≡ changed format c image
-    added-at place.Nowhere e = judged e (enough (tableOf image s) (needOf here (new .dead) bytes)) refl
+    added-at place.Nowhere e = judged e (enough s (tableOf image s) (needOf here (new .dead) bytes)) refl
     added-at (place.At k q) e = sym (added-exists format image s root m checked c fine here site creating (new .dead) at-dead 10 (lacking _ ∙ exists-11 (path c) here site k q e))
 
   -- ---- the two creations

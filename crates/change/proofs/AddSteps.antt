@@ -22,13 +22,13 @@ use Rattle.change.specs.Words.{freeList}
 use Rattle.change.proofs.FreeLaws.{growth-small}
 
 -- what is counted: the directory's entries, the clusters of its growth and of the entry itself, and enough free ones in a list
-pub record Counted (table list bytes : List ℕ) (directory : EntryAt) (dead : Place) (entries growing own : ℕ) : Type 0 where
+pub record Counted (s : Superblock) (table list bytes : List ℕ) (directory : EntryAt) (dead : Place) (entries growing own : ℕ) : Type 0 where
   pub entries-are : entries ≡ entriesOf directory
   pub growing-is : growing ≡ growthBy dead entries
   pub own-is : own ≡ clustersFor (length bytes)
-  pub free : Listed table list (needOf directory dead bytes)
+  pub free : Listed s table list (needOf directory dead bytes)
 
-module _ {table list bytes : List ℕ} {directory : EntryAt} {dead : Place} {entries growing own : ℕ} (counted : Counted table list bytes directory dead entries growing own) where
+module _ {s : Superblock} {table list bytes : List ℕ} {directory : EntryAt} {dead : Place} {entries growing own : ℕ} (counted : Counted s table list bytes directory dead entries growing own) where
   -- ---- the clusters: a directory's growth first, then the entry's own
   growing-by : growing ≡ growthBy dead (entriesOf directory)
   growing-by = counted .growing-is ∙ ap (growthBy dead) (counted .entries-are)
@@ -50,13 +50,13 @@ module _ {table list bytes : List ℕ} {directory : EntryAt} {dead : Place} {ent
       let left : length (drop growing list) ≡ length list - growing = length-drop growing list in
       ap (λ n. length (take n (drop growing list))) own-alone ∙ length-take-le own (drop growing list) (omega (arith, both-fit)) ∙ counted .own-is
 
-  growth-so : take growing list ≡ growthOf table directory dead
+  growth-so : take growing list ≡ growthOf s table directory dead
   growth-so = ap₂ take growing-by (counted .free .listed)
 
-  taken-so : take (growing + own - growing) (drop growing list) ≡ takenOf table directory dead bytes
+  taken-so : take (growing + own - growing) (drop growing list) ≡ takenOf s table directory dead bytes
   taken-so = ap₂ take (own-alone ∙ counted .own-is) (ap₂ drop growing-by (counted .free .listed))
 
-  pub room-so : enough table (needOf directory dead bytes) ≡ true
+  pub room-so : enough s table (needOf directory dead bytes) ≡ true
   room-so = le-leb _ _ (rw (counted .free .listed) at (counted .free .room))
 
   -- ---- the words
@@ -64,7 +64,7 @@ module _ {table list bytes : List ℕ} {directory : EntryAt} {dead : Place} {ent
     pub last-by : last ≡ lastOf table directory
     last-by = last-is ∙ ap (λ n. clusterAt table (directory .first) (n - 1)) (counted .entries-are)
 
-    pub words-so : {after : List ℕ} → after ≡ relinked 0 0 (take (growing + own - growing) (drop growing list)) last (take growing list) table → after ≡ addedTable table directory dead bytes
+    pub words-so : {after : List ℕ} → after ≡ relinked 0 0 (take (growing + own - growing) (drop growing list)) last (take growing list) table → after ≡ addedTable s table directory dead bytes
     words-so e = e ∙ rw (taken-so, growth-so, last-by)
 
     -- ---- the pages
@@ -74,10 +74,10 @@ module _ {table list bytes : List ℕ} {directory : EntryAt} {dead : Place} {ent
         (longer-is : longer ≡ alteredPage (directory .page) (withLength (entryOf (directory .page)) long)) where
       pub writes-so : writesOf (take growing list) (take (growing + own - growing) (drop growing list)) bytes
           (record { always = false; page = directory .at; bytes = longer }) (record { always = true; page = slot; bytes = page })
-          ≡ addedWrites table directory (record { mode = mode; count = count; dead = dead }) time name bytes
+          ≡ addedWrites s table directory (record { mode = mode; count = count; dead = dead }) time name bytes
       writes-so = rw (longer-is, page-is, slot-is, start-is, long-is, counted .entries-are, taken-so, growth-so, last-by)
 
-      pub lands-so : (end : ℕ) → Lands end (addedWrites table directory (record { mode = mode; count = count; dead = dead }) time name bytes)
+      pub lands-so : (end : ℕ) → Lands end (addedWrites s table directory (record { mode = mode; count = count; dead = dead }) time name bytes)
           → Lands end (writesOf (take growing list) (take (growing + own - growing) (drop growing list)) bytes
           (record { always = false; page = directory .at; bytes = longer }) (record { always = true; page = slot; bytes = page }))
       lands-so end h = subst (Lands end) (sym writes-so) h
@@ -88,9 +88,9 @@ pub need-so : (directory : EntryAt) (dead : Place) (bytes : List ℕ) {entries g
 need-so directory dead bytes o e g = ap₂ (λ a b. a + b) o (g ∙ ap (growthBy dead) e)
 
 module _ (s : Superblock) (image table : List ℕ) (directory : EntryAt) (new : NewEntry) (time name bytes : List ℕ) where
-  pub added-full : length (freeList table) < needOf directory (new .dead) bytes → added s image table directory new time name bytes ≡ refusedBy 12 image
-  added-full h = rw (lt-leb (needOf directory (new .dead) bytes) (length (freeList table)) h)
+  pub added-full : length (freeList s table) < needOf directory (new .dead) bytes → added s image table directory new time name bytes ≡ refusedBy 12 image
+  added-full h = rw (lt-leb (needOf directory (new .dead) bytes) (length (freeList s table)) h)
 
-  pub added-done : {after : List ℕ} → needOf directory (new .dead) bytes ≤ length (freeList table) → after ≡ addedImage s image table directory new time name bytes
+  pub added-done : {after : List ℕ} → needOf directory (new .dead) bytes ≤ length (freeList s table) → after ≡ addedImage s image table directory new time name bytes
       → added s image table directory new time name bytes ≡ doneWith after
-  added-done h e = rw (le-leb (needOf directory (new .dead) bytes) (length (freeList table)) h) (ap doneWith (sym e))
+  added-done h e = rw (le-leb (needOf directory (new .dead) bytes) (length (freeList s table)) h) (ap doneWith (sym e))

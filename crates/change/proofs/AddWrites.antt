@@ -31,7 +31,7 @@ use Rattle.change.proofs.Sites.{Site, directoryAt}
 module _ (format : Format) (image : List ℕ) (s : Superblock) (opened : openCard format image ≡ ok s) (root : Root) (p : Path) (here : EntryAt)
     (site : Site (see s image) (tableOf image s) root p here) (dead : Place) (d : DeadAt (entryPages (Slot.directory (entryOf (here .page)) (site .chain))) (site .slots) dead)
     (last-is : clusterAt (tableOf image s) (here .first) ((entryOf (here .page)) .length - 1) ≡ getD (site .chain) (length (site .chain) - 1) 0)
-    (free-is : freeClusters (rulesOf s) (see s image) ≡ freeList (tableOf image s)) where
+    (free-is : freeClusters (rulesOf s) (see s image) ≡ freeList s (tableOf image s)) where
   abbrev v : View
   v = see s image
 
@@ -44,30 +44,30 @@ module _ (format : Format) (image : List ℕ) (s : Superblock) (opened : openCar
   grows : growthWithOne (entryOf (here .page)) (site .slots) ≡ growthBy dead (entriesOf here)
   grows = growth-is (entryOf (here .page)) (site .chain) (site .slots) (see s image) (site .below) (site .two) (site .long) (site .held) dead d
 
-  pub grown-so : growthClusters (rulesOf s) (see s image) (growthWithOne (entryOf (here .page)) (site .slots)) ≡ growthOf (tableOf image s) here dead
+  pub grown-so : growthClusters (rulesOf s) (see s image) (growthWithOne (entryOf (here .page)) (site .slots)) ≡ growthOf s (tableOf image s) here dead
   grown-so = ap₂ (λ n l. take n l) grows free-is
 
-  pub own-so : (bytes : List ℕ) → ownClusters (rulesOf s) (see s image) (growthWithOne (entryOf (here .page)) (site .slots)) (clustersFor (length bytes)) ≡ takenOf (tableOf image s) here dead bytes
+  pub own-so : (bytes : List ℕ) → ownClusters (rulesOf s) (see s image) (growthWithOne (entryOf (here .page)) (site .slots)) (clustersFor (length bytes)) ≡ takenOf s (tableOf image s) here dead bytes
   own-so bytes = ap₂ (λ n l. take (clustersFor (length bytes)) (drop n l)) grows free-is
 
   -- with room for the growth
-  module _ (room : growthBy dead (entriesOf here) ≤ length (freeList (tableOf image s))) where
-    growth-long : length (growthOf (tableOf image s) here dead) ≡ growthBy dead (entriesOf here)
-    growth-long = length-take-le (growthBy dead (entriesOf here)) (freeList (tableOf image s)) room
+  module _ (room : growthBy dead (entriesOf here) ≤ length (freeList s (tableOf image s))) where
+    growth-long : length (growthOf s (tableOf image s) here dead) ≡ growthBy dead (entriesOf here)
+    growth-long = length-take-le (growthBy dead (entriesOf here)) (freeList s (tableOf image s)) room
 
     slot-so : getD (entryPages (Slot.directory (withLength (entryOf (here .page)) (lengthWithOne (entryOf (here .page)) (site .slots)))
         (site .chain ++ growthClusters (rulesOf s) (see s image) (growthWithOne (entryOf (here .page)) (site .slots))))) (firstDead (site .slots)) 0
-        ≡ pageBy dead (lastOf (tableOf image s) here) (growthOf (tableOf image s) here dead)
+        ≡ pageBy dead (lastOf (tableOf image s) here) (growthOf s (tableOf image s) here dead)
     slot-so =
         ap (λ g. getD (entryPages (Slot.directory (withLength (entryOf (here .page)) (lengthWithOne (entryOf (here .page)) (site .slots))) (site .chain ++ g))) (firstDead (site .slots)) 0) grown-so
-        ∙ page-is (entryOf (here .page)) (site .chain) (site .slots) (see s image) (site .below) (site .two) (site .long) (site .held) dead d (growthOf (tableOf image s) here dead) growth-long
-        ∙ ap (λ l. pageBy dead l (growthOf (tableOf image s) here dead)) (sym last-is)
+        ∙ page-is (entryOf (here .page)) (site .chain) (site .slots) (see s image) (site .below) (site .two) (site .long) (site .held) dead d (growthOf s (tableOf image s) here dead) growth-long
+        ∙ ap (λ l. pageBy dead l (growthOf s (tableOf image s) here dead)) (sym last-is)
 
     pub added-writes : (f : List ℕ → Filling) (mode size : ℕ) (time name bytes : List ℕ)
         → ((own : List ℕ) → (f own) .pages ≡ dataPages bytes) → ((own : List ℕ) → (f own) .isNew ≡ true)
         → ((own : List ℕ) → (f own) .entry ≡ newEntry mode size (firstOf own) 0 time name)
         → pageWrites (see s image) (made (rulesOf s) (see s image) (directoryAt here (site .chain)) (adding (directoryAt here (site .chain)) (site .slots) (clustersFor (length bytes)) f))
-        ≡ addedWrites (tableOf image s) here (record { mode = mode; count = size; dead = dead }) time name bytes
+        ≡ addedWrites s (tableOf image s) here (record { mode = mode; count = size; dead = dead }) time name bytes
     unfolding entryPage
     added-writes f mode size time name bytes pages new entry =
         ap₂ (λ x z. x ++ z)
@@ -88,7 +88,7 @@ module _ (format : Format) (image : List ℕ) (s : Superblock) (opened : openCar
             (length-is (entryOf (here .page)) (site .chain) (site .slots) (see s image) (site .below) (site .two) (site .long) (site .held) dead d)
 
         slot : _≡_ {A = PageWrite} (record { always = (f own) .isNew; page = at-slot; bytes = entryPage ((f own) .isNew) ((see s image) .page at-slot) ((f own) .entry) })
-            (record { always = true; page = pageBy dead (lastOf (tableOf image s) here) (growthOf (tableOf image s) here dead); bytes = newPage (newEntry mode size (firstOf (takenOf (tableOf image s) here dead bytes)) 0 time name) })
+            (record { always = true; page = pageBy dead (lastOf (tableOf image s) here) (growthOf s (tableOf image s) here dead); bytes = newPage (newEntry mode size (firstOf (takenOf s (tableOf image s) here dead bytes)) 0 time name) })
         slot =
             ap (λ b. record { always = b; page = at-slot; bytes = entryPage b ((see s image) .page at-slot) ((f own) .entry) }) (new own)
             ∙ ap₂ (λ q x. record { always = true; page = q; bytes = newPage x }) slot-so (entry own ∙ ap (λ o. newEntry mode size (firstOf o) 0 time name) (own-so bytes))

@@ -50,7 +50,7 @@ use Rattle.change.proofs.Sites.{Site, directoryAt}
 
 -- what the code does of an accepted creation
 pub record Adds (format : Format) (image : List ℕ) (s : Superblock) (here : EntryAt) (c : Change) (new : NewEntry) (time name bytes : List ℕ) : Type 0 where
-  pub lands : Lands (s .end) (addedWrites (tableOf image s) here new time name bytes)
+  pub lands : Lands (s .end) (addedWrites s (tableOf image s) here new time name bytes)
   pub done : changed format c image ≡ doneWith (addedImage s image (tableOf image s) here new time name bytes)
 
 -- what is learnt of an accepted plan
@@ -77,22 +77,22 @@ module _ (format : Format) (image : List ℕ) (s : Superblock) (root : Root) (m 
           rw creating (ap (λ n. size c + n) (growth-is (entryOf (here .page)) (site .chain) (site .slots) (see s image) (site .below) (site .two) (site .long) (site .held) dead d))
 
       added-refusal : refusal (rulesOf s) c (see s image) root
-          ≡ first (own c (lookIn (site .slots) (lastName (path c) ∷ []))) (cond (leb (size c + growthBy dead (entriesOf here)) (length (freeList (tableOf image s)))) 0 12)
+          ≡ first (own c (lookIn (site .slots) (lastName (path c) ∷ []))) (cond (leb (size c + growthBy dead (entriesOf here)) (length (freeList s (tableOf image s)))) 0 12)
       added-refusal =
           refusal-here image s root c here site fine (free-is format image s opened)
-          ∙ ap (λ n. first (own c (lookIn (site .slots) (lastName (path c) ∷ []))) (cond (leb n (length (freeList (tableOf image s)))) 0 12)) need-is
+          ∙ ap (λ n. first (own c (lookIn (site .slots) (lastName (path c) ∷ []))) (cond (leb n (length (freeList s (tableOf image s)))) 0 12)) need-is
 
       -- refused by what stands at the name
       pub added-exists : (n : ℕ) → own c (lookIn (site .slots) (lastName (path c) ∷ [])) ≡ suc n → changed format c image ≡ record { answer = fault (suc n) 0; image = image }
       added-exists n e = (refuses format image s root m checked c n (added-refusal ∙ rw e)) .0
 
       -- refused for want of room
-      pub added-full : own c (lookIn (site .slots) (lastName (path c) ∷ [])) ≡ 0 → length (freeList (tableOf image s)) < size c + growthBy dead (entriesOf here)
+      pub added-full : own c (lookIn (site .slots) (lastName (path c) ∷ [])) ≡ 0 → length (freeList s (tableOf image s)) < size c + growthBy dead (entriesOf here)
           → changed format c image ≡ record { answer = fault 12 0; image = image }
       added-full e l = (refuses format image s root m checked c 11 (added-refusal ∙ rw (e, lt-leb _ _ l))) .0
 
       -- accepted, with a filling that is a new entry
-      module _ (free : own c (lookIn (site .slots) (lastName (path c) ∷ [])) ≡ 0) (room : size c + growthBy dead (entriesOf here) ≤ length (freeList (tableOf image s)))
+      module _ (free : own c (lookIn (site .slots) (lastName (path c) ∷ [])) ≡ 0) (room : size c + growthBy dead (entriesOf here) ≤ length (freeList s (tableOf image s)))
           (f : List ℕ → Filling) (mode count : ℕ) (time name bytes : List ℕ) (many : size c ≡ clustersFor (length bytes))
           (plan-so : planOf (rulesOf s) c (see s image) root ≡ some (made (rulesOf s) (see s image) (directoryAt here (site .chain)) (adding (directoryAt here (site .chain)) (site .slots) (clustersFor (length bytes)) f)))
           (pages : (own : List ℕ) → (f own) .pages ≡ dataPages bytes) (new : (own : List ℕ) → (f own) .isNew ≡ true)
@@ -107,27 +107,27 @@ module _ (format : Format) (image : List ℕ) (s : Superblock) (root : Root) (m 
         deed = deed-of c none-met _ plan-so
 
         written : pageWrites (see s image) (made (rulesOf s) (see s image) (directoryAt here (site .chain)) (adding (directoryAt here (site .chain)) (site .slots) (clustersFor (length bytes)) f))
-            ≡ addedWrites (tableOf image s) here (record { mode = mode; count = count; dead = dead }) time name bytes
+            ≡ addedWrites s (tableOf image s) here (record { mode = mode; count = count; dead = dead }) time name bytes
         written =
             added-writes format image s opened root (path c) here site dead d (last-of-chain format image s opened root (path c) here site) (free-is format image s opened)
             (omega arith) f mode count time name bytes pages new entry
 
         worded : (x : ℕ) → x < s .end → wordsAfter (made (rulesOf s) (see s image) (directoryAt here (site .chain)) (adding (directoryAt here (site .chain)) (site .slots) (clustersFor (length bytes)) f)) (λ c. getD (tableOf image s) c 0) x
-            ≡ getD (addedTable (tableOf image s) here dead bytes) x 0
+            ≡ getD (addedTable s (tableOf image s) here dead bytes) x 0
         worded x h =
             ap₂ (λ g o. chainWords (site .chain ++ g) (chainWords o (λ c. getD (tableOf image s) c 0)) x) grown own-is
-            ∙ ap (λ cs. chainWords (cs ++ growthOf (tableOf image s) here dead) (chainWords (takenOf (tableOf image s) here dead bytes) (λ c. getD (tableOf image s) c 0)) x) (site .starts)
-            ∙ same-words (see s image) (tableOf image s) (λ c. refl) (here .first) (site .rest) [] (takenOf (tableOf image s) here dead bytes) 0 (rw (site .starts) at (site .linked)) tt
-            (λ c. omega (arith, apart c)) (growthOf (tableOf image s) here dead) (lastOf (tableOf image s) here) (omega (arith, length-take (growthBy dead (entriesOf here)) (freeList (tableOf image s)), growth-small dead (entriesOf here)))
+            ∙ ap (λ cs. chainWords (cs ++ growthOf s (tableOf image s) here dead) (chainWords (takenOf s (tableOf image s) here dead bytes) (λ c. getD (tableOf image s) c 0)) x) (site .starts)
+            ∙ same-words (see s image) (tableOf image s) (λ c. refl) (here .first) (site .rest) [] (takenOf s (tableOf image s) here dead bytes) 0 (rw (site .starts) at (site .linked)) tt
+            (λ c. omega (arith, apart c)) (growthOf s (tableOf image s) here dead) (lastOf (tableOf image s) here) (omega (arith, length-take (growthBy dead (entriesOf here)) (freeList s (tableOf image s)), growth-small dead (entriesOf here)))
             (λ c. omega (arith, apart c)) (last-is format image s opened root (path c) here site) x (omega (arith, length-table image s))
           where
-            grown : growthClusters (rulesOf s) (see s image) (growthWithOne (entryOf (here .page)) (site .slots)) ≡ growthOf (tableOf image s) here dead
+            grown : growthClusters (rulesOf s) (see s image) (growthWithOne (entryOf (here .page)) (site .slots)) ≡ growthOf s (tableOf image s) here dead
             grown = grown-so format image s opened root (path c) here site dead d (last-of-chain format image s opened root (path c) here site) (free-is format image s opened)
 
-            own-is : ownClusters (rulesOf s) (see s image) (growthWithOne (entryOf (here .page)) (site .slots)) (clustersFor (length bytes)) ≡ takenOf (tableOf image s) here dead bytes
+            own-is : ownClusters (rulesOf s) (see s image) (growthWithOne (entryOf (here .page)) (site .slots)) (clustersFor (length bytes)) ≡ takenOf s (tableOf image s) here dead bytes
             own-is = own-so format image s opened root (path c) here site dead d (last-of-chain format image s opened root (path c) here site) (free-is format image s opened) bytes
 
-            apart : (c : ℕ) → times (here .first ∷ site .rest) c + (times (takenOf (tableOf image s) here dead bytes) c + times (growthOf (tableOf image s) here dead) c) ≤ 1
+            apart : (c : ℕ) → times (here .first ∷ site .rest) c + (times (takenOf s (tableOf image s) here dead bytes) c + times (growthOf s (tableOf image s) here dead) c) ≤ 1
             apart c =
                 omega (
                   arith,
@@ -142,14 +142,14 @@ module _ (format : Format) (image : List ℕ) (s : Superblock) (root : Root) (m 
         adds =
             record {
               lands = lands-as format image s root m checked c none-met _ plan-so _ written;
-              done = done-as format image s root m checked c none-met _ plan-so _ written (addedTable (tableOf image s) here dead bytes) worded;
+              done = done-as format image s root m checked c none-met _ plan-so _ written (addedTable s (tableOf image s) here dead bytes) worded;
             }
 
 -- ---- the two creations
 module _ (format : Format) (image : List ℕ) (s : Superblock) (root : Root) (m : Marks) (checked : checkImage format image ≡ ok (s, root, m)) (p : Path) (time : List ℕ) (here : EntryAt)
     (site : Site (see s image) (tableOf image s) root p here) (dead : Place) (d : DeadAt (entryPages (Slot.directory (entryOf (here .page)) (site .chain))) (site .slots) dead)
     (absent-so : lookIn (site .slots) (lastName p ∷ []) ≡ absent) where
-  pub create-done : (bytes : List ℕ) → static (create p time bytes) ≡ 0 → needOf here dead bytes ≤ length (freeList (tableOf image s))
+  pub create-done : (bytes : List ℕ) → static (create p time bytes) ≡ 0 → needOf here dead bytes ≤ length (freeList s (tableOf image s))
       → Adds format image s here (create p time bytes) (newOf false bytes dead) time (lastName p) bytes
   create-done bytes fine room =
       adds format image s root m checked (create p time bytes) fine here site refl dead d (rw absent-so) room (newFile (lastName p) time bytes) fileMode (length bytes) time (lastName p) bytes
@@ -177,7 +177,7 @@ module _ (format : Format) (image : List ℕ) (s : Superblock) (root : Root) (m 
       ap₂ (λ a b. some (dot-page a b) ∷ some up-page ∷ []) begins numbered
       ∙ sym (two-pages (dot-page (here .first) (numberBy dead (entriesOf here))) up-page (length-new _) (length-new _))
 
-  pub make-done : (bytes : List ℕ) → static (makeDirectory p time) ≡ 0 → needOf here dead (dotsOf (here .first) (numberBy dead (entriesOf here)) time) ≤ length (freeList (tableOf image s))
+  pub make-done : (bytes : List ℕ) → static (makeDirectory p time) ≡ 0 → needOf here dead (dotsOf (here .first) (numberBy dead (entriesOf here)) time) ≤ length (freeList s (tableOf image s))
       → Adds format image s here (makeDirectory p time) (newOf true bytes dead) time (lastName p) (dotsOf (here .first) (numberBy dead (entriesOf here)) time)
   make-done bytes fine room =
       let f = newDirectory (lastName p) time (firstOf (site .chain)) (2 + firstDead (site .slots)) in

@@ -102,21 +102,21 @@ module _ (format : Format) (image : List ℕ) (s : Superblock) (root : Root) (m 
 
   replaced-at : (time bytes : List ℕ) → static (replace p time bytes) ≡ 0 → (q : ℕ) (x : Stands q) → (b : Bool) → isDirectory (entryOf (x .entry)) ≡ b
       → pickOutcome b (refusedBy 10 image)
-      (pickOutcome (enough (tableOf image s) (clustersFor (length bytes))) (doneWith (replacedImage s image (tableOf image s) here (entryIn q (x .entry)) time bytes)) (refusedBy 12 image))
+      (pickOutcome (enough s (tableOf image s) (clustersFor (length bytes))) (doneWith (replacedImage s image (tableOf image s) here (entryIn q (x .entry)) time bytes)) (refusedBy 12 image))
       ≡ changed format (replace p time bytes) image
   replaced-at time bytes fine q x true e =
       let d = directory-here format image s root m checked p here site q (x .entry) (x .there) e in
       sym (edit-refused format image s root m checked (replace p time bytes) fine refl here site 9 (rw (d .found-directory)))
-  replaced-at time bytes fine q x false e = room (enough (tableOf image s) (clustersFor (length bytes))) refl
+  replaced-at time bytes fine q x false e = room (enough s (tableOf image s) (clustersFor (length bytes))) refl
     where
       file : IsFile format image s root m checked p here site q (x .entry) (x .there)
       file = file-here format image s root m checked p here site q (x .entry) (x .there) e
 
-      room : (b : Bool) → enough (tableOf image s) (clustersFor (length bytes)) ≡ b
+      room : (b : Bool) → enough s (tableOf image s) (clustersFor (length bytes)) ≡ b
           → pickOutcome b (doneWith (replacedImage s image (tableOf image s) here (entryIn q (x .entry)) time bytes)) (refusedBy 12 image) ≡ changed format (replace p time bytes) image
-      room true h = sym ((replace-done format image s root m checked p here site q (x .entry) (x .there) time bytes fine file (leb-true (clustersFor (length bytes)) (length (freeList (tableOf image s))) h)) .done)
+      room true h = sym ((replace-done format image s root m checked p here site q (x .entry) (x .there) time bytes fine file (leb-true (clustersFor (length bytes)) (length (freeList s (tableOf image s))) h)) .done)
       room false h =
-          sym (edit-full format image s root m checked (replace p time bytes) fine refl here site (rw (file .found-file)) (leb-false (clustersFor (length bytes)) (length (freeList (tableOf image s))) h))
+          sym (edit-full format image s root m checked (replace p time bytes) fine refl here site (rw (file .found-file)) (leb-false (clustersFor (length bytes)) (length (freeList s (tableOf image s))) h))
 
   deleted-at : static (delete p) ≡ 0 → (q : ℕ) (x : Stands q) → (b : Bool) → isDirectory (entryOf (x .entry)) ≡ b
       → pickOutcome b (refusedBy 10 image) (doneWith (removedImage s image (tableOf image s) here (entryIn q (x .entry)) (clustersFor (word (x .entry) 4)))) ≡ changed format (delete p) image
@@ -162,7 +162,7 @@ module _ (format : Format) (image : List ℕ) (s : Superblock) (root : Root) (m 
   replace-lands : (time bytes : List ℕ) → static (replace p time bytes) ≡ 0 → (q : ℕ) (x : Stands q) → EditLands s image (tableOf image s) action.Replace here time bytes (entryIn q (x .entry))
   replace-lands time bytes fine q x kind room =
       (replace-done format image s root m checked p here site q (x .entry) (x .there) time bytes fine
-      (file-here format image s root m checked p here site q (x .entry) (x .there) kind) (leb-true (clustersFor (length bytes)) (length (freeList (tableOf image s))) room)) .lands
+      (file-here format image s root m checked p here site q (x .entry) (x .there) kind) (leb-true (clustersFor (length bytes)) (length (freeList s (tableOf image s))) room)) .lands
 
   delete-lands : (time bytes : List ℕ) → static (delete p) ≡ 0 → (q : ℕ) (x : Stands q) → EditLands s image (tableOf image s) action.Delete here time bytes (entryIn q (x .entry))
   delete-lands time bytes fine q x kind =

@@ -40,35 +40,35 @@ module _ (directory entry : EntryAt) {entries : ℕ} {kept gone : List ℕ} (ent
   removed-lands end h = subst (Lands end) (sym removed-writes) h
 
 -- ---- replacing: the clusters taken are the first of the free ones
-module _ (table list bytes : List ℕ) (listed : list ≡ freeList table) (room : clustersFor (length bytes) ≤ length list) {own : ℕ} (own-is : own ≡ clustersFor (length bytes)) where
+module _ (s : Superblock) (table list bytes : List ℕ) (listed : list ≡ freeList s table) (room : clustersFor (length bytes) ≤ length list) {own : ℕ} (own-is : own ≡ clustersFor (length bytes)) where
   pub own-inside : own ≤ length list
   own-inside = omega arith
 
   pub own-taken : length (take own list) ≡ clustersFor (length bytes)
   own-taken = length-take-le own list own-inside ∙ own-is
 
-  taken-is : take own list ≡ take (clustersFor (length bytes)) (freeList table)
+  taken-is : take own list ≡ take (clustersFor (length bytes)) (freeList s table)
   taken-is = ap₂ take own-is listed
 
-  module _ (image : List ℕ) (s : Superblock) (card : Open s image table) where
+  module _ (image : List ℕ) (card : Open s image table) where
     pub few-bytes : length bytes < wordLimit
     few-bytes = omega (arith, ap length listed, free-few (s .geometry .format) image table s (card .opened) (card .long))
 
     pub own-low : (x : ℕ) → topBit ≤ x → times (take own list) x + 0 ≡ 0
-    own-low x h = rw taken-is (taken-low (s .geometry .format) image table s (card .opened) (card .long) 0 (clustersFor (length bytes)) (freeList table) refl x h)
+    own-low x h = rw taken-is (taken-low (s .geometry .format) image table s (card .opened) (card .long) 0 (clustersFor (length bytes)) (freeList s table) refl x h)
 
   pub replaced-words : (entry : EntryAt) {count size : ℕ} {after : List ℕ} → count ≡ clustersFor size → size ≡ entriesOf entry
-      → after ≡ relinked (entry .first) count (take own list) 0 [] table → after ≡ replacedTable table entry bytes
+      → after ≡ relinked (entry .first) count (take own list) 0 [] table → after ≡ replacedTable s table entry bytes
   replaced-words entry c z e = e ∙ rw (c, z, taken-is)
 
   module _ (directory entry : EntryAt) (time : List ℕ) {entries start : ℕ} {kept contents : List ℕ} (entries-are : entries ≡ entriesOf directory)
       (kept-is : kept ≡ alteredPage (directory .page) (withLength (entryOf (directory .page)) entries)) (start-is : start ≡ firstOf (take own list))
       (contents-are : contents ≡ alteredPage (entry .page) (alteredEntry (entryOf (entry .page)) ((entryOf (entry .page)) .mode) (length bytes) start time)) where
     pub replaced-writes : writesOf [] (take own list) bytes (record { always = false; page = directory .at; bytes = kept }) (record { always = false; page = entry .at; bytes = contents })
-        ≡ replacedWrites table directory entry time bytes
+        ≡ replacedWrites s table directory entry time bytes
     replaced-writes = rw (kept-so directory entries-are kept-is, contents-are, start-is, taken-is)
 
-    pub replaced-lands : (end : ℕ) → Lands end (replacedWrites table directory entry time bytes)
+    pub replaced-lands : (end : ℕ) → Lands end (replacedWrites s table directory entry time bytes)
         → Lands end (writesOf [] (take own list) bytes (record { always = false; page = directory .at; bytes = kept }) (record { always = false; page = entry .at; bytes = contents }))
     replaced-lands end h = subst (Lands end) (sym replaced-writes) h
 
@@ -78,12 +78,12 @@ module _ (s : Superblock) (image table : List ℕ) (directory entry : EntryAt) (
   replaced-kind d = rw d
 
   module _ (file : isDirectory (entryOf (entry .page)) ≡ false) where
-    pub replaced-full : length (freeList table) < clustersFor (length bytes) → replacedEntry s image table directory entry time bytes ≡ refusedBy 12 image
-    replaced-full h = rw (file, lt-leb (clustersFor (length bytes)) (length (freeList table)) h)
+    pub replaced-full : length (freeList s table) < clustersFor (length bytes) → replacedEntry s image table directory entry time bytes ≡ refusedBy 12 image
+    replaced-full h = rw (file, lt-leb (clustersFor (length bytes)) (length (freeList s table)) h)
 
-    module _ (room : clustersFor (length bytes) ≤ length (freeList table)) where
-      pub can-land : CanEdit s image table action.Replace directory time bytes entry → Lands (s .end) (replacedWrites table directory entry time bytes)
-      can-land can = can .lands file (le-leb (clustersFor (length bytes)) (length (freeList table)) room)
+    module _ (room : clustersFor (length bytes) ≤ length (freeList s table)) where
+      pub can-land : CanEdit s image table action.Replace directory time bytes entry → Lands (s .end) (replacedWrites s table directory entry time bytes)
+      can-land can = can .lands file (le-leb (clustersFor (length bytes)) (length (freeList s table)) room)
 
       pub replaced-done : {after : List ℕ} → after ≡ replacedImage s image table directory entry time bytes → replacedEntry s image table directory entry time bytes ≡ doneWith after
-      replaced-done e = rw (file, le-leb (clustersFor (length bytes)) (length (freeList table)) room) (ap doneWith (sym e))
+      replaced-done e = rw (file, le-leb (clustersFor (length bytes)) (length (freeList s table)) room) (ap doneWith (sym e))

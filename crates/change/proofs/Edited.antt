@@ -61,23 +61,23 @@ module _ (format : Format) (image : List ℕ) (s : Superblock) (root : Root) (m 
   opened = (checked-parts format image s root m checked) .0
 
   edit-refusal : refusal (rulesOf s) c (see s image) root
-      ≡ first (own c (lookIn (site .slots) (lastName (path c) ∷ []))) (cond (leb (size c + 0) (length (freeList (tableOf image s)))) 0 12)
+      ≡ first (own c (lookIn (site .slots) (lastName (path c) ∷ []))) (cond (leb (size c + 0) (length (freeList s (tableOf image s)))) 0 12)
   edit-refusal =
       refusal-here image s root c here site fine (free-is format image s opened)
-      ∙ ap (λ b. first (own c (lookIn (site .slots) (lastName (path c) ∷ []))) (cond (leb (size c + cond b (growthWithOne (entryOf (here .page)) (site .slots)) 0) (length (freeList (tableOf image s)))) 0 12)) standing
+      ∙ ap (λ b. first (own c (lookIn (site .slots) (lastName (path c) ∷ []))) (cond (leb (size c + cond b (growthWithOne (entryOf (here .page)) (site .slots)) 0) (length (freeList s (tableOf image s)))) 0 12)) standing
 
   -- refused by what stands at the name, or for want of room
   pub edit-refused : (n : ℕ) → own c (lookIn (site .slots) (lastName (path c) ∷ [])) ≡ suc n → changed format c image ≡ record { answer = fault (suc n) 0; image = image }
   edit-refused n e = (refuses format image s root m checked c n (edit-refusal ∙ rw e)) .0
 
-  pub edit-full : own c (lookIn (site .slots) (lastName (path c) ∷ [])) ≡ 0 → length (freeList (tableOf image s)) < size c → changed format c image ≡ record { answer = fault 12 0; image = image }
-  edit-full e l = (refuses format image s root m checked c 11 (edit-refusal ∙ rw (e, lt-leb (size c + 0) (length (freeList (tableOf image s))) (omega arith)))) .0
+  pub edit-full : own c (lookIn (site .slots) (lastName (path c) ∷ [])) ≡ 0 → length (freeList s (tableOf image s)) < size c → changed format c image ≡ record { answer = fault 12 0; image = image }
+  edit-full e l = (refuses format image s root m checked c 11 (edit-refusal ∙ rw (e, lt-leb (size c + 0) (length (freeList s (tableOf image s))) (omega arith)))) .0
 
-  module _ (lacks : own c (lookIn (site .slots) (lastName (path c) ∷ [])) ≡ 0) (room : size c ≤ length (freeList (tableOf image s)))
+  module _ (lacks : own c (lookIn (site .slots) (lastName (path c) ∷ [])) ≡ 0) (room : size c ≤ length (freeList s (tableOf image s)))
       (k : ℕ) (given : List ℕ) (f : List ℕ → Filling)
       (plan-so : planOf (rulesOf s) c (see s image) root ≡ some (made (rulesOf s) (see s image) (directoryAt here (site .chain)) (altering (directoryAt here (site .chain)) (site .slots) (lastName (path c)) k given f))) where
     none-met : refusal (rulesOf s) c (see s image) root ≡ 0
-    none-met = edit-refusal ∙ rw (lacks, le-leb (size c + 0) (length (freeList (tableOf image s))) (omega arith))
+    none-met = edit-refusal ∙ rw (lacks, le-leb (size c + 0) (length (freeList s (tableOf image s))) (omega arith))
 
     deed : Deed (rulesOf s) (see s image) root (made (rulesOf s) (see s image) (directoryAt here (site .chain)) (altering (directoryAt here (site .chain)) (site .slots) (lastName (path c)) k given f))
     deed = deed-of format image s root m checked c none-met _ plan-so
@@ -87,10 +87,10 @@ module _ (format : Format) (image : List ℕ) (s : Superblock) (root : Root) (m 
       pub edit-lands : Lands (s .end) writes
       edit-lands = lands-as format image s root m checked c none-met _ plan-so _ written
 
-      pub edit-done : changed format c image ≡ record { answer = ok tt; image = imageBy s image writes (relinked back (length given) (take k (freeList (tableOf image s))) 0 [] (tableOf image s)) }
-      edit-done = done-as format image s root m checked c none-met _ plan-so _ written (relinked back (length given) (take k (freeList (tableOf image s))) 0 [] (tableOf image s)) words
+      pub edit-done : changed format c image ≡ record { answer = ok tt; image = imageBy s image writes (relinked back (length given) (take k (freeList s (tableOf image s))) 0 [] (tableOf image s)) }
+      edit-done = done-as format image s root m checked c none-met _ plan-so _ written (relinked back (length given) (take k (freeList s (tableOf image s))) 0 [] (tableOf image s)) words
         where
-          apart : (x : ℕ) → times (here .first ∷ site .rest) x + times given x + times (take k (freeList (tableOf image s))) x ≤ 1
+          apart : (x : ℕ) → times (here .first ∷ site .rest) x + times given x + times (take k (freeList s (tableOf image s))) x ≤ 1
           apart x =
               omega (
                 arith,
@@ -103,10 +103,10 @@ module _ (format : Format) (image : List ℕ) (s : Superblock) (root : Root) (m 
 
           words : (x : ℕ) → x < s .end
               → wordsAfter (made (rulesOf s) (see s image) (directoryAt here (site .chain)) (altering (directoryAt here (site .chain)) (site .slots) (lastName (path c)) k given f)) (λ d. getD (tableOf image s) d 0) x
-              ≡ getD (relinked back (length given) (take k (freeList (tableOf image s))) 0 [] (tableOf image s)) x 0
+              ≡ getD (relinked back (length given) (take k (freeList s (tableOf image s))) 0 [] (tableOf image s)) x 0
           words x h =
               ap₂ (λ cs l. chainWords (cs ++ []) (chainWords (take k l) (clearedWords given (λ d. getD (tableOf image s) d 0))) x) (site .starts) (free-is format image s opened)
-              ∙ same-words (see s image) (tableOf image s) (λ d. refl) (here .first) (site .rest) given (take k (freeList (tableOf image s))) back (rw (site .starts) at (site .linked)) follows apart
+              ∙ same-words (see s image) (tableOf image s) (λ d. refl) (here .first) (site .rest) given (take k (freeList s (tableOf image s))) back (rw (site .starts) at (site .linked)) follows apart
               [] (lastIn (here .first) (site .rest)) (omega arith) (λ d. omega (arith, apart d)) refl x (omega (arith, length-table image s))
 
 -- ---- the entry at the last name
@@ -183,8 +183,8 @@ module _ (format : Format) (image : List ℕ) (s : Superblock) (root : Root) (m 
     pub lands : Lands (s .end) writes
     pub done : changed format c image ≡ record { answer = ok tt; image = imageBy s image writes table }
 
-  pub replace-done : (time bytes : List ℕ) → static (replace p time bytes) ≡ 0 → IsFile → clustersFor (length bytes) ≤ length (freeList (tableOf image s))
-      → Edits (replace p time bytes) (replacedWrites (tableOf image s) here (entryIn slot entry) time bytes) (replacedTable (tableOf image s) (entryIn slot entry) bytes)
+  pub replace-done : (time bytes : List ℕ) → static (replace p time bytes) ≡ 0 → IsFile → clustersFor (length bytes) ≤ length (freeList s (tableOf image s))
+      → Edits (replace p time bytes) (replacedWrites s (tableOf image s) here (entryIn slot entry) time bytes) (replacedTable s (tableOf image s) (entryIn slot entry) bytes)
   replace-done time bytes fine file room =
       let c = replace p time bytes in
       let stands : own (replace p time bytes) (lookIn (site .slots) (lastName p ∷ [])) ≡ 0 = rw (file .found-file) in
@@ -196,7 +196,7 @@ module _ (format : Format) (image : List ℕ) (s : Superblock) (root : Root) (m 
         lands = edit-lands format image s root m checked (replace p time bytes) fine refl here site stands room (clustersFor (length bytes)) (file .given) (newContents (entryOf entry) time bytes) plan _ written (word entry 0x10) (file .leads);
         done =
             edit-done format image s root m checked (replace p time bytes) fine refl here site stands room (clustersFor (length bytes)) (file .given) (newContents (entryOf entry) time bytes) plan _ written (word entry 0x10) (file .leads)
-            ∙ ap (λ n. record { answer = ok tt; image = imageBy s image (replacedWrites (tableOf image s) here (entryIn slot entry) time bytes) (relinked (word entry 0x10) n (take (clustersFor (length bytes)) (freeList (tableOf image s))) 0 [] (tableOf image s)) }) (file .many);
+            ∙ ap (λ n. record { answer = ok tt; image = imageBy s image (replacedWrites s (tableOf image s) here (entryIn slot entry) time bytes) (relinked (word entry 0x10) n (take (clustersFor (length bytes)) (freeList s (tableOf image s))) 0 [] (tableOf image s)) }) (file .many);
       }
 
   -- ---- deleting and removing

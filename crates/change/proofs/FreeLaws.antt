@@ -11,6 +11,7 @@ use Rattle.layout.proofs.OpenFacts.{open-facts}
 use Rattle.tree.specs.declared.along.Place.{Place}
 use Rattle.tree.specs.declared.along.Place.the-variants as place
 use Rattle.model.specs.Check.{ok}
+use Rattle.model.specs.Counts.{mayTakeOn, takeable}
 use Rattle.model.specs.Plan.{freeBelow, ifFree}
 use Rattle.model.specs.Tree.{times}
 use Rattle.model.specs.View.{Link, linkOf, mostClusters, topBit}
@@ -41,10 +42,16 @@ module _ (format : Format) (image table : List ℕ) (s : Superblock) (opened : o
   pub table-small : length table ≤ mostClusters
   table-small = omega (arith, open-facts format image s opened .room, open-facts format image s opened .most)
 
-  pub free-few : length (freeList table) ≤ mostClusters
-  free-few = omega (arith, few-below (λ c. linkOf (getD table c 0)) (length table), table-small)
+  -- the links of which the free ones are taken
+  pool : ℕ → Link
+  pool = takeable (mayTakeOn (s .clusters) (s .end)) (λ c. linkOf (getD table c 0))
+
+  pub free-few : length (freeList s table) ≤ mostClusters
+  unfolding pool
+  free-few = omega (arith, few-below pool (length table), table-small)
 
   -- clusters taken from the free ones, and those before them, are below 2^31
-  pub taken-low : (growing own : ℕ) (list : List ℕ) → list ≡ freeList table → (x : ℕ) → topBit ≤ x → times (take own (drop growing list)) x + times (take growing list) x ≡ 0
+  pub taken-low : (growing own : ℕ) (list : List ℕ) → list ≡ freeList s table → (x : ℕ) → topBit ≤ x → times (take own (drop growing list)) x + times (take growing list) x ≡ 0
+  unfolding pool
   taken-low growing own list e x h =
-      rw e (omega (arith, free-low (λ c. linkOf (getD table c 0)) (length table) x (omega (arith, table-small)), times-take own (drop growing (freeList table)) x, times-drop growing (freeList table) x, times-take growing (freeList table) x))
+      rw e (omega (arith, free-low pool (length table) x (omega (arith, table-small)), times-take own (drop growing (freeList s table)) x, times-drop growing (freeList s table) x, times-take growing (freeList s table) x))

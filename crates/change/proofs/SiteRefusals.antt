@@ -23,10 +23,10 @@ use Rattle.change.proofs.Sites.{Site}
 
 module _ (image : List ℕ) (s : Superblock) (root : Root) (c : Change) (here : EntryAt)
     (site : Site (see s image) (tableOf image s) root (path c) here) (fine : static c ≡ 0)
-    (free-is : freeClusters (rulesOf s) (see s image) ≡ freeList (tableOf image s)) where
+    (free-is : freeClusters (rulesOf s) (see s image) ≡ freeList s (tableOf image s)) where
   pub refusal-here : refusal (rulesOf s) c (see s image) root
       ≡ first (own c (lookIn (site .slots) (lastName (path c) ∷ [])))
-      (cond (leb (size c + cond (creates c) (growthWithOne (entryOf (here .page)) (site .slots)) 0) (length (freeList (tableOf image s)))) 0 12)
+      (cond (leb (size c + cond (creates c) (growthWithOne (entryOf (here .page)) (site .slots)) 0) (length (freeList s (tableOf image s)))) 0 12)
   unfolding refusal
   refusal-here =
       rw (fine, site .open-way)

@@ -1,45 +1,50 @@
 -- The loops over the table in memory: one law for each way of a turn.
 use Prim.Native.Nat.{ℕ, zero, suc, _%_, _+_, _-_, _<_, _≤_}
-use mathlib.Core.Bool.{Bool, cond, false, true}
+use mathlib.Core.Bool.{Bool, _&&_, cond, false, true}
 use mathlib.Core.List.{List, [], _++_, _∷_, append-nil}
 use mathlib.Core.Path.{_∙_, _≡_, ap, refl, sym}
 use native.Mathlib.Decide.{decLt}
 use native.Mathlib.Numerals.{add-one}
 use native.Mathlib.Omega.{arith}
 use borrow.Author.Tests.{le-ltb, lt-ltb}
-use lib.Dec.{eqb}
+use lib.Dec.{eqb, ltb}
 use lib.ListN.{drop, drop-of-length-le, getD, length, set, take}
 use lib.Seq.{drop-cons, set-out, take-suc-set}
+use Rattle.model.specs.Counts.{takeable}
 use Rattle.model.specs.Entry.{endMark}
 use Rattle.model.specs.Plan.{freeBelow, ifFree}
 use Rattle.model.specs.Tree.{times}
 use Rattle.model.specs.View.{Link, linkOf, topBit}
 use Rattle.model.specs.Writes.{wordTo}
+use Rattle.model.proofs.Equality.{and-l, and-r, tf}
 use Rattle.model.proofs.Frame.{hit-self}
 use Rattle.tree.specs.Slots.{nextOf}
 use Rattle.change.specs.Words.{chained, clearedFrom}
 
--- ---- free clusters
-abbrev pub freeUpTo : List ℕ → ℕ → List ℕ
-freeUpTo table c = freeBelow (λ x. linkOf (getD table x 0)) c
+-- ---- free clusters below a limit
+abbrev pub freeUpTo : ℕ → List ℕ → ℕ → List ℕ
+freeUpTo limit table c = freeBelow (takeable (λ x. ltb x limit) (λ x. linkOf (getD table x 0))) c
 
-pub none-yet : (table : List ℕ) → [] ≡ freeUpTo table 0
+pub none-yet : (limit : ℕ) (table : List ℕ) → [] ≡ freeUpTo limit table 0
 unfolding freeBelow
-none-yet table = refl
+none-yet limit table = refl
 
-module _ (table list : List ℕ) (count c : ℕ) (found : take count list ≡ freeUpTo table c) where
-  pub one-more : count < length list → getD table c 0 < topBit → take (count + 1) (set list count c) ≡ freeUpTo table (c + 1)
+module _ (limit : ℕ) (table list : List ℕ) (count c : ℕ) (found : take count list ≡ freeUpTo limit table c) where
+  pub one-more : count < length list → (ltb c limit && ltb (getD table c 0) topBit) ≡ true → take (count + 1) (set list count c) ≡ freeUpTo limit table (c + 1)
   unfolding freeBelow
-  one-more room low =
-      rw (add-one count, add-one c, lt-ltb (getD table c 0) topBit low) (take-suc-set list count c room ∙ ap (λ (l : List ℕ). l ++ (c ∷ [])) found)
+  one-more room test =
+      rw (add-one count, add-one c, and-l (ltb c limit) _ test, and-r (ltb c limit) _ test) (take-suc-set list count c room ∙ ap (λ (l : List ℕ). l ++ (c ∷ [])) found)
 
-  pub not-one : topBit ≤ getD table c 0 → take count list ≡ freeUpTo table (c + 1)
+  pub not-one : (ltb c limit && ltb (getD table c 0) topBit) ≡ false → take count list ≡ freeUpTo limit table (c + 1)
   unfolding freeBelow
-  not-one high = rw (add-one c, le-ltb (getD table c 0) topBit high) (found ∙ go (eqb (getD table c 0) endMark))
+  not-one test = rw (add-one c) (found ∙ go (ltb c limit) (ltb (getD table c 0) topBit) (eqb (getD table c 0) endMark) test)
     where
-      go : (b : Bool) → freeUpTo table c ≡ freeUpTo table c ++ ifFree (cond b Link.last (Link.next (getD table c 0 - topBit))) c
-      go false = sym (append-nil (freeUpTo table c))
-      go true = sym (append-nil (freeUpTo table c))
+      go : (below low last : Bool) → (below && low) ≡ false
+          → freeUpTo limit table c ≡ freeUpTo limit table c ++ ifFree (cond below (cond low Link.free (cond last Link.last (Link.next (getD table c 0 - topBit)))) Link.last) c
+      go true true last e = tf refl e
+      go true false true e = sym (append-nil (freeUpTo limit table c))
+      go true false false e = sym (append-nil (freeUpTo limit table c))
+      go false low last e = sym (append-nil (freeUpTo limit table c))
 
 -- ---- a chain linked, from its last cluster to its first
 pub nothing-linked : (clusters table : List ℕ) → (table ≡ chained (drop (length clusters) clusters) table) × (endMark ≡ wordTo (drop (length clusters) clusters))

@@ -70,8 +70,8 @@ contentsOf false directory dead time bytes = bytes
 contentsOf true directory dead time bytes = dotsOf (directory .first) (numberBy dead (entriesOf directory)) time
 
 -- enough clusters are free
-abbrev pub enough : List ℕ → ℕ → Bool
-enough table need = leb need (length (freeList table))
+abbrev pub enough : Superblock → List ℕ → ℕ → Bool
+enough s table need = leb need (length (freeList s table))
 
 -- the clusters that a new entry needs
 abbrev pub needOf : EntryAt → Place → List ℕ → ℕ
@@ -81,11 +81,11 @@ module _ (s : Superblock) (image table : List ℕ) where
   -- ---- a new entry: 12 where fewer clusters are free than it needs
   abbrev pub addedImage : EntryAt → NewEntry → List ℕ → Name → List ℕ → List ℕ
   addedImage directory new time name bytes =
-      imageBy s image (addedWrites table directory new time name bytes) (addedTable table directory (new .dead) bytes)
+      imageBy s image (addedWrites s table directory new time name bytes) (addedTable s table directory (new .dead) bytes)
 
   abbrev pub added : EntryAt → NewEntry → List ℕ → Name → List ℕ → Outcome
   added directory new time name bytes =
-      pickOutcome (enough table (needOf directory (new .dead) bytes)) (doneWith (addedImage directory new time name bytes)) (refusedBy 12 image)
+      pickOutcome (enough s table (needOf directory (new .dead) bytes)) (doneWith (addedImage directory new time name bytes)) (refusedBy 12 image)
 
   -- what the code knows of a new entry: its numbers fit, and its pages land
   pub record CanAdd (directory : EntryAt) (new : NewEntry) (time name bytes : List ℕ) : Type 0 where
@@ -94,8 +94,8 @@ module _ (s : Superblock) (image table : List ℕ) where
     pub few-entries : entriesOf directory ≤ 2 * mostClusters
     pub low-last : lastOf table directory < topBit
     pub low-slot : numberBy (new .dead) (entriesOf directory) ≤ 2 * mostClusters
-    pub small : enough table (needOf directory (new .dead) bytes) ≡ true → new .count < wordLimit
-    pub lands : enough table (needOf directory (new .dead) bytes) ≡ true → Lands (s .end) (addedWrites table directory new time name bytes)
+    pub small : enough s table (needOf directory (new .dead) bytes) ≡ true → new .count < wordLimit
+    pub lands : enough s table (needOf directory (new .dead) bytes) ≡ true → Lands (s .end) (addedWrites s table directory new time name bytes)
 
   -- 11 where the name is there, 10 where a file stands in the directory's place
   abbrev pub unlessThere : Place → Outcome → Outcome
@@ -121,13 +121,13 @@ module _ (s : Superblock) (image table : List ℕ) where
   -- ---- an entry that stands: 10 where it is of the other kind
   abbrev pub replacedImage : EntryAt → EntryAt → List ℕ → List ℕ → List ℕ
   replacedImage directory entry time bytes =
-      imageBy s image (replacedWrites table directory entry time bytes) (replacedTable table entry bytes)
+      imageBy s image (replacedWrites s table directory entry time bytes) (replacedTable s table entry bytes)
 
   -- 12 where too few clusters are free; the old ones do not help
   abbrev pub replacedEntry : EntryAt → EntryAt → List ℕ → List ℕ → Outcome
   replacedEntry directory entry time bytes =
       pickOutcome (isDirectory (entryOf (entry .page))) (refusedBy 10 image)
-      (pickOutcome (enough table (clustersFor (length bytes))) (doneWith (replacedImage directory entry time bytes)) (refusedBy 12 image))
+      (pickOutcome (enough s table (clustersFor (length bytes))) (doneWith (replacedImage directory entry time bytes)) (refusedBy 12 image))
 
   abbrev pub removedImage : EntryAt → EntryAt → ℕ → List ℕ
   removedImage directory entry count = imageBy s image (removedWrites directory entry) (removedTable table entry count)
@@ -155,7 +155,7 @@ module _ (s : Superblock) (image table : List ℕ) where
   -- what the code knows of the entry: where none of these is met, its pages land
   abbrev pub EditLands : Action → EntryAt → List ℕ → List ℕ → EntryAt → Type 0
   EditLands action.Replace directory time bytes entry =
-      isDirectory (entryOf (entry .page)) ≡ false → enough table (clustersFor (length bytes)) ≡ true → Lands (s .end) (replacedWrites table directory entry time bytes)
+      isDirectory (entryOf (entry .page)) ≡ false → enough s table (clustersFor (length bytes)) ≡ true → Lands (s .end) (replacedWrites s table directory entry time bytes)
   EditLands action.Delete directory time bytes entry =
       isDirectory (entryOf (entry .page)) ≡ false → Lands (s .end) (removedWrites directory entry)
   EditLands action.Remove directory time bytes entry =

@@ -56,9 +56,9 @@ pub record Open (s : Superblock) (image table : List ℕ) : Type 0 where
   pub opened : openCard (s .geometry .format) image ≡ ok s
   pub long : length table ≡ s .end
 
--- all free clusters in a list, and as many as are needed
-pub record Listed (table list : List ℕ) (need : ℕ) : Type 0 where
-  pub listed : list ≡ freeList table
+-- all free clusters that may be taken in a list, and as many as are needed
+pub record Listed (s : Superblock) (table list : List ℕ) (need : ℕ) : Type 0 where
+  pub listed : list ≡ freeList s table
   pub room : need ≤ length list
 
 -- as many clusters as the data needs, and pages that land
@@ -95,11 +95,11 @@ abbrev pub entriesOf : EntryAt → ℕ
 entriesOf directory = word (directory .page) 4
 
 -- the clusters for the directory's growth, and those for the entry's own data
-abbrev pub growthOf : List ℕ → EntryAt → Place → List ℕ
-growthOf table directory dead = take (growthBy dead (entriesOf directory)) (freeList table)
+abbrev pub growthOf : Superblock → List ℕ → EntryAt → Place → List ℕ
+growthOf s table directory dead = take (growthBy dead (entriesOf directory)) (freeList s table)
 
-abbrev pub takenOf : List ℕ → EntryAt → Place → List ℕ → List ℕ
-takenOf table directory dead bytes = take (clustersFor (length bytes)) (drop (growthBy dead (entriesOf directory)) (freeList table))
+abbrev pub takenOf : Superblock → List ℕ → EntryAt → Place → List ℕ → List ℕ
+takenOf s table directory dead bytes = take (clustersFor (length bytes)) (drop (growthBy dead (entriesOf directory)) (freeList s table))
 
 -- the last cluster of the directory's chain
 abbrev pub lastOf : List ℕ → EntryAt → ℕ
@@ -110,14 +110,14 @@ abbrev pub lengthWrite : EntryAt → ℕ → PageWrite
 lengthWrite directory length =
     record { always = false; page = directory .at; bytes = alteredPage (directory .page) (withLength (entryOf (directory .page)) length) }
 
-abbrev pub addedTable : List ℕ → EntryAt → Place → List ℕ → List ℕ
-addedTable table directory dead bytes =
-    relinked 0 0 (takenOf table directory dead bytes) (lastOf table directory) (growthOf table directory dead) table
+abbrev pub addedTable : Superblock → List ℕ → EntryAt → Place → List ℕ → List ℕ
+addedTable s table directory dead bytes =
+    relinked 0 0 (takenOf s table directory dead bytes) (lastOf table directory) (growthOf s table directory dead) table
 
-abbrev pub addedWrites : List ℕ → EntryAt → NewEntry → List ℕ → List ℕ → List ℕ → List PageWrite
-addedWrites table directory new time name bytes =
-    let growth = growthOf table directory (new .dead) in
-    let taken = takenOf table directory (new .dead) bytes in
+abbrev pub addedWrites : Superblock → List ℕ → EntryAt → NewEntry → List ℕ → List ℕ → List ℕ → List PageWrite
+addedWrites s table directory new time name bytes =
+    let growth = growthOf s table directory (new .dead) in
+    let taken = takenOf s table directory (new .dead) bytes in
     writesOf growth taken bytes (lengthWrite directory (lengthBy (new .dead) (entriesOf directory)))
     (record {
       always = true;
@@ -131,13 +131,13 @@ abbrev pub keptWrite : EntryAt → PageWrite
 keptWrite directory = lengthWrite directory ((entryOf (directory .page)) .length)
 
 -- replacing takes new clusters and gives back the old ones
-abbrev pub replacedTable : List ℕ → EntryAt → List ℕ → List ℕ
-replacedTable table entry bytes =
-    relinked (entry .first) (clustersFor (word (entry .page) 4)) (take (clustersFor (length bytes)) (freeList table)) 0 [] table
+abbrev pub replacedTable : Superblock → List ℕ → EntryAt → List ℕ → List ℕ
+replacedTable s table entry bytes =
+    relinked (entry .first) (clustersFor (word (entry .page) 4)) (take (clustersFor (length bytes)) (freeList s table)) 0 [] table
 
-abbrev pub replacedWrites : List ℕ → EntryAt → EntryAt → List ℕ → List ℕ → List PageWrite
-replacedWrites table directory entry time bytes =
-    let taken = take (clustersFor (length bytes)) (freeList table) in
+abbrev pub replacedWrites : Superblock → List ℕ → EntryAt → EntryAt → List ℕ → List ℕ → List PageWrite
+replacedWrites s table directory entry time bytes =
+    let taken = take (clustersFor (length bytes)) (freeList s table) in
     writesOf [] taken bytes (keptWrite directory)
     (record { always = false; page = entry .at; bytes = alteredPage (entry .page) ((newContents (entryOf (entry .page)) time bytes taken) .entry) })
 

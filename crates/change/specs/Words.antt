@@ -2,14 +2,16 @@
 use Prim.Native.Nat.{ℕ, zero, suc, _%_}
 use mathlib.Core.List.{List, [], _∷_}
 use lib.ListN.{getD, length, set}
+use Rattle.layout.specs.declared.Superblock.{Superblock}
+use Rattle.model.specs.Counts.{mayTakeOn, takeable}
 use Rattle.model.specs.Plan.{freeBelow}
 use Rattle.model.specs.View.{linkOf, topBit}
 use Rattle.model.specs.Writes.{wordTo}
 use Rattle.tree.specs.Slots.{nextOf}
 
--- the free clusters of a table, ascending
-abbrev pub freeList : List ℕ → List ℕ
-freeList table = freeBelow (λ c. linkOf (getD table c 0)) (length table)
+-- the free clusters of a card's table that may be taken, ascending
+abbrev pub freeList : Superblock → List ℕ → List ℕ
+freeList s table = freeBelow (takeable (mayTakeOn (s .clusters) (s .end)) (λ c. linkOf (getD table c 0))) (length table)
 
 -- A table in which each of the clusters leads to the next one and the last has the end mark; one outside the table is passed over.
 unfoldable pub chained : List ℕ → List ℕ → List ℕ

@@ -43,7 +43,7 @@ fn add_listed(
     name: &[u8],
     bytes: &[u8],
 )
-    requires { ⌜ Listed (now table) (now list) (needOf directory (new .dead) (now bytes)) × CanAdd s (now image) (now table) directory new (now time) (now name) (now bytes) ⌝ }
+    requires { ⌜ Listed s (now table) (now list) (needOf directory (new .dead) (now bytes)) × CanAdd s (now image) (now table) directory new (now time) (now name) (now bytes) ⌝ }
     ensures { λ _. ⌜ now (image .exit) ≡ addedImage s (now (image .entry)) (now (table .entry)) directory new (now (time .entry)) (now (name .entry)) (now (bytes .entry)) ⌝ }
 {
     let entries = word_at(&directory.page, 0x04);
@@ -92,7 +92,7 @@ fn add(
     ensures { λ r. ⌜ Leaves (added s (now (image .entry)) (now (table .entry)) directory new (now (time .entry)) (now (name .entry)) (now (bytes .entry))) r (now (image .exit)) ⌝ }
 {
     let mut list = [0u32; MOST_CLUSTERS];
-    let free = collect_free(table, &mut list);
+    let free = collect_free(table, s, &mut list);
     let dead = new.dead;
     if free < clusters_for(bytes.len()) + growth_by(dead, word_at(&directory.page, 0x04)) {
         return Answer::Refused(Refusal::NoRoom);

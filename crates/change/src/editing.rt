@@ -51,7 +51,7 @@ fn replace_listed(
     time: &[u8],
     bytes: &[u8],
 )
-    requires { ⌜ Open s (now image) (now table) × Listed (now table) (now list) (clustersFor (length (now bytes))) × Lands (s .end) (replacedWrites (now table) directory entry (now time) (now bytes)) ⌝ }
+    requires { ⌜ Open s (now image) (now table) × Listed s (now table) (now list) (clustersFor (length (now bytes))) × Lands (s .end) (replacedWrites s (now table) directory entry (now time) (now bytes)) ⌝ }
     ensures { λ _. ⌜ now (image .exit) ≡ replacedImage s (now (image .entry)) (now (table .entry)) directory entry (now (time .entry)) (now (bytes .entry)) ⌝ }
 {
     let own = clusters_for(bytes.len());
@@ -98,7 +98,7 @@ fn replace_entry(
         return Answer::Refused(Refusal::WrongKind);
     }
     let mut list = [0u32; MOST_CLUSTERS];
-    let free = collect_free(table, &mut list);
+    let free = collect_free(table, s, &mut list);
     if free < clusters_for(bytes.len()) {
         return Answer::Refused(Refusal::NoRoom);
     }

@@ -1,4 +1,6 @@
 // The allocation table in memory: its free clusters, chains linked and freed.
+use layout::Superblock;
+use reached::take_limit;
 use tree::slots::next_of;
 ghost use mathlib.Core.Path.{_≡_};
 ghost use Prim.Native.Nat.{ℕ, _≤_};
@@ -7,15 +9,16 @@ ghost use Rattle.model.specs.Tree.{times};
 ghost use Rattle.model.specs.View.{mostClusters, topBit};
 ghost use Rattle.change.specs.Words.{chained, clearedFrom, freeList};
 
-// The free clusters of a table, ascending, into a list with room for all; how many there are.
-pub(crate) fn collect_free(table: &[u32], list: &mut [u32]) -> usize
+// The free clusters of a card's table that may be taken, ascending, into a list with room for all; how many there are.
+pub(crate) fn collect_free(table: &[u32], s: Superblock, list: &mut [u32]) -> usize
     requires { ⌜ (length (now table) ≤ length (now list)) × (length (now table) ≤ mostClusters) ⌝ }
-    ensures { λ r. ⌜ (r ≡ length (freeList (now (table .entry)))) × (take r (now (list .exit)) ≡ freeList (now (table .entry))) ⌝ }
+    ensures { λ r. ⌜ (r ≡ length (freeList s (now (table .entry)))) × (take r (now (list .exit)) ≡ freeList s (now (table .entry))) ⌝ }
 {
+    let limit = take_limit(s.clusters, s.end as usize);
     let mut count: usize = 0;
     let mut c: usize = 0;
     while c < table.len() {
-        if table[c] < 0x8000_0000 {
+        if (c < limit) & (table[c] < 0x8000_0000) {
             list[count] = c as u32;
             count += 1;
         }

@@ -15,27 +15,24 @@ use Rattle.layout.specs.See.{checkImage, see}
 use Rattle.page.specs.Page.{clusterBytes}
 use Rattle.layout.proofs.OpenFacts.{open-facts}
 use Rattle.layout.proofs.Stages.{not-ok}
-use Rattle.model.proofs.CheckHolds.{check-holds}
+use Rattle.model.proofs.CheckHolds.{ok-inj}
 use Rattle.model.proofs.ClaimsHold.{change-keeps, demand-3-holds}
-use Rattle.model.proofs.SlotOfName.{total-times}
 use Rattle.model.specs.Change.{Change, creates, path, standingAfter}
 use Rattle.model.specs.Check.{Marks, Result, andThen, fault, ok}
 use Rattle.model.specs.Claims as model
-use Rattle.model.specs.Claims.{clustersBack, givenBack}
-use Rattle.model.specs.Counts.{isFree, totalBelow}
-use Rattle.model.specs.Lookup.{Found, absent, found, lookUp, tell}
+use Rattle.model.specs.Claims.{chainBack}
+use Rattle.model.specs.Counts.{freeCount, heldCount, mayTakeOn}
 use Rattle.model.specs.Names.{Path, beginning, samePath}
 use Rattle.model.specs.Perform.{done, perform}
-use Rattle.model.specs.Plan.{Plan, freeOf, planOf}
+use Rattle.model.specs.Plan.{Plan, freeOf, heldOf, planOf, returned, withheld}
 use Rattle.model.specs.Refusal.{needed, refusal}
 use Rattle.model.specs.Standing.{standingsOf, treeOf}
-use Rattle.model.specs.Tree.{Root, chainOf}
-use Rattle.model.specs.View.{View}
-use Rattle.tree.specs.Counted.{checkOf, countsIn}
+use Rattle.model.specs.Tree.{Root}
+use Rattle.model.specs.View.{Link, View}
+use Rattle.tree.specs.Counted.{checkOf, countsIn, superblockIn}
 use Rattle.tree.specs.declared.Counts.{Counts}
-use Rattle.claims.proofs.PathFinds.{not-free}
-use Rattle.claims.specs.Claims.{Accepts, ChangeKeeps, Commute, Demand3, Kept, Order, RefusalLeaves, byTree, clustersOf, final, givenBackBy, imageLeft, takenBy}
-use Rattle.claims.specs.Seen.{freeIn, freeBy, standingIn, treeIn}
+use Rattle.claims.specs.Claims.{Accepts, ChangeKeeps, Commute, Demand3, Kept, Order, RefusalLeaves, byCard, final, givenBackBy, heldBackBy, imageLeft, takenBy}
+use Rattle.claims.specs.Seen.{countBy, freeIn, heldIn, standingIn, treeIn}
 
 -- ---- an accepted image
 pub record Card (format : Format) (image : List ℕ) : Type 0 where
@@ -63,11 +60,18 @@ module _ (format : Format) (image : List ℕ) (s : Superblock) (root : Root) (m 
   unfolding treeIn treeOf
   tree-is q = ap (λ r. standingIn r q) checked ∙ sym (ap (λ r. standingsOf r q) ((checked-parts format image s root m checked) .1))
 
+  -- the counts by the card's rules, whose alloc_end is the superblock's
   pub free-is : freeIn format image ≡ freeOf (rulesOf s) (see s image)
   unfolding freeIn
   free-is =
-      ap freeBy counted
-      ∙ ap (λ n. totalBelow (λ c. isFree ((see s image) .link c)) n) (sym (end-is format image s ((checked-parts format image s root m checked) .0)))
+      ap (countBy (λ c. c .free)) counted
+      ∙ ap (λ n. freeCount (mayTakeOn (s .clusters) (s .end)) n (see s image)) (sym (end-is format image s ((checked-parts format image s root m checked) .0)))
+
+  pub held-is : heldIn format image ≡ heldOf (rulesOf s) (see s image)
+  unfolding heldIn
+  held-is =
+      ap (countBy (λ c. c .held)) counted
+      ∙ ap (λ n. heldCount (mayTakeOn (s .clusters) (s .end)) n (see s image)) (sym (end-is format image s ((checked-parts format image s root m checked) .0)))
 
   pub long-is : length image ≡ clusterBytes (s .geometry .format) * s .clusters
   long-is = (open-facts format image s ((checked-parts format image s root m checked) .0)) .long
@@ -75,25 +79,18 @@ module _ (format : Format) (image : List ℕ) (s : Superblock) (root : Root) (m 
   -- what a change takes and gives back
   pub taken-is : (c : Change) → takenBy format c image ≡ needed c root
   unfolding takenBy
-  taken-is c = ap (byTree (needed c)) checked
+  taken-is c = ap (byCard (λ t r. needed c r)) checked
 
-  pub back-is : (c : Change) → givenBackBy format c image ≡ givenBack (rulesOf s) c root
+  pub back-is : (c : Change) → givenBackBy format c image ≡ returned (rulesOf s) (chainBack c root)
   unfolding givenBackBy
-  back-is c =
-      ap (byTree (λ r. cond (creates c) 0 (tell clustersOf 0 (lookUp r (path c))))) checked
-      ∙ ap (λ (n : ℕ). cond (creates c) 0 n) (go (lookUp root (path c)) refl)
-    where
-      go : (f : Found) → lookUp root (path c) ≡ f → tell clustersOf 0 f ≡ tell (clustersBack (rulesOf s)) 0 f
-      go absent e = refl
-      go (found h t) e =
-          let parts = checked-parts format image s root m checked in
-          let card = (check-holds (see s image) root m (parts .1)) .0 in
-          sym
-          (total-times (chainOf h) ((rulesOf s) .allocEnd)
-          (λ x l. not-free (see s image) root card (path c) h t e x (no-words format image s (parts .0) x l)))
+  back-is c = ap (byCard (λ t r. returned (rulesOf t) (chainBack c r))) checked
+
+  pub held-back-is : (c : Change) → heldBackBy format c image ≡ withheld (rulesOf s) (chainBack c root)
+  unfolding heldBackBy
+  held-back-is c = ap (byCard (λ t r. withheld (rulesOf t) (chainBack c r))) checked
 
   pub room-is : (c : Change)
-      → freeIn format image - takenBy format c image + givenBackBy format c image ≡ freeOf (rulesOf s) (see s image) - needed c root + givenBack (rulesOf s) c root
+      → freeIn format image - takenBy format c image + givenBackBy format c image ≡ freeOf (rulesOf s) (see s image) - needed c root + returned (rulesOf s) (chainBack c root)
   room-is c = rw (free-is, taken-is c, back-is c)
 
 -- ---- one change
@@ -107,8 +104,8 @@ module _ (format : Format) (image : List ℕ) (s : Superblock) (root : Root) (m 
   pub kept : Kept format image c
   kept =
       let parts = checked-parts format image s root m checked in
-      let held : model.Accepted (rulesOf s) (see s image) = record { root = root; marks = m; checked = parts .1; noWords = no-words format image s (parts .0) } in
-      let k = change-keeps (rulesOf s) (see s image) held c (see s (d .after)) (d .performed) in
+      let card : model.Accepted (rulesOf s) (see s image) = record { root = root; marks = m; checked = parts .1; noWords = no-words format image s (parts .0) } in
+      let k = change-keeps (rulesOf s) (see s image) card c (see s (d .after)) (d .performed) in
       record {
         counts = countsIn (s .clusters) (s .end) (see s (d .after)) (d .newRoot);
         again = ap (checkOf format) left ∙ counted format (d .after) s (d .newRoot) (d .newMarks) (d .again);
@@ -118,6 +115,13 @@ module _ (format : Format) (image : List ℕ) (s : Superblock) (root : Root) (m 
             ∙ ap (λ o. cond (samePath q (path c)) (standingAfter c o) o) (sym (tree-is format image s root m checked q));
         room = rw (taken-is format image s root m checked c, free-is format image s root m checked) (k .room);
         free = ap (freeIn format) left ∙ free-is format (d .after) s (d .newRoot) (d .newMarks) (d .again) ∙ k .free ∙ sym (room-is format image s root m checked c);
+        held =
+            ap (heldIn format) left ∙ held-is format (d .after) s (d .newRoot) (d .newMarks) (d .again) ∙ k .held
+            ∙ sym (rw (held-is format image s root m checked, held-back-is format image s root m checked c));
+        untaken = λ t e x n f.
+            let same : s ≡ t = ok-inj s t (sym (ap superblockIn checked) ∙ e) in
+            let free : (see s image) .link x ≡ Link.free = rw same f in
+            rw (← same, left) (k .untaken x (rw same n) free);
       }
 
 pub keeps : ChangeKeeps

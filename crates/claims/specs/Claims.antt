@@ -6,18 +6,21 @@ use mathlib.Core.Logic.{_↔_}
 use mathlib.Core.Path.{_≡_}
 use lib.ListN.{length}
 use Rattle.page.specs.declared.Format.{Format}
-use Rattle.change.specs.Changed.{changed}
+use Rattle.change.specs.Changed.{changed, rulesOf}
 use Rattle.layout.specs.declared.Superblock.{Superblock}
-use Rattle.layout.specs.See.{checkImage}
+use Rattle.layout.specs.See.{checkImage, see}
 use Rattle.model.specs.Change.{Change, Crossed, creates, path, standingAfter}
 use Rattle.model.specs.Check.{Marks, Result, fault, ok}
-use Rattle.model.specs.Lookup.{lookUp, tell}
+use Rattle.model.specs.Claims.{chainBack}
+use Rattle.model.specs.Counts.{mayTakeOn}
 use Rattle.model.specs.Names.{Path, beginning, samePath}
+use Rattle.model.specs.Plan.{returned, withheld}
 use Rattle.model.specs.Refusal.{needed}
-use Rattle.model.specs.Tree.{Root, Slot, Tree, chainOf}
-use Rattle.tree.specs.Counted.{checkOf}
+use Rattle.model.specs.Tree.{Root}
+use Rattle.model.specs.View.{Link}
+use Rattle.tree.specs.Counted.{checkOf, superblockIn}
 use Rattle.tree.specs.declared.Counts.{Counts}
-use Rattle.claims.specs.Seen.{freeIn, treeIn}
+use Rattle.claims.specs.Seen.{freeIn, heldIn, treeIn}
 
 -- ---- one change
 
@@ -28,24 +31,25 @@ imageLeft format c image = (changed format c image) .image
 abbrev pub Accepts : Format → List ℕ → Change → Type 0
 Accepts format image c = (changed format c image) .answer ≡ ok tt
 
--- a number by the tree that the check gives
-abbrev pub byTree : (Root → ℕ) → Result (Superblock × Root × Marks) → ℕ
-byTree count (fault n p) = 0
-byTree count (ok x) = count (x .1)
+-- a number by the superblock and the tree that the check gives
+abbrev pub byCard : (Superblock → Root → ℕ) → Result (Superblock × Root × Marks) → ℕ
+byCard count (fault n p) = 0
+byCard count (ok x) = count (x .0) (x .1)
 
 -- The clusters that a change takes: for its data, one for a new directory, none for a removal, and its directory's growth.
 unfoldable pub takenBy : Format → Change → List ℕ → ℕ
-takenBy format c image = byTree (needed c) (checkImage format image)
+takenBy format c image = byCard (λ s root. needed c root) (checkImage format image)
 
--- The clusters that come back: those of the chain that was at the path, where the change is no creation.
-abbrev pub clustersOf : Slot → Tree → ℕ
-clustersOf slot inside = length (chainOf slot)
-
+-- The clusters of the chain that was at the path, where the change is no creation: those that may be taken again, and those that are held back.
 unfoldable pub givenBackBy : Format → Change → List ℕ → ℕ
-givenBackBy format c image = byTree (λ root. cond (creates c) 0 (tell clustersOf 0 (lookUp root (path c)))) (checkImage format image)
+givenBackBy format c image = byCard (λ s root. returned (rulesOf s) (chainBack c root)) (checkImage format image)
+
+unfoldable pub heldBackBy : Format → Change → List ℕ → ℕ
+heldBackBy format c image = byCard (λ s root. withheld (rulesOf s) (chainBack c root)) (checkImage format image)
 
 -- The image is accepted again and has its length; the change's own path is what the rules say, and every other path stays;
--- as many clusters were free as it takes, and the free count is then the old one less those, plus what came back.
+-- as many clusters were free as it takes, and the free count is then the old one less those, plus what came back and may be taken;
+-- what came back and may not is held back.
 pub record Kept (format : Format) (image : List ℕ) (c : Change) : Type 0 where
   pub counts : Counts
   pub again : checkOf format (imageLeft format c image) ≡ ok counts
@@ -53,6 +57,10 @@ pub record Kept (format : Format) (image : List ℕ) (c : Change) : Type 0 where
   pub paths : (q : Path) → treeIn format (imageLeft format c image) q ≡ cond (samePath q (path c)) (standingAfter c (treeIn format image q)) (treeIn format image q)
   pub room : takenBy format c image ≤ freeIn format image
   pub free : freeIn format (imageLeft format c image) ≡ freeIn format image - takenBy format c image + givenBackBy format c image
+  pub held : heldIn format (imageLeft format c image) ≡ heldIn format image + heldBackBy format c image
+  -- a free table word from the limit up is still free
+  pub untaken : (s : Superblock) → superblockIn (checkImage format image) ≡ ok s → (d : ℕ) → mayTakeOn (s .clusters) (s .end) d ≡ false
+      → (see s image) .link d ≡ Link.free → (see s (imageLeft format c image)) .link d ≡ Link.free
 
 abbrev pub ChangeKeeps : Type 0
 ChangeKeeps = (format : Format) (image : List ℕ) (counts : Counts) → checkOf format image ≡ ok counts → (c : Change) → Accepts format image c → Kept format image c

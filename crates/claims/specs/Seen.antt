@@ -1,4 +1,4 @@
--- What two images are compared by: the tree and the free count, both as the check gives them.
+-- What two images are compared by, as the check gives it: the tree, the free count and the held back one.
 use Prim.Native.Nat.{ℕ}
 use mathlib.Core.List.{List}
 use mathlib.Core.Option.{Option, none}
@@ -20,10 +20,14 @@ standingIn (ok x) q = standsAt (x .1) q
 unfoldable pub treeIn : Format → List ℕ → Path → Option Standing
 treeIn format image q = standingIn (checkImage format image) q
 
--- how many of the alloc_end table words are free
-abbrev pub freeBy : Result Counts → ℕ
-freeBy (fault n p) = 0
-freeBy (ok c) = c .free
+-- a count of an image; 0 where the check refuses it
+abbrev pub countBy : (Counts → ℕ) → Result Counts → ℕ
+countBy count (fault n p) = 0
+countBy count (ok c) = count c
 
+-- how many of the table words below the limit are free, and how many from it up
 unfoldable pub freeIn : Format → List ℕ → ℕ
-freeIn format image = freeBy (checkOf format image)
+freeIn format image = countBy (λ c. c .free) (checkOf format image)
+
+unfoldable pub heldIn : Format → List ℕ → ℕ
+heldIn format image = countBy (λ c. c .held) (checkOf format image)

@@ -18,7 +18,7 @@ pub fn two_flips_unreadable()
     ensures { λ _. ⌜ TwoFlipsUnreadable ⌝ }
 {}
 
-// Free, reached and orphaned clusters of an accepted image add up to the allocatable ones.
+// Free, reached, orphaned and held back clusters of an accepted image add up to the allocatable ones.
 pub fn counts_add_up()
     ensures { λ _. ⌜ CountsAddUp ⌝ }
 {}

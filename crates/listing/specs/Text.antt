@@ -31,7 +31,7 @@ space = 0x20 ∷ []
 abbrev pub newline : List ℕ
 newline = 0x0A ∷ []
 
--- `card `, `free `, `reached `, `orphaned `, `refused `
+-- `card `, `free `, `reached `, `orphaned `, `held `, `refused `
 abbrev pub cardWord : List ℕ
 cardWord = 0x63 ∷ 0x61 ∷ 0x72 ∷ 0x64 ∷ 0x20 ∷ []
 
@@ -43,6 +43,9 @@ reachedWord = 0x72 ∷ 0x65 ∷ 0x61 ∷ 0x63 ∷ 0x68 ∷ 0x65 ∷ 0x64 ∷ 0x2
 
 abbrev pub orphanedWord : List ℕ
 orphanedWord = 0x6F ∷ 0x72 ∷ 0x70 ∷ 0x68 ∷ 0x61 ∷ 0x6E ∷ 0x65 ∷ 0x64 ∷ 0x20 ∷ []
+
+abbrev pub heldWord : List ℕ
+heldWord = 0x68 ∷ 0x65 ∷ 0x6C ∷ 0x64 ∷ 0x20 ∷ []
 
 abbrev pub refusedWord : List ℕ
 refusedWord = 0x72 ∷ 0x65 ∷ 0x66 ∷ 0x75 ∷ 0x73 ∷ 0x65 ∷ 0x64 ∷ 0x20 ∷ []
@@ -78,7 +81,11 @@ treeText path (node (Slot.directory e chain) inside later) =
 
 unfoldable pub countsText : Counts → List ℕ
 countsText c =
-    countLine cardWord (c .clusters) ++ countLine freeWord (c .free) ++ countLine reachedWord (c .reached) ++ countLine orphanedWord (c .orphaned)
+    countLine cardWord (c .clusters)
+    ++ countLine freeWord (c .free)
+    ++ countLine reachedWord (c .reached)
+    ++ countLine orphanedWord (c .orphaned)
+    ++ countLine heldWord (c .held)
 
 -- the root has no line of its own
 abbrev pub cardText : Counts → Root → List ℕ

@@ -21,14 +21,15 @@ fn put_count(out: &mut [u8], at: usize, word: &[u8], number: u64) -> usize
     put_byte(out, b, b'\n')
 }
 
-// N, free, reached and orphaned.
+// N, free, reached, orphaned and held back.
 pub(crate) fn put_counts(out: &mut [u8], at: usize, counts: Counts) -> usize
     ensures { λ r. ⌜ Wrote (now (out .entry)) at (countsText counts) (now (out .exit)) r ⌝ }
 {
     let a = put_count(out, at, b"card ", counts.clusters as u64);
     let b = put_count(out, a, b"free ", counts.free as u64);
     let c = put_count(out, b, b"reached ", counts.reached as u64);
-    put_count(out, c, b"orphaned ", counts.orphaned as u64)
+    let d = put_count(out, c, b"orphaned ", counts.orphaned as u64);
+    put_count(out, d, b"held ", counts.held as u64)
 }
 
 // A letter, the length and the path of an entry.

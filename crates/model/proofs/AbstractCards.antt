@@ -1,9 +1,9 @@
 -- The abstract card of a view: what stands at each path, the room of each directory, and the free count.
 use mathlib.Core.Option.{none}
 use Rattle.model.specs.Change.{Rules}
-use Rattle.model.specs.Counts.{isFree, totalBelow}
+use Rattle.model.specs.Counts.{isFree, takeable, totalBelow}
 use Rattle.model.specs.Lookup.{lookFrom, tell}
-use Rattle.model.specs.Plan.{returned, takeable}
+use Rattle.model.specs.Plan.{returned}
 use Rattle.model.specs.Standing.{standing}
 use Rattle.model.specs.Tree.{Root, Slot, Tree, deadSlots, rootSlot}
 use Rattle.model.specs.View.{View}

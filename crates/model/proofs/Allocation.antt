@@ -7,9 +7,9 @@ use mathlib.Core.Path.{_∙_, _≡_, ap, ap₂, refl}
 use native.Mathlib.Omega.{arith}
 use lib.Dec.{eqb}
 use lib.ListN.{length, length-append}
-use Rattle.model.specs.Counts.{isFree, isOrphan, totalBelow}
+use Rattle.model.specs.Counts.{freeCount, heldCount, isFree, isHeld, orphanCount, reachedCount, takeable, totalBelow}
 use Rattle.model.specs.Holds.{Chain, HoldsCard}
-use Rattle.model.specs.Plan.{freeBelow, freeChain, ifFree, linkTo, takeable, writeChain}
+use Rattle.model.specs.Plan.{freeBelow, freeChain, ifFree, linkTo, writeChain}
 use Rattle.model.specs.Tree.{Root, hit, reached, times}
 use Rattle.model.specs.View.{Link, View}
 use Rattle.model.proofs.CountLaws.{counts, total-add, total-ext}
@@ -97,13 +97,16 @@ set-links w (c ∷ cs) f u h = (
     skip : (d : ℕ) → 1 ≤ times cs d → writeChain (c ∷ cs) f d ≡ writeChain cs f d
     skip d k = ⊎-elim (λ a. absurd (let b : hit c d ≡ 1 = rw a in omega (arith, u d))) (λ a. rw a) (bool (eqb c d))
 
--- Free, held back, reached and orphaned make up the table.
+-- Free, reached, orphaned and held back make up the table.
 pub four-counts : (mayTake : ℕ → Bool) (v : View) (r : Root) → HoldsCard v r → (k : ℕ)
-    → totalBelow (λ c. isFree (takeable mayTake (v .link) c)) k + totalBelow (λ c. cond (mayTake c) 0 (isFree (v .link c))) k + totalBelow (reached r) k + totalBelow (λ c. isOrphan (v .link c) (reached r c)) k ≡ k
+    → freeCount mayTake k v + reachedCount k r + orphanCount k v r + heldCount mayTake k v ≡ k
 four-counts mayTake v r h k =
-    ap (λ n. n + totalBelow (reached r) k + totalBelow (λ c. isOrphan (v .link c) (reached r c)) k)
-    (total-add (λ c. isFree (takeable mayTake (v .link) c)) (λ c. cond (mayTake c) 0 (isFree (v .link c))) k ∙ total-ext _ (λ c. isFree (v .link c)) k (λ c u. one c))
-    ∙ counts v r h k
+    omega (
+      arith,
+      counts v r h k,
+      total-add (λ c. isFree (takeable mayTake (v .link) c)) (λ c. isHeld (mayTake c) (v .link c)) k,
+      total-ext (λ c. isFree (takeable mayTake (v .link) c) + isHeld (mayTake c) (v .link c)) (λ c. isFree (v .link c)) k (λ c u. one c),
+    )
   where
-    one : (c : ℕ) → isFree (takeable mayTake (v .link) c) + cond (mayTake c) 0 (isFree (v .link c)) ≡ isFree (v .link c)
+    one : (c : ℕ) → isFree (takeable mayTake (v .link) c) + isHeld (mayTake c) (v .link c) ≡ isFree (v .link c)
     one c = ⊎-elim (λ (a : mayTake c ≡ true). rw a (omega arith)) (λ (a : mayTake c ≡ false). rw a (omega arith)) (bool (mayTake c))

@@ -1,29 +1,32 @@
 -- The claims of specs/Claims hold: the check, the counts, one change and demand 3.
-use Prim.Native.Nat.{suc, zero, ℕ}
+use Prim.Native.Nat.{_+_, suc, zero, ℕ}
 use mathlib.Core.Bool.{Bool, cond, false, true}
+use mathlib.Core.List.{[]}
 use mathlib.Core.Logic.{_⊎_, inl, inr}
 use mathlib.Core.Option.{some}
 use mathlib.Core.Path.{_∙_, _≡_, ap, fun-ext, refl, sym}
 use native.Mathlib.Omega.{arith}
 use Rattle.model.specs.Change.{Change, Rules, create, delete, makeDirectory, path, removeDirectory, replace, standingAfter}
-use Rattle.model.specs.Claims.{Accepted, AcceptedExactly, ViewChangeKeeps, CheckIsHolding, ViewCommute, ViewCountsAddUp, ViewDemand3, ViewKept, ViewOrder, clustersBack, givenBack}
+use Rattle.model.specs.Claims.{Accepted, AcceptedExactly, ViewChangeKeeps, CheckIsHolding, ViewCommute, ViewCountsAddUp, ViewDemand3, ViewKept, ViewOrder, chainBack, chainIn}
 use Rattle.model.specs.Counts.{totalBelow}
 use Rattle.model.specs.Lookup.{Found, absent, found, lookUp, tell}
 use Rattle.model.specs.Names.{Path, beginning, samePath}
 use Rattle.model.specs.Perform.{Answer, decide, done, perform, performOn, refused, write}
-use Rattle.model.specs.Plan.{after, freeOf, planOf}
+use Rattle.model.specs.Plan.{after, freeOf, heldOf, planOf, returned, withheld}
 use Rattle.model.specs.Refusal.{needed, refusal}
 use Rattle.model.specs.Standing.{standingsOf, treeOf}
 use Rattle.model.specs.Tree.{Slot, reached}
-use Rattle.model.specs.View.{View}
+use Rattle.model.specs.View.{Link, View}
 use Rattle.model.proofs.AbstractCards.{abstractOf, noRoom, roomOfSlot}
+use Rattle.model.proofs.Allocation.{four-counts}
 use Rattle.model.proofs.ChangeActs.{acts}
 use Rattle.model.proofs.ChangeOperations.{Both, demand-3, op}
 use Rattle.model.proofs.CheckHolds.{check-holds, holds-check}
-use Rattle.model.proofs.CountLaws.{counts}
 use Rattle.model.proofs.Equality.{Eq-path, bool}
 use Rattle.model.proofs.Operations.{AbstractCard, Accepts, effect, need}
+use Rattle.model.proofs.Outcome.{Outcome}
 use Rattle.model.proofs.PerformLaws.{Sound, abs-is, absR, abstract, machine, performs, ran, viewOf}
+use Rattle.model.proofs.PlanActs.{held-law, untaken-law}
 use Rattle.model.proofs.Refusals.{needed-is, refusal-accepts}
 
 pub check-is-holding : CheckIsHolding
@@ -34,7 +37,7 @@ check-is-holding =
     }
 
 pub counts-add-up : ViewCountsAddUp
-counts-add-up allocEnd v r m e = counts v r ((check-holds v r m e) .0) allocEnd
+counts-add-up mayTake allocEnd v r m e = four-counts mayTake v r ((check-holds v r m e) .0) allocEnd
 
 module _ (y : Rules) (v : View) (a : Accepted y v) where
   abbrev pub sound-of : Sound y v
@@ -86,29 +89,49 @@ module _ (y : Rules) (v : View) (a : Accepted y v) (c : Change) (w : View) (e : 
       own-path (inl i) = rw i (ap (λ z. standingAfter c ((abstract y v) .look z)) (sym (Eq-path .sound q (path c) i)))
       own-path (inr i) = rw i
 
-  back-is : (op y c) .freed (abstract y v) ≡ givenBack y c (a .root)
+  nothing-back : returned y [] ≡ 0
+  nothing-back = go (y .allocEnd)
+    where
+      none-of : (b : Bool) → _≡_ {A = ℕ} (cond b 0 0) 0
+      none-of true = refl
+      none-of false = refl
+
+      go : (k : ℕ) → totalBelow (λ d. cond (y .mayTake d) 0 0) k ≡ 0
+      go zero = refl
+      go (suc k) = omega (arith, go k, none-of (y .mayTake k))
+
+  back-is : (op y c) .freed (abstract y v) ≡ returned y (chainBack c (a .root))
   back-is = ap ((op y c) .freed) (abs-is y v (sound-of y v a)) ∙ go c
     where
-      at : (g : Found) → (tell (roomOfSlot y) noRoom g) .back ≡ tell (clustersBack y) 0 g
-      at absent = refl
-      at (found Slot.dead s) = sym (nothing (y .allocEnd))
-        where
-          none-of : (b : Bool) → _≡_ {A = ℕ} (cond b 0 0) 0
-          none-of true = refl
-          none-of false = refl
-
-          nothing : (k : ℕ) → totalBelow (λ c. cond (y .mayTake c) 0 0) k ≡ 0
-          nothing zero = refl
-          nothing (suc k) = omega (arith, nothing k, none-of (y .mayTake k))
+      at : (g : Found) → (tell (roomOfSlot y) noRoom g) .back ≡ returned y (tell chainIn [] g)
+      at absent = sym nothing-back
+      at (found Slot.dead s) = sym nothing-back
       at (found (Slot.file e cs ds) s) = refl
       at (found (Slot.directory e cs) s) = refl
 
-      go : (c : Change) → (op y c) .freed (abstractOf y v (a .root)) ≡ givenBack y c (a .root)
-      go (create p t b) = refl
-      go (makeDirectory p t) = refl
+      go : (c : Change) → (op y c) .freed (abstractOf y v (a .root)) ≡ returned y (chainBack c (a .root))
+      go (create p t b) = sym nothing-back
+      go (makeDirectory p t) = sym nothing-back
       go (replace p t b) = at (lookUp (a .root) p)
       go (delete p) = at (lookUp (a .root) p)
       go (removeDirectory p) = at (lookUp (a .root) p)
+
+  -- the change's plan, and the view that it leaves
+  outcome : Outcome y v (a .root) c
+  outcome = let s = sound-of y v a in acts y v (s .0) (s .1) (s .2) c passed
+
+  left : after v (outcome .plan) ≡ w
+  unfolding outcome
+  left = let z : done (after v (outcome .plan)) ≡ done w = sym (performs y c v (sound-of y v a) passed) ∙ e in cc
+
+  held : heldOf y w ≡ heldOf y v + withheld y (chainBack c (a .root))
+  held =
+      ap (heldOf y) (sym left) ∙ held-law y v (a .root) (outcome .plan) (sound-of y v a .1) (outcome .deed .fit) (outcome .pool)
+      ∙ ap (λ cs. heldOf y v + withheld y cs) (outcome .back)
+
+  untaken : (d : ℕ) → y .mayTake d ≡ false → v .link d ≡ Link.free → w .link d ≡ Link.free
+  untaken d n f =
+      ap (λ (u : View). u .link d) (sym left) ∙ untaken-law y v (a .root) (outcome .plan) (sound-of y v a .1) (outcome .deed .fit) (outcome .pool) d n f
 
   pub kept : ViewKept y c v w (a .root)
   unfolding effect
@@ -120,6 +143,8 @@ module _ (y : Rules) (v : View) (a : Accepted y v) (c : Change) (w : View) (e : 
         free =
             sym (free-is y w again) ∙ ap (λ (s : AbstractCard). s .free) (ran-so .2)
             ∙ rw (need-is, free-is y v a, back-is);
+        held = held;
+        untaken = untaken;
       }
 
 pub change-keeps : ViewChangeKeeps

@@ -9,11 +9,12 @@ use lib.Dec.{leb, leb→le, ltb, ltb→lt}
 use lib.ListN.{drop, length, length-drop, length-take, take}
 use Rattle.model.specs.Change.{Change, Rules, create, makeDirectory}
 use Rattle.model.specs.Check.{ok}
+use Rattle.model.specs.Counts.{takeable}
 use Rattle.model.specs.Entry.{Entry, clustersFor, isFile, isSubdirectory}
 use Rattle.model.specs.Holds.{HoldsCard, deepest}
 use Rattle.model.specs.Lookup.{Found, firstDead, pageAtPath}
 use Rattle.model.specs.Names.{Path, dotDotName, dotName, goodName, goodPath, lastName, parent}
-use Rattle.model.specs.Plan.{Plan, adding, after, dotDotEntry, dotEntry, firstOf, freeClusters, growthWithOne, made, newDirectory, newFile, ownClusters, planAt, returned, takeable}
+use Rattle.model.specs.Plan.{Plan, adding, after, dotDotEntry, dotEntry, firstOf, freeClusters, growthWithOne, made, newDirectory, newFile, ownClusters, planAt, returned}
 use Rattle.model.specs.Pages.{dataPages, decoded}
 use Rattle.model.specs.Refusal.{first, static}
 use Rattle.model.specs.Time.{validTime}
@@ -74,7 +75,7 @@ module _ (y : Rules) where
     pub act-create : (p : Path) (t b : List ℕ) → Accepts (op y (create p t b)) σ → Outcome y v r (create p t b)
     unfolding need grown worked taken
     act-create p t b o =
-        record { plan = pl; planned = ap (λ (g : Found). planAt y a v P′ g) (wh .found-so); root = out .0 .0; card = out .0 .1; table = out .0 .2; same = out .0 .3; deed = deed }
+        record { plan = pl; planned = ap (λ (g : Found). planAt y a v P′ g) (wh .found-so); root = out .0 .0; card = out .0 .1; table = out .0 .2; same = out .0 .3; deed = deed; pool = new-free y v γ (clustersFor (length b)); back = refl }
       where
         a : Change
         a = create p t b
@@ -133,7 +134,7 @@ module _ (y : Rules) where
     pub act-mkdir : (p : Path) (t : List ℕ) → Accepts (op y (makeDirectory p t)) σ → Outcome y v r (makeDirectory p t)
     unfolding need grown worked taken
     act-mkdir p t o =
-        record { plan = pl; planned = ap (λ (g : Found). planAt y a v P′ g) (wh .found-so); root = out .0 .0; card = out .0 .1; table = out .0 .2; same = out .0 .3; deed = deed }
+        record { plan = pl; planned = ap (λ (g : Found). planAt y a v P′ g) (wh .found-so); root = out .0 .0; card = out .0 .1; table = out .0 .2; same = out .0 .3; deed = deed; pool = new-free y v γ 1; back = refl }
       where
         a : Change
         a = makeDirectory p t

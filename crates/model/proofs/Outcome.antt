@@ -9,6 +9,7 @@ use native.Mathlib.Omega.{arith}
 use denote.Ref.{now}
 use lib.ListN.{length}
 use Rattle.model.specs.Change.{Change, Rules, path}
+use Rattle.model.specs.Claims.{chainBack}
 use Rattle.model.specs.Entry.{Entry, clustersFor}
 use Rattle.model.specs.Holds.{HoldsCard, HoldsSlot, UniqueNames, deepest}
 use Rattle.model.specs.Lookup.{Found, absent, firstDead, found, indexOf, isNamed, lookIn, tell}
@@ -25,7 +26,7 @@ use Rattle.model.proofs.Equality.{Eq-name, bool}
 use Rattle.model.proofs.LookupLaws.{is-other}
 use Rattle.model.proofs.NewClusters.{room-new, shape-new}
 use Rattle.model.proofs.Operations.{Room, effect, need, take₁, worked}
-use Rattle.model.proofs.PlanActs.{acted, back-append, back-new, gs-long, gs-low, new-free}
+use Rattle.model.proofs.PlanActs.{FromPool, acted, back-append, back-new, gs-long, gs-low, new-free}
 use Rattle.model.proofs.PlanFits.{Shape, fits}
 use Rattle.model.proofs.PlanHolds.{Fits, InTree}
 use Rattle.model.proofs.SlotLaws.{deads-set, get-new, get-none, is-named, named-set, oldName, setSlot}
@@ -57,6 +58,9 @@ module _ (y : Rules) where
     pub table : (c : ℕ) → y .allocEnd ≤ c → (after v plan) .link c ≡ Link.free
     pub same : abstractOf y (after v plan) root ≡ effect (op y a) (abstractOf y v r)
     pub deed : Deed v r plan
+    -- which clusters were taken, and which come back
+    pub pool : FromPool y v plan
+    pub back : plan .given ≡ chainBack a r
 
   module _ (v : View) (r : Root) (h : HoldsCard v r) (tab : (c : ℕ) → y .allocEnd ≤ c → v .link c ≡ Link.free) (a : Change) (wh : Where y v r a) (pos : 0 < length (path a)) where
     abbrev q : Path

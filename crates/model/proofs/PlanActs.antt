@@ -9,12 +9,12 @@ use native.Mathlib.Omega.{arith}
 use lib.Dec.{eqb}
 use lib.ListN.{drop, length, length-drop, length-take}
 use Rattle.model.specs.Change.{Change, Rules, path}
-use Rattle.model.specs.Counts.{isFree, totalBelow}
+use Rattle.model.specs.Counts.{isFree, isHeld, takeable, totalBelow}
 use Rattle.model.specs.Entry.{Entry, endMark}
 use Rattle.model.specs.Holds.{HoldsCard, HoldsSlot}
 use Rattle.model.specs.Lookup.{absent, isNamed, lookFrom, lookIn, tell}
 use Rattle.model.specs.Names.{Name, Path, parent, sameName, samePath}
-use Rattle.model.specs.Plan.{Directory, Edit, Plan, after, firstOf, freeClusters, growthClusters, linkTo, made, ownClusters, returned, takeable, withLength}
+use Rattle.model.specs.Plan.{Directory, Edit, Plan, after, firstOf, freeClusters, freeOf, growthClusters, heldOf, linkTo, made, ownClusters, returned, withLength, withheld}
 use Rattle.model.specs.Standing.{standing}
 use Rattle.model.specs.Tree.{Root, Slot, Tree, deadHit, deadSlots, end, entryPages, nameUses, reached, rootSlot, times}
 use Rattle.model.specs.View.{Link, View}
@@ -33,6 +33,11 @@ use Rattle.model.proofs.SlotLaws.{old-le, oldName, setSlot}
 use Rattle.model.proofs.SlotOfName.{total-times}
 use Rattle.model.proofs.StepHolds.{Step}
 use Rattle.model.proofs.TreePlaces.{Context, down, next, plug, top}
+
+is-free : (l : Link) → 1 ≤ isFree l → l ≡ Link.free
+is-free Link.free h = refl
+is-free Link.last h = absurd (omega arith)
+is-free (Link.next a) h = absurd (omega arith)
 
 module _ (y : Rules) where
   -- the clusters taken
@@ -72,34 +77,50 @@ module _ (y : Rules) where
   start-of (c ∷ fs) h =
       ⊎-elim (λ (a : eqb c endMark ≡ true). absurd (let e : c ≡ endMark = Eq-number .sound c endMark a in omega (arith, h c (omega (arith, y .limited)), hit-self c))) (λ (a : eqb c endMark ≡ false). rw a) (bool (eqb c endMark))
 
-  -- The free count after a change.
-  free-law : (v : View) (r : Root) (p : Plan) {t : InTree} → HoldsCard v r → (k : Fits v (reached r) p t)
-      → ((c : ℕ) → times (p .taken) c + times (p .growth) c ≤ isFree (takeable (y .mayTake) (v .link) c)) → ((c : ℕ) → y .allocEnd ≤ c → times (p .taken) c ≡ 0) → ((c : ℕ) → y .allocEnd ≤ c → times (p .growth) c ≡ 0)
-      → totalBelow (λ c. isFree (takeable (y .mayTake) ((after v p) .link) c)) (y .allocEnd) + (length (p .taken) + length (p .growth))
-      ≡ totalBelow (λ c. isFree (takeable (y .mayTake) (v .link) c)) (y .allocEnd) + returned y (p .given)
-  free-law v r p h k fr lf lg =
-      omega (
-        arith,
-        total-add (λ c. isFree (takeable (y .mayTake) (w .link) c)) (fresh p) (y .allocEnd),
-        total-add (times (p .taken)) (times (p .growth)) (y .allocEnd),
-        total-add (λ c. isFree (takeable (y .mayTake) (v .link) c)) (λ c. cond (y .mayTake c) (times (p .given) c) 0) (y .allocEnd),
-        total-ext (λ c. isFree (takeable (y .mayTake) (w .link) c) + fresh p c) (λ c. isFree (takeable (y .mayTake) (v .link) c) + cond (y .mayTake c) (times (p .given) c) 0) (y .allocEnd) (λ c u. each c),
-        total-times (p .taken) (y .allocEnd) lf,
-        total-times (p .growth) (y .allocEnd) lg,
-      )
-    where
-      w : View
-      w = after v p
+  -- A plan's new clusters are of those that may be taken.
+  abbrev pub FromPool : View → Plan → Type 0
+  FromPool v p = (c : ℕ) → times (p .taken) c + times (p .growth) c ≤ isFree (takeable (y .mayTake) (v .link) c)
 
-      all : (c : ℕ) → isFree (w .link c) + fresh p c ≡ isFree (v .link c) + times (p .given) c
-      all c =
-          free-after v (reached r) p k (λ d u. omega (arith, used-free v r h d)) (λ d u. omega (arith, fr d, pool-le (y .mayTake) (v .link) d, free-le (v .link d))) c
-          ∙ ap (λ n. isFree (v .link c) + n) (sym (k .old c))
+  -- The free and the held back count after a change.
+  module _ (v : View) (r : Root) (p : Plan) {t : InTree} (h : HoldsCard v r) (k : Fits v (reached r) p t) (fr : FromPool v p) where
+    word-law : (c : ℕ) → isFree ((after v p) .link c) + fresh p c ≡ isFree (v .link c) + times (p .given) c
+    word-law c =
+        free-after v (reached r) p k (λ d u. omega (arith, used-free v r h d)) (λ d u. omega (arith, fr d, pool-le (y .mayTake) (v .link) d, free-le (v .link d))) c
+        ∙ ap (λ n. isFree (v .link c) + n) (sym (k .old c))
 
-      each : (c : ℕ) → isFree (takeable (y .mayTake) (w .link) c) + fresh p c ≡ isFree (takeable (y .mayTake) (v .link) c) + cond (y .mayTake c) (times (p .given) c) 0
-      each c =
-          ⊎-elim (λ (a : y .mayTake c ≡ true). rw a (all c))
-          (λ (a : y .mayTake c ≡ false). let z : isFree (takeable (y .mayTake) (v .link) c) ≡ 0 = rw a in rw a (omega (arith, fr c))) (bool (y .mayTake c))
+    free-law : ((c : ℕ) → y .allocEnd ≤ c → times (p .taken) c ≡ 0) → ((c : ℕ) → y .allocEnd ≤ c → times (p .growth) c ≡ 0)
+        → freeOf y (after v p) + (length (p .taken) + length (p .growth)) ≡ freeOf y v + returned y (p .given)
+    free-law lf lg =
+        omega (
+          arith,
+          total-add (λ c. isFree (takeable (y .mayTake) ((after v p) .link) c)) (fresh p) (y .allocEnd),
+          total-add (times (p .taken)) (times (p .growth)) (y .allocEnd),
+          total-add (λ c. isFree (takeable (y .mayTake) (v .link) c)) (λ c. cond (y .mayTake c) (times (p .given) c) 0) (y .allocEnd),
+          total-ext (λ c. isFree (takeable (y .mayTake) ((after v p) .link) c) + fresh p c) (λ c. isFree (takeable (y .mayTake) (v .link) c) + cond (y .mayTake c) (times (p .given) c) 0) (y .allocEnd) (λ c u. each c),
+          total-times (p .taken) (y .allocEnd) lf,
+          total-times (p .growth) (y .allocEnd) lg,
+        )
+      where
+        each : (c : ℕ) → isFree (takeable (y .mayTake) ((after v p) .link) c) + fresh p c ≡ isFree (takeable (y .mayTake) (v .link) c) + cond (y .mayTake c) (times (p .given) c) 0
+        each c =
+            ⊎-elim (λ (a : y .mayTake c ≡ true). rw a (word-law c))
+            (λ (a : y .mayTake c ≡ false). let z : isFree (takeable (y .mayTake) (v .link) c) ≡ 0 = rw a in rw a (omega (arith, fr c))) (bool (y .mayTake c))
+
+    pub untaken-law : (c : ℕ) → y .mayTake c ≡ false → v .link c ≡ Link.free → (after v p) .link c ≡ Link.free
+    untaken-law c a e =
+        let z : isFree (takeable (y .mayTake) (v .link) c) ≡ 0 = rw a in
+        let f : isFree (v .link c) ≡ 1 = rw e in
+        is-free ((after v p) .link c) (omega (arith, fr c, word-law c))
+
+    pub held-law : heldOf y (after v p) ≡ heldOf y v + withheld y (p .given)
+    held-law =
+        total-ext (λ c. isHeld (y .mayTake c) ((after v p) .link c)) (λ c. isHeld (y .mayTake c) (v .link c) + cond (y .mayTake c) 0 (times (p .given) c)) (y .allocEnd) (λ c u. each c)
+        ∙ sym (total-add (λ c. isHeld (y .mayTake c) (v .link c)) (λ c. cond (y .mayTake c) 0 (times (p .given) c)) (y .allocEnd))
+      where
+        each : (c : ℕ) → isHeld (y .mayTake c) ((after v p) .link c) ≡ isHeld (y .mayTake c) (v .link c) + cond (y .mayTake c) 0 (times (p .given) c)
+        each c =
+            ⊎-elim (λ (a : y .mayTake c ≡ true). rw a (omega arith))
+            (λ (a : y .mayTake c ≡ false). let z : isFree (takeable (y .mayTake) (v .link) c) ≡ 0 = rw a in rw a (omega (arith, fr c, word-law c))) (bool (y .mayTake c))
 
   stable : (e e′ : Entry) (cs cs′ : List ℕ) (s s′ : Tree) (x : Slot) (l : Context) → (roomOfSlot y) x (plug l (Slot.directory e′ cs′) s′) ≡ (roomOfSlot y) x (plug l (Slot.directory e cs) s)
   stable e e′ cs cs′ s s′ Slot.dead l = refl
@@ -197,4 +218,4 @@ module _ (y : Rules) where
       lr m l = level-law (roomOfSlot y) noRoom (u .index) x s nm (ft .low) (ft .uniq) hx ho hb m l ∙ ap (λ b. cond (samePath (m ∷ l) (nm ∷ [])) b (tell (roomOfSlot y) noRoom (lookIn s (m ∷ l)))) rn
 
       fq : totalBelow (λ c. isFree (takeable (y .mayTake) (w .link) c)) (y .allocEnd) ≡ (abstractOf y v r) .free - need (op y a) (abstractOf y v r) + (op y a) .freed (abstractOf y v r)
-      fq = omega (arith, free-law v r p h ft (λ c. new-free v (u .growing) (u .own) c) (λ c l. fs-low v (u .growing) (u .own) c l) (λ c l. gs-low v (u .growing) c l), fs-long v (u .growing) (u .own) room, gs-long v (u .growing) (u .own) room, length-free (takeable (y .mayTake) (v .link)) (y .allocEnd))
+      fq = omega (arith, free-law v r p h ft (new-free v (u .growing) (u .own)) (λ c l. fs-low v (u .growing) (u .own) c l) (λ c l. gs-low v (u .growing) c l), fs-long v (u .growing) (u .own) room, gs-long v (u .growing) (u .own) room, length-free (takeable (y .mayTake) (v .link)) (y .allocEnd))

@@ -9,10 +9,11 @@ use lib.Dec.{eqb}
 use lib.ListN.{drop, getD, length, length-append, length-take, take}
 use lib.Seq.{drop-append-le, getD-append-seam, take-append-le, take-suc}
 use Rattle.model.specs.Change.{Rules}
+use Rattle.model.specs.Counts.{takeable}
 use Rattle.model.specs.Entry.{Entry, directoryClusters}
 use Rattle.model.specs.Holds.{Chain, DotEntries, HoldsCard, HoldsSlots, UniqueNames}
 use Rattle.model.specs.Names.{Path}
-use Rattle.model.specs.Plan.{Directory, Edit, freeClusters, growthClusters, linkTo, made, ownClusters, takeable, withLength}
+use Rattle.model.specs.Plan.{Directory, Edit, freeClusters, growthClusters, linkTo, made, ownClusters, withLength}
 use Rattle.model.specs.Tree.{Root, Slot, Tree, chainOf, end, entryPages, hit, node, reached, slotCount, times}
 use Rattle.model.specs.View.{Link, View, pagesOf}
 use Rattle.model.proofs.Allocation.{free-times, pool-le, times-append}

@@ -9,6 +9,7 @@ use native.Mathlib.Omega.{arith}
 use lib.ListN.{getD, length, length-drop, length-take, take}
 use Rattle.model.specs.Change.{Change, Rules, delete, path, removeDirectory}
 use Rattle.model.specs.Check.{ok}
+use Rattle.model.specs.Claims.{chainIn}
 use Rattle.model.specs.Entry.{Entry, isLive}
 use Rattle.model.specs.Holds.{HoldsCard, HoldsSlot, HoldsSlots, deepest}
 use Rattle.model.specs.Lookup.{Found, absent, found, indexOf, lookIn, pageAtPath, tell}
@@ -25,7 +26,7 @@ use Rattle.model.proofs.Equality.{Eq-number, and-l}
 use Rattle.model.proofs.NewClusters.{p-used}
 use Rattle.model.proofs.Operations.{AbstractCard, Accepts, Room, effect, grown, need, taken, worked}
 use Rattle.model.proofs.Outcome.{Deed, Outcome, Work, changed}
-use Rattle.model.proofs.PlanActs.{fs-low, gs-low}
+use Rattle.model.proofs.PlanActs.{fs-low, gs-low, new-free}
 use Rattle.model.proofs.PlanFits.{length-pages, rep-length}
 use Rattle.model.proofs.PlanHolds.{Fits}
 use Rattle.model.proofs.SlotLaws.{get-none}
@@ -83,6 +84,8 @@ module _ (y : Rules) where
               table = out .0 .2;
               same = out .0 .3;
               deed = deed;
+              pool = new-free y v 0 0;
+              back = sym (ap (tell chainIn []) (wh .at ∙ g));
             }
           where
             pl : Plan
@@ -143,6 +146,8 @@ module _ (y : Rules) where
               table = out .0 .2;
               same = out .0 .3;
               deed = deed;
+              pool = new-free y v 0 0;
+              back = sym (ap (tell chainIn []) (wh .at ∙ g));
             }
           where
             pl : Plan

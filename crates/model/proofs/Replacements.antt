@@ -9,11 +9,13 @@ use native.Mathlib.Omega.{arith}
 use lib.ListN.{length}
 use Rattle.model.specs.Change.{Change, Rules, replace, replaced}
 use Rattle.model.specs.Check.{ok}
+use Rattle.model.specs.Claims.{chainIn}
+use Rattle.model.specs.Counts.{takeable}
 use Rattle.model.specs.Entry.{Entry, clustersFor, hasBit, isFile, isLive}
 use Rattle.model.specs.Holds.{HoldsCard, HoldsSlot, HoldsSlots, deepest}
 use Rattle.model.specs.Lookup.{Found, found, indexOf, lookIn, pageAtPath, tell}
 use Rattle.model.specs.Names.{Path, goodName, goodPath, lastName, parent}
-use Rattle.model.specs.Plan.{Plan, after, altering, editFor, freeClusters, made, newContents, ownClusters, planAt, planBy, takeable}
+use Rattle.model.specs.Plan.{Plan, after, altering, editFor, freeClusters, made, newContents, ownClusters, planAt, planBy}
 use Rattle.model.specs.Pages.{dataPages}
 use Rattle.model.specs.Refusal.{first, static}
 use Rattle.model.specs.Standing.{Standing, content, fieldsOf, standing}
@@ -30,7 +32,7 @@ use Rattle.model.proofs.NewClusters.{empty-or, held-file, p-used}
 use Rattle.model.proofs.Operations.{AbstractCard, Accepts, Room, effect, grown, need, taken, worked}
 use Rattle.model.proofs.Outcome.{Deed, Outcome, Work, changed}
 use Rattle.model.proofs.PageBytes.{length-data}
-use Rattle.model.proofs.PlanActs.{fs-long, fs-low, gs-low, start-of}
+use Rattle.model.proofs.PlanActs.{fs-long, fs-low, gs-low, new-free, start-of}
 use Rattle.model.proofs.PlanHolds.{Fits}
 use Rattle.model.proofs.SlotOfName.{SlotOf, nil-end, slot-of}
 
@@ -83,6 +85,8 @@ module _ (y : Rules) where
               table = out .0 .2;
               same = out .0 .3;
               deed = deed;
+              pool = new-free y v 0 (clustersFor (length b));
+              back = sym (ap (tell chainIn []) (wh .at ∙ g));
             }
           where
             pl : Plan

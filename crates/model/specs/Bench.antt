@@ -1,4 +1,4 @@
--- The bench card (RULES, "Numbers to meet") as a view: 30 allocatable clusters, only a root of length 2. Its numbers to meet.
+-- The bench card (RULES, "Numbers to meet") as a view: 56 clusters, 30 of them allocatable, only a root of length 2. Its numbers to meet.
 use Prim.Native.Nat.{ℕ}
 use mathlib.Core.Bool.{cond}
 use mathlib.Core.List.{List, [], _∷_}
@@ -8,17 +8,17 @@ use lib.Dec.{eqb, lit≤}
 use lib.ListN.{length, replicate}
 use Rattle.model.specs.Change.{Change, Rules, baseRules, create, delete, directoryMode, makeDirectory, size}
 use Rattle.model.specs.Check.{Marks, Result, checkTree, fault, ok}
-use Rattle.model.specs.Counts.{orphanCount, reachedCount}
+use Rattle.model.specs.Counts.{mayTakeOn, orphanCount, reachedCount}
 use Rattle.model.specs.Entry.{Entry, entryOf}
 use Rattle.model.specs.Names.{Name, Path, dotDotName, dotName}
 use Rattle.model.specs.Pages.{newPage, zeroPage}
 use Rattle.model.specs.Perform.{done, perform, refused}
-use Rattle.model.specs.Plan.{freeOf, newEntry}
+use Rattle.model.specs.Plan.{freeOf, heldOf, newEntry}
 use Rattle.model.specs.Tree.{Root}
 use Rattle.model.specs.View.{Link, View}
 
 abbrev pub benchRules : Rules
-benchRules = baseRules 30 (lit≤ tt)
+benchRules = baseRules 30 (lit≤ tt) (mayTakeOn 56 30)
 
 abbrev pub benchEntry : ℕ → Name → Entry
 benchEntry length n = newEntry directoryMode length 0 0 (replicate 8 0) n
@@ -54,10 +54,10 @@ pathSaveA = (0x53 ∷ 0x41 ∷ 0x56 ∷ 0x45 ∷ []) ∷ (0x41 ∷ []) ∷ []
 abbrev pub bytes : ℕ → List ℕ
 bytes size = replicate size 7
 
--- free, reached and orphaned; or the refusal's number alone
+-- free, reached, orphaned and held back; or the refusal's number alone
 abbrev pub countsOf : View → Result (Root × Marks) → List ℕ
 countsOf v (fault n p) = n ∷ []
-countsOf v (ok x) = freeOf benchRules v ∷ reachedCount 30 (x .0) ∷ orphanCount 30 v (x .0) ∷ []
+countsOf v (ok x) = freeOf benchRules v ∷ reachedCount 30 (x .0) ∷ orphanCount 30 v (x .0) ∷ heldOf benchRules v ∷ []
 
 -- the counts after changes in turn, each accepted; or the number of the first that is refused
 abbrev pub countsAfter : List Change → View → List ℕ
@@ -65,11 +65,11 @@ countsAfter [] v = countsOf v (checkTree v)
 countsAfter (c ∷ cs) v = elim (perform benchRules c v) [ refused n p ↦ n ∷ [] | done w ↦ countsAfter cs w ]
 
 pub record BenchNumbers : Type 0 where
-  pub fresh : countsAfter [] bench ≡ 29 ∷ 1 ∷ 0 ∷ []
-  pub full : countsAfter (create pathA benchTime (bytes 28672) ∷ []) bench ≡ 0 ∷ 30 ∷ 0 ∷ []
+  pub fresh : countsAfter [] bench ≡ 29 ∷ 1 ∷ 0 ∷ 0 ∷ []
+  pub full : countsAfter (create pathA benchTime (bytes 28672) ∷ []) bench ≡ 0 ∷ 30 ∷ 0 ∷ 0 ∷ []
   pub tooMuch : countsAfter (create pathA benchTime (bytes 28673) ∷ []) bench ≡ 12 ∷ []
-  pub fullAgain : countsAfter (create pathA benchTime (bytes 28672) ∷ delete pathA ∷ create pathA benchTime (bytes 28672) ∷ []) bench ≡ 0 ∷ 30 ∷ 0 ∷ []
+  pub fullAgain : countsAfter (create pathA benchTime (bytes 28672) ∷ delete pathA ∷ create pathA benchTime (bytes 28672) ∷ []) bench ≡ 0 ∷ 30 ∷ 0 ∷ 0 ∷ []
   pub tooMuchAgain : countsAfter (create pathA benchTime (bytes 28672) ∷ delete pathA ∷ create pathA benchTime (bytes 28673) ∷ []) bench ≡ 12 ∷ []
-  pub removedFirst : countsAfter (create pathA benchTime [] ∷ create pathC benchTime [] ∷ delete pathA ∷ create pathB benchTime [] ∷ []) bench ≡ 28 ∷ 2 ∷ 0 ∷ []
-  pub createdFirst : countsAfter (create pathA benchTime [] ∷ create pathC benchTime [] ∷ create pathB benchTime [] ∷ delete pathA ∷ []) bench ≡ 27 ∷ 3 ∷ 0 ∷ []
-  pub saved : countsAfter (makeDirectory pathSave benchTime ∷ create pathSaveA benchTime (bytes 1500) ∷ []) bench ≡ 24 ∷ 6 ∷ 0 ∷ []
+  pub removedFirst : countsAfter (create pathA benchTime [] ∷ create pathC benchTime [] ∷ delete pathA ∷ create pathB benchTime [] ∷ []) bench ≡ 28 ∷ 2 ∷ 0 ∷ 0 ∷ []
+  pub createdFirst : countsAfter (create pathA benchTime [] ∷ create pathC benchTime [] ∷ create pathB benchTime [] ∷ delete pathA ∷ []) bench ≡ 27 ∷ 3 ∷ 0 ∷ 0 ∷ []
+  pub saved : countsAfter (makeDirectory pathSave benchTime ∷ create pathSaveA benchTime (bytes 1500) ∷ []) bench ≡ 24 ∷ 6 ∷ 0 ∷ 0 ∷ []

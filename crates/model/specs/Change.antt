@@ -93,7 +93,6 @@ pub record Rules : Type 0 where
   pub mayTake : ℕ → Bool
   pub locked : Change → Option Standing → Option Standing → ℕ
 
--- as the rules stand, every free cluster may be taken and nothing is locked
-abbrev pub baseRules : (allocEnd : ℕ) → allocEnd ≤ mostClusters → Rules
-baseRules allocEnd limited =
-    record { allocEnd = allocEnd; limited = limited; mayTake = λ c. true; locked = λ c d f. 0 }
+-- as the rules stand, nothing is locked
+abbrev pub baseRules : (allocEnd : ℕ) → allocEnd ≤ mostClusters → (ℕ → Bool) → Rules
+baseRules allocEnd limited mayTake = record { allocEnd = allocEnd; limited = limited; mayTake = mayTake; locked = λ c d f. 0 }

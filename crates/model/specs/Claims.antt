@@ -1,18 +1,18 @@
 -- What is claimed of the model.
 use Prim.Native.Nat.{_+_, _-_, _≤_, suc, ℕ}
-use mathlib.Core.Bool.{cond, false, true}
-use mathlib.Core.List.{List}
+use mathlib.Core.Bool.{Bool, cond, false, true}
+use mathlib.Core.List.{List, []}
 use mathlib.Core.Logic.{_↔_}
 use mathlib.Core.Option.{some}
 use mathlib.Core.Path.{_≡_}
 use Rattle.model.specs.Change.{Change, Crossed, Rules, creates, path, standingAfter}
 use Rattle.model.specs.Check.{Marks, SoundChain, checkTree, followChain, ok}
-use Rattle.model.specs.Counts.{freeCount, orphanCount, reachedCount}
+use Rattle.model.specs.Counts.{freeCount, heldCount, orphanCount, reachedCount}
 use Rattle.model.specs.Holds.{HoldsCard}
 use Rattle.model.specs.Lookup.{lookUp, tell}
 use Rattle.model.specs.Names.{Path, beginning, samePath}
 use Rattle.model.specs.Perform.{done, perform, refused}
-use Rattle.model.specs.Plan.{Plan, after, freeOf, planOf, returned}
+use Rattle.model.specs.Plan.{Plan, after, freeOf, heldOf, planOf, returned, withheld}
 use Rattle.model.specs.Refusal.{needed, refusal}
 use Rattle.model.specs.Standing.{treeOf}
 use Rattle.model.specs.Tree.{Root, Slot, Tree, chainOf, reached}
@@ -39,28 +39,31 @@ pub record CheckIsHolding : Type 0 where
   pub sound : (v : View) (r : Root) (m : Marks) → checkTree v ≡ ok (r, m) → HoldsCard v r × (m ≡ reached r)
   pub complete : (v : View) (r : Root) → HoldsCard v r → checkTree v ≡ ok (r, reached r)
 
--- Free, reached and orphaned clusters add up to the allocatable ones.
+-- Free, reached, orphaned and held back clusters add up to the allocatable ones, whichever may be taken.
 abbrev pub ViewCountsAddUp : Type 0
 ViewCountsAddUp =
-    (allocEnd : ℕ) (v : View) (r : Root) (m : Marks) → checkTree v ≡ ok (r, m)
-    → freeCount allocEnd v + reachedCount allocEnd r + orphanCount allocEnd v r ≡ allocEnd
+    (mayTake : ℕ → Bool) (allocEnd : ℕ) (v : View) (r : Root) (m : Marks) → checkTree v ≡ ok (r, m)
+    → freeCount mayTake allocEnd v + reachedCount allocEnd r + orphanCount allocEnd v r + heldCount mayTake allocEnd v ≡ allocEnd
 
 -- ---- one change
 
--- the clusters that come back where a node of the tree goes
-abbrev pub clustersBack : Rules → Slot → Tree → ℕ
-clustersBack y h s = returned y (chainOf h)
+-- the chain that a change gives back: the one that was at its path, where the change is no creation
+abbrev pub chainIn : Slot → Tree → List ℕ
+chainIn h s = chainOf h
 
-abbrev pub givenBack : Rules → Change → Root → ℕ
-givenBack y c r = cond (creates c) 0 (tell (clustersBack y) 0 (lookUp r (path c)))
+abbrev pub chainBack : Change → Root → List ℕ
+chainBack c r = cond (creates c) [] (tell chainIn [] (lookUp r (path c)))
 
--- After an accepted change the card is accepted again; its own path is what the rules say and every other path stays;
--- the free count is the old one less what was taken, plus what came back.
+-- After an accepted change the card is accepted again; its own path is what the rules say and every other path stays.
+-- The free count is the old one less what was taken, plus what came back and may be taken; the rest of that is held back.
+-- A free cluster that may not be taken is still free.
 pub record ViewKept (y : Rules) (c : Change) (v w : View) (r : Root) : Type 0 where
   pub again : Accepted y w
   pub paths : (q : Path) → treeOf w q ≡ cond (samePath q (path c)) (standingAfter c (treeOf v q)) (treeOf v q)
   pub room : needed c r ≤ freeOf y v
-  pub free : freeOf y w ≡ freeOf y v - needed c r + givenBack y c r
+  pub free : freeOf y w ≡ freeOf y v - needed c r + returned y (chainBack c r)
+  pub held : heldOf y w ≡ heldOf y v + withheld y (chainBack c r)
+  pub untaken : (d : ℕ) → y .mayTake d ≡ false → v .link d ≡ Link.free → w .link d ≡ Link.free
 
 abbrev pub ViewChangeKeeps : Type 0
 ViewChangeKeeps = (y : Rules) (v : View) (a : Accepted y v) (c : Change) (w : View) → perform y c v ≡ done w → ViewKept y c v w (a .root)

@@ -1,14 +1,41 @@
--- Free, reached and orphaned clusters, each by its own definition over the allocatable clusters 0 to alloc_end - 1.
+-- Free, held back, reached and orphaned clusters, each by its own definition over the allocatable clusters 0 to alloc_end - 1.
 use Prim.Native.Nat.{_+_, suc, zero, ℕ}
-use mathlib.Core.Bool.{cond}
-use lib.Dec.{eqb}
+use mathlib.Core.Bool.{Bool, _&&_, cond}
+use lib.Dec.{eqb, ltb}
 use Rattle.model.specs.Tree.{Root, reached}
 use Rattle.model.specs.View.{Link, View}
+
+-- ---- the reserved tail
+
+-- the one N of a card with a tail, and the table index where it starts
+abbrev pub standardClusters : ℕ
+standardClusters = 8192
+
+abbrev pub tailStart : ℕ
+tailStart = 8000
+
+-- Where N is 8,192 and alloc_end above 8,000, no new cluster is taken from 8,000 up; on every other card the limit is alloc_end.
+abbrev pub takeLimit : ℕ → ℕ → ℕ
+takeLimit clusters allocEnd = cond (eqb clusters standardClusters && ltb tailStart allocEnd) tailStart allocEnd
+
+-- whether a new cluster may be this one
+abbrev pub mayTakeOn : ℕ → ℕ → ℕ → Bool
+mayTakeOn clusters allocEnd c = ltb c (takeLimit clusters allocEnd)
+
+-- ---- one cluster
 
 abbrev pub isFree : Link → ℕ
 isFree Link.free = 1
 isFree Link.last = 0
 isFree (Link.next a) = 0
+
+-- free: table word free, and the cluster may be taken; one that may not counts as used
+abbrev pub takeable : (ℕ → Bool) → (ℕ → Link) → ℕ → Link
+takeable mayTake link c = cond (mayTake c) (link c) Link.last
+
+-- held back: table word free, and the cluster may not be taken
+abbrev pub isHeld : Bool → Link → ℕ
+isHeld mayTake l = cond mayTake 0 (isFree l)
 
 -- orphaned: table word not free, and reached by no chain
 abbrev pub isOrphan : Link → ℕ → ℕ
@@ -16,13 +43,18 @@ isOrphan Link.free n = 0
 isOrphan Link.last n = cond (eqb n 0) 1 0
 isOrphan (Link.next a) n = cond (eqb n 0) 1 0
 
+-- ---- the counts
+
 -- a count summed over the clusters below k
 abbrev pub totalBelow : (ℕ → ℕ) → ℕ → ℕ
 totalBelow f zero = 0
 totalBelow f (suc k) = totalBelow f k + f k
 
-abbrev pub freeCount : ℕ → View → ℕ
-freeCount allocEnd v = totalBelow (λ c. isFree (v .link c)) allocEnd
+abbrev pub freeCount : (ℕ → Bool) → ℕ → View → ℕ
+freeCount mayTake allocEnd v = totalBelow (λ c. isFree (takeable mayTake (v .link) c)) allocEnd
+
+abbrev pub heldCount : (ℕ → Bool) → ℕ → View → ℕ
+heldCount mayTake allocEnd v = totalBelow (λ c. isHeld (mayTake c) (v .link c)) allocEnd
 
 abbrev pub reachedCount : ℕ → Root → ℕ
 reachedCount allocEnd r = totalBelow (reached r) allocEnd

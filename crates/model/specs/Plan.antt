@@ -6,7 +6,7 @@ use mathlib.Core.Option.{Option, none, some}
 use lib.Dec.{eqb}
 use lib.ListN.{drop, getD, length, take}
 use Rattle.model.specs.Change.{Change, Rules, create, delete, directoryMode, fileMode, makeDirectory, path, removeDirectory, replace}
-use Rattle.model.specs.Counts.{isFree, totalBelow}
+use Rattle.model.specs.Counts.{freeCount, heldCount, takeable, totalBelow}
 use Rattle.model.specs.Entry.{Entry, clustersFor, endMark}
 use Rattle.model.specs.Lookup.{Found, absent, firstDead, found, indexOf, lookIn, lookUp, pageAtPath}
 use Rattle.model.specs.Names.{Name, dotDotName, dotName, lastName, parent}
@@ -15,10 +15,6 @@ use Rattle.model.specs.Tree.{Root, Slot, Tree, entryPages, slotCount, ti
 use Rattle.model.specs.View.{Link, View, pagesOf}
 
 -- ---- the allocation table
-
--- A free cluster that may not be taken counts as used.
-abbrev pub takeable : (ℕ → Bool) → (ℕ → Link) → ℕ → Link
-takeable mayTake link c = cond (mayTake c) (link c) Link.last
 
 abbrev pub ifFree : Link → ℕ → List ℕ
 ifFree Link.free k = k ∷ []
@@ -41,13 +37,19 @@ growthClusters y v growing = take growing (freeClusters y v)
 abbrev pub ownClusters : Rules → View → ℕ → ℕ → List ℕ
 ownClusters y v growing own = take own (drop growing (freeClusters y v))
 
--- how many clusters of a list count as free once they are freed
+-- how many clusters of a list count as free once they are freed, and how many are held back
 abbrev pub returned : Rules → List ℕ → ℕ
 returned y cs = totalBelow (λ c. cond (y .mayTake c) (times cs c) 0) (y .allocEnd)
 
--- The free count: the table words that are free, of clusters that may be taken.
+abbrev pub withheld : Rules → List ℕ → ℕ
+withheld y cs = totalBelow (λ c. cond (y .mayTake c) 0 (times cs c)) (y .allocEnd)
+
+-- The free count and the held back one.
 abbrev pub freeOf : Rules → View → ℕ
-freeOf y v = totalBelow (λ c. isFree (takeable (y .mayTake) (v .link) c)) (y .allocEnd)
+freeOf y v = freeCount (y .mayTake) (y .allocEnd) v
+
+abbrev pub heldOf : Rules → View → ℕ
+heldOf y v = heldCount (y .mayTake) (y .allocEnd) v
 
 -- the link that leads to these clusters
 abbrev pub linkTo : List ℕ → Link

@@ -9,6 +9,11 @@ pub const DEEPEST: u32 = 7;
 
 pub const MOST_NAMES: usize = 8;
 
+// The reserved tail: on a card of this many clusters nothing new is put from this table index up.
+pub const STANDARD_CLUSTERS: u32 = 8192;
+
+pub const TAIL_START: usize = 8000;
+
 // The check follows exactly the sound chains: below alloc_end, not free, not reached before, the end mark at exactly the k-th.
 pub fn chains_are_sound()
     ensures { λ _. ⌜ ChainsAreSound ⌝ }
@@ -19,7 +24,7 @@ pub fn check_is_holding()
     ensures { λ _. ⌜ CheckIsHolding ⌝ }
 {}
 
-// Free, reached and orphaned clusters add up to the allocatable ones.
+// Free, reached, orphaned and held back clusters add up to the allocatable ones.
 pub fn counts_add_up()
     ensures { λ _. ⌜ ViewCountsAddUp ⌝ }
 {}

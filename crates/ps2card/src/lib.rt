@@ -27,7 +27,7 @@ pub(crate) fn tell_refusal(refusal: Refusal, page: &mut usize) -> u32
     number
 }
 
-// The check of a card: N, free, reached and orphaned; a refusal leaves them as they were.
+// The check of a card: N, free, reached, orphaned and held back; a refusal leaves them as they were.
 #[no_mangle]
 pub extern "C" fn ps2card_check(
     format: u32,
@@ -37,6 +37,7 @@ pub extern "C" fn ps2card_check(
     free: &mut usize,
     reached: &mut usize,
     orphaned: &mut usize,
+    held: &mut usize,
 ) -> u32
     ensures { λ r. ⌜ r ≡ numberIn (checkBy format (now (image .entry))) ⌝ }
     ensures { λ r. ⌜ now (page .exit) ≡ pageAfter (checkBy format (now (image .entry))) (now (page .entry)) ⌝ }
@@ -44,6 +45,7 @@ pub extern "C" fn ps2card_check(
     ensures { λ r. ⌜ now (free .exit) ≡ valueAfter (λ c. c .free) (checkBy format (now (image .entry))) (now (free .entry)) ⌝ }
     ensures { λ r. ⌜ now (reached .exit) ≡ valueAfter (λ c. c .reached) (checkBy format (now (image .entry))) (now (reached .entry)) ⌝ }
     ensures { λ r. ⌜ now (orphaned .exit) ≡ valueAfter (λ c. c .orphaned) (checkBy format (now (image .entry))) (now (orphaned .entry)) ⌝ }
+    ensures { λ r. ⌜ now (held .exit) ≡ valueAfter (λ c. c .held) (checkBy format (now (image .entry))) (now (held .entry)) ⌝ }
 {
     let named = format_of(format);
     match named {
@@ -55,6 +57,7 @@ pub extern "C" fn ps2card_check(
                 *free = counts.free;
                 *reached = counts.reached;
                 *orphaned = counts.orphaned;
+                *held = counts.held;
                 0
             }
         },

@@ -6,17 +6,17 @@ use mathlib.Core.Path.{_∙_, _≡_, refl}
 use native.Mathlib.Numerals.{add-one}
 use native.Mathlib.Omega.{arith}
 use borrow.Author.Tests.{le-leb, le-ltb, lt-leb, lt-ltb}
-use lib.Dec.{eqb, leb}
+use lib.Dec.{eqb, leb, ltb}
 use lib.ListN.{getD, length}
 use native.Mathlib.Decide.{decLt}
 use Rattle.model.proofs.CountLaws.{total-ext}
 use Rattle.model.specs.Check.{Marks}
-use Rattle.model.specs.Counts.{freeCount, isFree, isOrphan, totalBelow}
+use Rattle.model.specs.Counts.{freeCount, heldCount, isFree, isHeld, isOrphan, takeable, totalBelow}
 use Rattle.model.specs.Entry.{endMark}
 use Rattle.model.specs.View.{Link, View, linkOf, topBit}
 use Rattle.reached.specs.Marks.{Keeps, marked, marksOf}
 use Rattle.reached.specs.Table.{tableLinks}
-use Rattle.reached.specs.Totals.{freeAt, freeWords, orphanAt, orphansIn}
+use Rattle.reached.specs.Totals.{freeAt, freeWords, heldAt, heldWords, orphanAt, orphansIn}
 use Rattle.reached.specs.declared.Reached.{Reached}
 use Rattle.reached.proofs.MarkLaws.{count-below}
 
@@ -26,16 +26,30 @@ total-step f n d i e q = rw (add-one i) (omega arith)
 pub total-same : (f : ℕ → ℕ) (n i : ℕ) → n ≡ totalBelow f i → f i ≡ 0 → n ≡ totalBelow f (i + 1)
 total-same f n i e q = rw (add-one i) (omega arith)
 
-module _ (t : List ℕ) (i : ℕ) (inside : i < length t) where
-  pub free-one : getD t i 0 < topBit → isFree (tableLinks t i) ≡ 1
-  free-one f = rw (lt-ltb i (length t) inside, lt-ltb (getD t i 0) topBit f)
+-- a word is free exactly where its top bit is clear
+free-word : (w : ℕ) → isFree (linkOf w) ≡ cond (ltb w topBit) 1 0
+free-word w = go (ltb w topBit) (eqb w endMark)
+  where
+    go : (low last : Bool) → isFree (cond low Link.free (cond last Link.last (Link.next (w - topBit)))) ≡ cond low 1 0
+    go true last = refl
+    go false true = refl
+    go false false = refl
 
-  pub free-none : topBit ≤ getD t i 0 → isFree (tableLinks t i) ≡ 0
-  free-none u = rw (lt-ltb i (length t) inside, le-ltb (getD t i 0) topBit u) (go (eqb (getD t i 0) endMark))
+module _ (t : List ℕ) (i : ℕ) (inside : i < length t) where
+  -- the code's tests are the model's free and held back cluster
+  pub free-test : (limit : ℕ) (b : Bool) → (ltb i limit && ltb (getD t i 0) topBit) ≡ b → freeAt (λ c. ltb c limit) t i ≡ cond b 1 0
+  free-test limit b e = rw (← e, lt-ltb i (length t) inside) (go (ltb i limit))
     where
-      go : (b : Bool) → isFree (cond b Link.last (Link.next (getD t i 0 - topBit))) ≡ 0
-      go true = refl
+      go : (m : Bool) → isFree (cond m (linkOf (getD t i 0)) Link.last) ≡ cond (m && ltb (getD t i 0) topBit) 1 0
+      go true = free-word (getD t i 0)
       go false = refl
+
+  pub held-test : (limit : ℕ) (b : Bool) → (leb limit i && ltb (getD t i 0) topBit) ≡ b → heldAt (λ c. ltb c limit) t i ≡ cond b 1 0
+  held-test limit b e = rw (← e, lt-ltb i (length t) inside) (go (decLt i limit))
+    where
+      go : Dec (i < limit) → isHeld (ltb i limit) (linkOf (getD t i 0)) ≡ cond (leb limit i && ltb (getD t i 0) topBit) 1 0
+      go (yes l) = rw (lt-ltb i limit l, lt-leb limit i l)
+      go (no l) = let u : limit ≤ i = omega arith in rw (le-ltb i limit u, le-leb limit i u) (free-word (getD t i 0))
 
   -- the code's test is the model's orphan
   pub orphan-test : (r : Reached) (b : Bool) → (leb topBit (getD t i 0) && not (marked r i)) ≡ b → isOrphan (tableLinks t i) (marksOf r i) ≡ cond b 1 0
@@ -56,8 +70,11 @@ module _ (t : List ℕ) (i : ℕ) (inside : i < length t) where
 
 -- The code's counts are the model's, for a view with that table and a record that keeps the model's marks.
 module _ (t : List ℕ) (v : View) (links : (c : ℕ) → v .link c ≡ tableLinks t c) where
-  pub free-count : freeWords t ≡ freeCount (length t) v
-  free-count = total-ext (freeAt t) (λ c. isFree (v .link c)) (length t) (λ c h. rw (links c))
+  pub free-count : (mayTake : ℕ → Bool) → freeWords mayTake t ≡ freeCount mayTake (length t) v
+  free-count mayTake = total-ext (freeAt mayTake t) (λ c. isFree (takeable mayTake (v .link) c)) (length t) (λ c h. rw (links c))
+
+  pub held-count : (mayTake : ℕ → Bool) → heldWords mayTake t ≡ heldCount mayTake (length t) v
+  held-count mayTake = total-ext (heldAt mayTake t) (λ c. isHeld (mayTake c) (v .link c)) (length t) (λ c h. rw (links c))
 
   pub orphan-count : (r : Reached) (m : Marks) → Keeps r m → orphansIn t r ≡ totalBelow (λ c. isOrphan (v .link c) (m c)) (length t)
   orphan-count r m k = total-ext (orphanAt t r) (λ c. isOrphan (v .link c) (m c)) (length t) (λ c h. rw (links c, ← k .marks c))

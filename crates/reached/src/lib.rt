@@ -1,9 +1,13 @@
 // The clusters that chains reach: their record, the walk of one chain, and the counts over the allocation table.
 use model::MOST_CLUSTERS;
+use model::STANDARD_CLUSTERS;
+use model::TAIL_START;
 ghost use mathlib.Core.Path.{_≡_};
+ghost use lib.Dec.{ltb};
+ghost use Rattle.model.specs.Counts.{takeLimit};
 ghost use Rattle.reached.specs.Marks.{noMarks, markedIn, marked, withMark};
 ghost use Rattle.reached.specs.Chain.{chainBehind};
-ghost use Rattle.reached.specs.Totals.{freeWords, orphansIn};
+ghost use Rattle.reached.specs.Totals.{freeWords, heldWords, orphansIn};
 
 // A table word below this is free.
 const TOP_BIT: u32 = 0x8000_0000;
@@ -125,19 +129,40 @@ pub fn walk_chain(table: &[u32], reached: Reached, first: u32, clusters: u32) ->
     }
 }
 
-// Free: the top bit of the table word is clear.
-pub fn count_free(table: &[u32]) -> usize
-    ensures { λ r. ⌜ r ≡ freeWords (now (table .entry)) ⌝ }
+// The first table index that no new cluster is taken from: where the reserved tail starts, on a card that has one, or alloc_end.
+pub fn take_limit(clusters: u32, end: usize) -> usize
+    ensures { λ r. ⌜ r ≡ takeLimit clusters end ⌝ }
 {
-    let mut n: usize = 0;
+    if (clusters == STANDARD_CLUSTERS) & (TAIL_START < end) {
+        return TAIL_START;
+    }
+    end
+}
+
+// How many table words have their top bit clear, in two counts.
+pub struct Unused {
+    pub free: usize,
+    pub held: usize,
+}
+
+// Free: the top bit of the table word is clear, and the cluster lies below the limit.
+// Held back: it is clear, and the cluster lies at the limit or above. Neither is a remainder.
+pub fn count_unused(table: &[u32], limit: usize) -> Unused
+    ensures { λ r. ⌜ (r .free ≡ freeWords (λ c. ltb c limit) (now (table .entry))) × (r .held ≡ heldWords (λ c. ltb c limit) (now (table .entry))) ⌝ }
+{
+    let mut free: usize = 0;
+    let mut held: usize = 0;
     let mut i: usize = 0;
     while i < table.len() {
-        if table[i] < TOP_BIT {
-            n += 1;
+        if (i < limit) & (table[i] < TOP_BIT) {
+            free += 1;
+        }
+        if (limit <= i) & (table[i] < TOP_BIT) {
+            held += 1;
         }
         i += 1;
     }
-    n
+    Unused { free, held }
 }
 
 // Orphaned: the table word is not free, and no chain reaches the cluster. Never a remainder.

@@ -6,6 +6,7 @@ use mathlib.Core.List.{List}
 use mathlib.Core.Path.{_∙_, _≡_, ap, fun-ext, refl, sym}
 use native.Mathlib.Omega.{arith}
 use borrow.Author.Tests.{le-ltb}
+use lib.Dec.{ltb}
 use lib.ListN.{drop, length, length-append, take}
 use lib.Seq.{take-at}
 use Rattle.layout.proofs.OpenFacts.{open-facts}
@@ -18,11 +19,11 @@ use Rattle.layout.specs.Table.{openCard, tableAfter, tableOf}
 use Rattle.model.proofs.CheckHolds.{check-holds}
 use Rattle.model.proofs.CountLaws.{card-used}
 use Rattle.model.specs.Check.{Marks, Result, andThen, checkTree, fault, ok}
-use Rattle.model.specs.Counts.{isOrphan, totalBelow}
+use Rattle.model.specs.Counts.{isOrphan, mayTakeOn, takeLimit, totalBelow}
 use Rattle.model.specs.Tree.{Root, reached}
 use Rattle.model.specs.View.{View, mostClusters}
-use Rattle.reached.proofs.CountLaws.{free-count, orphan-count, reached-count}
-use Rattle.reached.specs.Totals.{freeWords, orphansIn}
+use Rattle.reached.proofs.CountLaws.{free-count, held-count, orphan-count, reached-count}
+use Rattle.reached.specs.Totals.{freeWords, heldWords, orphansIn}
 use Rattle.reached.specs.declared.Reached.{Reached}
 use Rattle.tree.specs.Counted.{checkOf, countsBy, countsIn, superblockIn}
 use Rattle.tree.specs.declared.Counts.{Counts}
@@ -43,28 +44,29 @@ module _ (clusters : ℕ) (geometry : Geometry) (t image : List ℕ) (q : Reache
       go (fault n p) h = rw (h .0, h .1)
       go (ok x) h = absurd h
 
-  same-counts : (a b : Counts) → a .clusters ≡ b .clusters → a .free ≡ b .free → a .reached ≡ b .reached → a .orphaned ≡ b .orphaned → a ≡ b
-  same-counts a b c d e f = λ i. record { clusters = c i; free = d i; reached = e i; orphaned = f i }
+  same-counts : (a b : Counts) → a .clusters ≡ b .clusters → a .free ≡ b .free → a .reached ≡ b .reached → a .orphaned ≡ b .orphaned → a .held ≡ b .held → a ≡ b
+  same-counts a b c d e f g = λ i. record { clusters = c i; free = d i; reached = e i; orphaned = f i; held = g i }
 
-  pub counted-good : (free orphaned : ℕ) → Tells (onImage geometry (rootMarks (checkTree (viewBy geometry t image)))) verdict.Sound q
-      → free ≡ freeWords t → orphaned ≡ orphansIn t q
-      → ok (record { clusters = clusters; free = free; reached = q .count; orphaned = orphaned }) ≡ countsBy clusters geometry t image
+  pub counted-good : (limit free orphaned held : ℕ) → Tells (onImage geometry (rootMarks (checkTree (viewBy geometry t image)))) verdict.Sound q
+      → limit ≡ takeLimit clusters (length t) → free ≡ freeWords (λ c. ltb c limit) t → orphaned ≡ orphansIn t q → held ≡ heldWords (λ c. ltb c limit) t
+      → ok (record { clusters = clusters; free = free; reached = q .count; orphaned = orphaned; held = held }) ≡ countsBy clusters geometry t image
   unfolding countsBy andThen
-  counted-good free orphaned h f o = go (checkTree (viewBy geometry t image)) refl h
+  counted-good limit free orphaned held h l f o b = go (checkTree (viewBy geometry t image)) refl h
     where
       go : (r : Result (Root × Marks)) → checkTree (viewBy geometry t image) ≡ r → Tells (onImage geometry (rootMarks r)) verdict.Sound q
-          → ok (record { clusters = clusters; free = free; reached = q .count; orphaned = orphaned })
+          → ok (record { clusters = clusters; free = free; reached = q .count; orphaned = orphaned; held = held })
           ≡ andThen (onImage geometry r) (λ x. ok (countsIn clusters (length t) (viewBy geometry t image) (x .0)))
       go (fault n p) e h = absurd h
       go (ok x) e h =
           let c = check-holds (viewBy geometry t image) (x .0) (x .1) e in
           let m : x .1 ≡ reached (x .0) = fun-ext (c .1) in
-          let high : (d : ℕ) → length t ≤ d → x .1 d ≡ 0 = λ d l. c .1 d ∙ card-used (viewBy geometry t image) (x .0) (c .0) d (rw (le-ltb d (length t) l)) in
+          let high : (d : ℕ) → length t ≤ d → x .1 d ≡ 0 = λ d u. c .1 d ∙ card-used (viewBy geometry t image) (x .0) (c .0) d (rw (le-ltb d (length t) u)) in
           ap {B = Result Counts} ok
-          (same-counts (record { clusters = clusters; free = free; reached = q .count; orphaned = orphaned }) (countsIn clusters (length t) (viewBy geometry t image) (x .0))
-          refl (f ∙ free-count t (viewBy geometry t image) (λ d. refl))
+          (same-counts (record { clusters = clusters; free = free; reached = q .count; orphaned = orphaned; held = held }) (countsIn clusters (length t) (viewBy geometry t image) (x .0))
+          refl (f ∙ ap (λ n. freeWords (λ d. ltb d n) t) l ∙ free-count t (viewBy geometry t image) (λ d. refl) (mayTakeOn clusters (length t)))
           (reached-count q (x .1) h (length t) high ∙ ap (λ (k : Marks). totalBelow k (length t)) m)
-          (o ∙ orphan-count t (viewBy geometry t image) (λ d. refl) q (x .1) h ∙ ap (λ (k : Marks). totalBelow (λ d. isOrphan ((viewBy geometry t image) .link d) (k d)) (length t)) m))
+          (o ∙ orphan-count t (viewBy geometry t image) (λ d. refl) q (x .1) h ∙ ap (λ (k : Marks). totalBelow (λ d. isOrphan ((viewBy geometry t image) .link d) (k d)) (length t)) m)
+          (b ∙ ap (λ n. heldWords (λ d. ltb d n) t) l ∙ held-count t (viewBy geometry t image) (λ d. refl) (mayTakeOn clusters (length t))))
 
 -- ---- the card that was opened
 

@@ -1,4 +1,5 @@
--- The check of an image (RULES, "Refusal numbers, in order"): refusals 1 to 7 in their order, or free, reached and orphaned, each by its own definition.
+-- The check of an image (RULES, "Refusal numbers, in order"): refusals 1 to 7 in their order, or free, reached, orphaned
+-- and held back, each by its own definition.
 use Prim.Native.Nat.{ℕ, _+_}
 use mathlib.Core.List.{List}
 use mathlib.Core.Path.{_≡_}
@@ -9,7 +10,7 @@ use Rattle.layout.specs.declared.Superblock.{Superblock}
 use Rattle.layout.specs.Refusal.{numberOf, pageOf}
 use Rattle.layout.specs.See.{checkImage, onImage, see, viewBy}
 use Rattle.model.specs.Check.{Marks, Result, andThen, checkTree, fault, ok}
-use Rattle.model.specs.Counts.{freeCount, orphanCount, reachedCount}
+use Rattle.model.specs.Counts.{freeCount, heldCount, mayTakeOn, orphanCount, reachedCount}
 use Rattle.model.specs.Tree.{Root}
 use Rattle.model.specs.View.{View}
 use Rattle.tree.specs.declared.Checked.{Checked}
@@ -24,7 +25,13 @@ toldCounts (checked.Refused r) = fault (numberOf r) (pageOf r)
 -- N, and the counts over the allocatable clusters
 abbrev pub countsIn : ℕ → ℕ → View → Root → Counts
 countsIn clusters end v root =
-    record { clusters = clusters; free = freeCount end v; reached = reachedCount end root; orphaned = orphanCount end v root }
+    record {
+      clusters = clusters;
+      free = freeCount (mayTakeOn clusters end) end v;
+      reached = reachedCount end root;
+      orphaned = orphanCount end v root;
+      held = heldCount (mayTakeOn clusters end) end v;
+    }
 
 unfoldable pub checkOf : Format → List ℕ → Result Counts
 checkOf format image = andThen (checkImage format image) (λ x. ok (countsIn (x .0 .clusters) (x .0 .end) (see (x .0) image) (x .1)))
@@ -39,8 +46,8 @@ abbrev pub superblockIn : Result (Superblock × Root × Marks) → Result Superb
 superblockIn (fault n p) = fault n p
 superblockIn (ok x) = ok (x .0)
 
--- Free, reached and orphaned clusters of an image that passes the check add up to its allocatable ones.
+-- Free, reached, orphaned and held back clusters of an image that passes the check add up to its allocatable ones.
 abbrev pub CountsAddUp : Type 0
 CountsAddUp =
     (format : Format) (image : List ℕ) (s : Superblock) (c : Counts) → superblockIn (checkImage format image) ≡ ok s → checkOf format image ≡ ok c
-    → c .free + c .reached + c .orphaned ≡ s .end
+    → c .free + c .reached + c .orphaned + c .held ≡ s .end

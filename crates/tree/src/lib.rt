@@ -10,8 +10,9 @@ use layout::Refusal;
 use layout::open_card;
 use model::MOST_CLUSTERS;
 use page::Format;
-use reached::count_free;
 use reached::count_orphans;
+use reached::count_unused;
+use reached::take_limit;
 use walk::Verdict;
 use walk::walk_root;
 ghost use mathlib.Core.Path.{_≡_};
@@ -30,6 +31,7 @@ pub struct Counts {
     pub free: usize,
     pub reached: usize,
     pub orphaned: usize,
+    pub held: usize,
 }
 
 // A card that passes the check, or why it is refused.
@@ -49,12 +51,16 @@ fn count_card(image: &[u8], table: &[u32], end: usize, geometry: Geometry, clust
     let r = walked.reached;
     match verdict {
         Verdict::Refused(refusal) => Checked::Refused(refusal),
-        Verdict::Sound => Checked::Card(Counts {
-            clusters: clusters,
-            free: count_free(words),
-            reached: r.count,
-            orphaned: count_orphans(words, r),
-        }),
+        Verdict::Sound => {
+            let unused = count_unused(words, take_limit(clusters, words.len()));
+            Checked::Card(Counts {
+                clusters: clusters,
+                free: unused.free,
+                reached: r.count,
+                orphaned: count_orphans(words, r),
+                held: unused.held,
+            })
+        }
     }
 }
 
@@ -69,7 +75,7 @@ pub fn check_in(format: Format, image: &[u8], table: &mut [u32; MOST_CLUSTERS]) 
     }
 }
 
-// The whole check: free, reached and orphaned clusters, or the refusal.
+// The whole check: free, reached, orphaned and held back clusters, or the refusal.
 pub fn check(format: Format, image: &[u8]) -> Checked
     ensures { λ r. ⌜ toldCounts r ≡ checkOf format (now (image .entry)) ⌝ }
 {
@@ -77,7 +83,7 @@ pub fn check(format: Format, image: &[u8]) -> Checked
     check_in(format, image, &mut table)
 }
 
-// Free, reached and orphaned clusters add up to the allocatable ones.
+// Free, reached, orphaned and held back clusters add up to the allocatable ones.
 pub fn counts_add_up()
     ensures { λ _. ⌜ CountsAddUp ⌝ }
 {}

@@ -1,6 +1,7 @@
 //! What the comparing tests share.
 #![allow(dead_code)]
 
+pub mod both;
 pub mod changes;
 pub mod converts;
 pub mod lookups;

@@ -5,7 +5,7 @@ use reader::paths::{depth, directory_of, is_beginning, parse};
 use reader::rng::Rng;
 use reader::{tree, Change, Format, Tree};
 
-use super::changes::{kind, Changes, KINDS};
+use super::changes::{kind, same_image, Changes, KINDS};
 
 /// Pairs of changes, and what became of them.
 pub struct Run {
@@ -75,9 +75,13 @@ impl Run {
 
     /// Both changes in turn on a copy; the second gets the image as the first left it. Whether both were accepted.
     fn in_turn(&mut self, image: &[u8], order: [&Change; 2], what: impl Fn() -> String) -> (Vec<u8>, bool) {
-        let mut image = image.to_vec();
-        let answers = order.map(|change| self.changes.apply(&mut image, change, &what));
-        (image, answers.iter().all(Result::is_ok))
+        let (mut ours, mut readers) = (image.to_vec(), image.to_vec());
+        let answers = order.map(|change| {
+            let answer = self.changes.apply_to_each(&mut ours, &mut readers, change, &what);
+            same_image(self.changes.format, &ours, &readers, || format!("{}, {change:?}", what()));
+            answer
+        });
+        (ours, answers.iter().all(Result::is_ok))
     }
 
     /// Nothing was rarer than this.
@@ -105,7 +109,8 @@ fn random_pair(rng: &mut Rng, items: &Tree) -> Option<[Change; 2]> {
     Some([one, other])
 }
 
-fn are_apart(one: &[u8], other: &[u8]) -> bool {
+/// Both paths are well formed, and neither is a beginning of the other.
+pub fn are_apart(one: &[u8], other: &[u8]) -> bool {
     parse(one).is_some() && parse(other).is_some() && !is_beginning(one, other) && !is_beginning(other, one)
 }
 

@@ -65,9 +65,5 @@ fn samples(root: &str) -> std::io::Result<String> {
 }
 
 fn check(format: Format, image: &[u8]) -> Result<String, Refusal> {
-    let counts = reader::check(format, image)?;
-    Ok(format!(
-        "card {}\nfree {}\nreached {}\norphaned {}\n",
-        counts.clusters, counts.free, counts.reached, counts.orphaned
-    ))
+    Ok(reader::check(format, image)?.to_string())
 }

@@ -1,17 +1,12 @@
 //! Seeded random cards of either format, each with the tree and counts it was built to have.
 
-use std::collections::{BTreeMap, HashSet};
-
-use super::draw::{long_name, put_kind, put_name, random_layout, random_name, random_page};
-use super::wear::wear;
-use super::{Assembly, Layout};
-use crate::card::{END_MARK, USED};
-use crate::content::{Item, Piece, Tree};
-use crate::entry::{Entry, DIRECTORY, FILE, NO_CLUSTER};
-use crate::page::{Data, Format, CLUSTER_DATA, DATA};
-use crate::paths;
+use super::draw::random_layout;
+use super::sketch::Sketch;
+use super::Layout;
+use crate::content::Tree;
+use crate::page::Format;
 use crate::rng::Rng;
-use crate::tree::{Counts, DEEPEST};
+use crate::tree::Counts;
 
 /// A random card and what the check and the tree must say of it.
 #[derive(Clone, Debug)]
@@ -23,13 +18,14 @@ pub struct RandomCard {
     pub tree: Tree,
 }
 
-/// A random card of a random size, mostly small.
+/// A random card of a random size, mostly small; now and then it is of the one size that has a tail.
 pub fn random(format: Format, seed: u64) -> RandomCard {
     let mut rng = Rng::new(seed);
     let blocks = match rng.below(20) {
         0..=9 => rng.between(4, 8),
         10..=16 => rng.between(8, 40),
         17..=18 => rng.between(40, 200),
+        _ if rng.chance(1, 3) => 1024,
         _ => rng.between(200, 1024),
     };
     sized(format, seed, 8 * blocks)
@@ -39,252 +35,30 @@ pub fn random(format: Format, seed: u64) -> RandomCard {
 pub fn sized(format: Format, seed: u64, clusters: usize) -> RandomCard {
     let mut rng = Rng::new(seed ^ 0x5EED_CA4D);
     let layout = random_layout(&mut rng, clusters);
-    let mut sketch = Sketch::new(format, layout, &mut rng);
-    sketch.grow(&mut rng);
-    sketch.finish(&mut rng)
+    let pool = (1..layout.alloc_end).rev().collect();
+    drawn(format, layout, pool, &mut rng)
 }
 
-/// A directory being drawn: its place in the tree, its chain and how many slots it has.
-struct Drawn {
-    path: Vec<u8>,
-    depth: usize,
-    chain: Vec<usize>,
-    length: usize,
-    names: HashSet<Vec<u8>>,
-    /// The same names in their order, to pick from.
-    listed: Vec<Vec<u8>>,
-    /// The page that carries its length.
-    page: usize,
+/// A small random tree on a card with a tail of any length. Below the limit few clusters are left to it and to be free,
+/// all others there are orphaned: the limit decides.
+pub fn tight(format: Format, seed: u64) -> RandomCard {
+    let mut rng = Rng::new(seed ^ 0x7A11_CA4D);
+    let mut layouts = std::iter::repeat_with(|| random_layout(&mut rng, 8192));
+    let mut layout = layouts.find(|layout| layout.alloc_end > 8000).expect("half of them reach that far");
+    if rng.chance(1, 2) {
+        let end = rng.between(8001, layout.alloc_end);
+        layout = layout.ending(end);
+    }
+    let mut pool: Vec<usize> = (1..8000).collect();
+    rng.shuffle(&mut pool);
+    pool.truncate(if rng.chance(1, 2) { rng.between(1, 12) } else { rng.between(12, 60) });
+    pool.extend((8000..layout.alloc_end).rev());
+    drawn(format, layout, pool, &mut rng)
 }
 
-struct Sketch {
-    card: Assembly,
-    /// Clusters not taken yet, in the order they will be taken.
-    pool: Vec<usize>,
-    drawn: Vec<Drawn>,
-    /// Entry pages by page number, before they are written.
-    entries: BTreeMap<usize, Data>,
-    /// Pages of files, whose damage the check never sees: page, path, piece number.
-    file_pages: Vec<(usize, Vec<u8>, usize)>,
-    tree: Tree,
-    /// Most names have 31 bytes.
-    has_long_names: bool,
-}
-
-impl Sketch {
-    fn new(format: Format, layout: Layout, rng: &mut Rng) -> Sketch {
-        let mut card = Assembly::new(format, layout);
-        // Erased and junk pages alike stand wherever nothing is written.
-        for page in 0..2 * card.layout.clusters {
-            if rng.chance(1, 4) {
-                rng.fill(&mut card.image[format.place(page)]);
-            }
-        }
-        let mut pool: Vec<usize> = (1..card.layout.alloc_end).rev().collect();
-        if rng.chance(2, 3) {
-            rng.shuffle(&mut pool);
-        }
-        let mut sketch = Sketch {
-            card,
-            pool,
-            drawn: Vec::new(),
-            entries: BTreeMap::new(),
-            file_pages: Vec::new(),
-            tree: Tree::new(),
-            has_long_names: rng.chance(1, 8),
-        };
-        let page = sketch.card.page(0, 0);
-        sketch.directory(rng, b"/".to_vec(), 0, 0, page);
-        let root = Entry::parse(&sketch.entries[&page]);
-        sketch.tree.insert(b"/".to_vec(), item(&root, Vec::new()));
-        sketch
-    }
-
-    /// Directories one below the other, as deep as they may lie or less; where room is scarce, fewer.
-    fn descend(&mut self, rng: &mut Rng) {
-        let depth = if rng.chance(2, 3) { DEEPEST } else { rng.between(1, DEEPEST) };
-        for at in 0..depth {
-            if self.pool.len() < 2 {
-                return;
-            }
-            let page = self.next_slot(at);
-            self.child_directory(rng, at, page);
-        }
-    }
-
-    /// Adds entries until the card's clusters or the draw run out. Half of the trees stay shallow, a third begin with a
-    /// descent.
-    fn grow(&mut self, rng: &mut Rng) {
-        let deepest = if rng.chance(1, 2) { 3 } else { DEEPEST };
-        if deepest == DEEPEST && rng.chance(2, 3) {
-            self.descend(rng);
-        }
-        let keep = rng.below(self.pool.len() + 1) / 2;
-        let tries = rng.between(1, 2 + self.pool.len());
-        for _ in 0..tries {
-            let last = self.drawn.len() - 1;
-            let at = if rng.chance(1, 3) { last } else { rng.below(self.drawn.len()) };
-            let growth = usize::from(self.drawn[at].length.is_multiple_of(2));
-            let bytes = match rng.below(8) {
-                0 => 0,
-                1 => *rng.pick(&[1, 511, 512, 513, 1023, 1024, 1025, 2048]),
-                2 => rng.below(20_000),
-                _ => rng.below(3_000),
-            };
-            if self.pool.len() < keep + growth + bytes.div_ceil(CLUSTER_DATA).max(1) {
-                continue;
-            }
-            let page = self.next_slot(at);
-            match rng.below(10) {
-                0..=1 => self.dead(rng, at, page),
-                2..=4 if self.drawn[at].depth < deepest => self.child_directory(rng, at, page),
-                _ => self.file(rng, at, page, bytes),
-            }
-        }
-    }
-
-    /// One more slot in a directory; its chain grows where the length was even.
-    fn next_slot(&mut self, at: usize) -> usize {
-        let drawn = &mut self.drawn[at];
-        if drawn.length.is_multiple_of(2) {
-            drawn.chain.push(self.pool.pop().expect("room was looked at"));
-        }
-        let (slot, cluster) = (drawn.length, drawn.chain[drawn.length / 2]);
-        drawn.length += 1;
-        self.card.page(cluster, slot % 2)
-    }
-
-    fn dead(&mut self, rng: &mut Rng, at: usize, page: usize) {
-        let mut data = random_page(rng);
-        let names = &self.drawn[at].listed;
-        if !names.is_empty() && rng.chance(1, 2) {
-            let name = rng.pick(names);
-            put_name(rng, &mut data, name);
-        }
-        data[1] &= 0x7F;
-        self.entries.insert(page, data);
-    }
-
-    fn file(&mut self, rng: &mut Rng, at: usize, page: usize, bytes: usize) {
-        let split = self.pool.len() - bytes.div_ceil(CLUSTER_DATA);
-        let chain: Vec<usize> = self.pool.split_off(split);
-        self.card.chain(&chain);
-        let (path, mut data) = self.named(rng, at, FILE);
-        let mut entry = Entry::parse(&data);
-        entry.length = bytes as u32;
-        entry.first_cluster = chain.first().map_or(NO_CLUSTER, |&cluster| cluster as u32);
-        entry.put(&mut data);
-        self.entries.insert(page, data);
-
-        let mut pieces = Vec::new();
-        for index in 0..2 * chain.len() {
-            let mut content = [0; DATA];
-            rng.fill(&mut content);
-            let page = self.card.page(chain[index / 2], index % 2);
-            self.card.write(page, &content);
-            if index * DATA < bytes {
-                pieces.push(Piece::Bytes(content[..DATA.min(bytes - index * DATA)].to_vec()));
-            }
-            self.file_pages.push((page, path.clone(), index));
-        }
-        self.tree.insert(path, item(&entry, pieces));
-    }
-
-    fn child_directory(&mut self, rng: &mut Rng, at: usize, page: usize) {
-        let first = self.pool.pop().expect("room was looked at");
-        let (path, mut data) = self.named(rng, at, DIRECTORY);
-        let mut entry = Entry::parse(&data);
-        entry.first_cluster = first as u32;
-        entry.put(&mut data);
-        self.entries.insert(page, data);
-        self.tree.insert(path.clone(), item(&entry, Vec::new()));
-        let depth = self.drawn[at].depth + 1;
-        self.directory(rng, path, depth, first, page);
-    }
-
-    /// Entries 0 and 1 of a directory; their other fields are junk.
-    fn directory(&mut self, rng: &mut Rng, path: Vec<u8>, depth: usize, first: usize, page: usize) {
-        for (second, name) in [(0, b".".as_slice()), (1, b"..")] {
-            let mut data = random_page(rng);
-            put_name(rng, &mut data, name);
-            put_kind(&mut data, DIRECTORY);
-            self.entries.insert(self.card.page(first, second), data);
-        }
-        let (names, listed) = (HashSet::new(), Vec::new());
-        self.drawn.push(Drawn { path, depth, chain: vec![first], length: 2, names, listed, page });
-    }
-
-    /// A page for a live entry of this kind under a new name, and its path.
-    fn named(&mut self, rng: &mut Rng, at: usize, kind: u16) -> (Vec<u8>, Data) {
-        let is_long = self.has_long_names && rng.chance(7, 8);
-        let drawn = &mut self.drawn[at];
-        let name = loop {
-            let name = if is_long { long_name(rng) } else { random_name(rng) };
-            if drawn.names.insert(name.clone()) {
-                break name;
-            }
-        };
-        drawn.listed.push(name.clone());
-        let mut data = random_page(rng);
-        put_name(rng, &mut data, &name);
-        put_kind(&mut data, kind);
-        (paths::join(&drawn.path, &name), data)
-    }
-
-    /// Lengths, table, orphans, flips and damage; then the card is whole.
-    fn finish(mut self, rng: &mut Rng) -> RandomCard {
-        for drawn in &self.drawn {
-            let data = self.entries.get_mut(&drawn.page).expect("a directory's entry");
-            let entry = Entry { length: drawn.length as u32, ..Entry::parse(data) };
-            entry.put(data);
-            self.card.chain(&drawn.chain);
-        }
-        for (&page, data) in &self.entries {
-            self.card.write(page, data);
-        }
-
-        let (mut free, mut orphaned) = (0, 0);
-        let end = self.card.layout.alloc_end;
-        for &cluster in &self.pool {
-            let junk = rng.draw() as u32;
-            let (word, is_free) = match rng.below(12) {
-                0 => (END_MARK, false),
-                1 => (junk | USED, false),
-                2 => (USED | rng.below(end) as u32, false),
-                3..=6 => (junk & !USED, true),
-                _ => (!USED, true),
-            };
-            self.card.table[cluster] = word;
-            *(if is_free { &mut free } else { &mut orphaned }) += 1;
-        }
-        self.card.table[end..].iter_mut().for_each(|word| *word = rng.draw() as u32);
-        let names = self.card.layout.table.len();
-        self.card.indirect[names..].iter_mut().for_each(|word| *word = rng.draw() as u32);
-        rng.fill(&mut self.card.superblock[0x54..0xD0]);
-        rng.fill(&mut self.card.superblock[0x150..]);
-
-        let counts = Counts { clusters: self.card.layout.clusters, free, reached: end - free - orphaned, orphaned };
-        let (format, layout) = (self.card.format, self.card.layout.clone());
-        let mut needed: HashSet<usize> = self.entries.keys().copied().collect();
-        needed.insert(0);
-        for &cluster in layout.table.iter().chain([&layout.indirect]) {
-            needed.extend([2 * cluster, 2 * cluster + 1]);
-        }
-        let mut image = self.card.finish();
-        if format == Format::Raw {
-            wear(rng, &mut image, &needed, &self.file_pages, &mut self.tree);
-        }
-        RandomCard { format, image, layout, counts, tree: self.tree }
-    }
-}
-
-fn item(entry: &Entry, pieces: Vec<Piece>) -> Item {
-    Item {
-        is_directory: entry.is_directory(),
-        mode: entry.mode,
-        attribute: entry.attribute,
-        created: entry.created,
-        modified: entry.modified,
-        pieces,
-    }
+/// A tree drawn from the pool's clusters; no cluster beside it is free.
+fn drawn(format: Format, layout: Layout, pool: Vec<usize>, rng: &mut Rng) -> RandomCard {
+    let mut sketch = Sketch::new(format, layout, pool, rng);
+    sketch.grow(rng);
+    sketch.finish(rng)
 }

@@ -22,19 +22,33 @@ enum-known-verdict c = search needs
 enum-told : tie.Need-enum-told
 enum-told c = search needs
 
-count-free-requires : tie.Need-count-free-requires
-count-free-requires c κs = search needs
+take-limit-requires : tie.Need-take-limit-requires
+take-limit-requires c κs = search needs
+
+count-unused-requires : tie.Need-count-unused-requires
+count-unused-requires c κs = search needs
 
 count-orphans-requires : tie.Need-count-orphans-requires
 count-orphans-requires c κs = search needs
 
 returns : tie.Need-returns
 returns c =
-    counted-bad (c .before .before .before .before .before .before .before .before .args .clusters) (c .before .before .before .before .before .before .before .before .args .geometry) (take (c .before .before .before .before .before .before .before .before .args .end) (c .before .before .before .before .before .before .before .before .args .table .now)) (c .before .before .before .before .before .before .before .before .args .image .now) (c .before .before .before .before .walk-root .result .reached) (c .before .verdict .given .0 .0) (rw (c .before .verdict .given .1) at (c .before .before .before .before .walk-root .ensures))
+    let refused = c .before in
+    let walked = refused .before .before .before in
+    let start = walked .before .before .before .before in
+    counted-bad (start .args .clusters) (start .args .geometry) (take (start .args .end) (start .args .table .now)) (start .args .image .now)
+    (walked .walk-root .result .reached) (refused .verdict .given .0 .0) (rw (refused .verdict .given .1) at (walked .walk-root .ensures))
 
 returns-2 : tie.Need-returns-2
 returns-2 c =
-    counted-good (c .before .before .before .before .before .before .before .before .before .args .clusters) (c .before .before .before .before .before .before .before .before .before .args .geometry) (take (c .before .before .before .before .before .before .before .before .before .args .end) (c .before .before .before .before .before .before .before .before .before .args .table .now)) (c .before .before .before .before .before .before .before .before .before .args .image .now) (c .before .before .before .before .before .walk-root .result .reached) (c .before .count-free .result) (c .count-orphans .result) (rw (c .before .before .enum-told .given .1) at (c .before .before .before .before .before .walk-root .ensures)) (c .before .count-free .ensures) (c .count-orphans .ensures)
+    let unused = c .before in
+    let limited = unused .before in
+    let told = limited .before in
+    let walked = told .before .before .before in
+    let start = walked .before .before .before .before in
+    counted-good (start .args .clusters) (start .args .geometry) (take (start .args .end) (start .args .table .now)) (start .args .image .now)
+    (walked .walk-root .result .reached) (limited .take-limit .result) (unused .count-unused .result .free) (c .count-orphans .result) (unused .count-unused .result .held)
+    (rw (told .enum-told .given .1) at (walked .walk-root .ensures)) (limited .take-limit .ensures) (unused .count-unused .ensures .0) (c .count-orphans .ensures) (unused .count-unused .ensures .1)
 
 pub count-card-spec : {M : Type 1} → statement M
 count-card-spec =
@@ -44,7 +58,8 @@ count-card-spec =
     walk-root-requires
     enum-known-verdict
     enum-told
-    count-free-requires
+    take-limit-requires
+    count-unused-requires
     count-orphans-requires
     returns
     returns-2)

@@ -46,7 +46,7 @@ returns c =
 array-share-prefix-list : tie.Need-array-share-prefix-list
 array-share-prefix-list c =
     let listed = c .before .before .before .before .before .before .before .before .before in
-    collected-inside (listed .collect-free .last .1 .0) (listed .collect-free .ensures .0) (listed .collect-free .ensures .1)
+    collected-inside (listed .collect-free .last .1 .1 .0) (listed .collect-free .ensures .0) (listed .collect-free .ensures .1)
 
 slice-aggregate-add-listed : tie.Need-slice-aggregate-add-listed
 slice-aggregate-add-listed c =

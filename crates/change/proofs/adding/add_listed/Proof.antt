@@ -22,7 +22,7 @@ add-end c =
     let own = c in
     let start = own .before .before .before .before .before .before .before .before .before .before .before in
     let a = start .args in
-    let k : Counted (a .table .now) (a .list .now) (a .bytes .now) (a .t5) (a .new .dead) (own .before .before .word-at .result) (own .before .growth-by .result) (own .clusters-for .result) =
+    let k : Counted (a .s) (a .table .now) (a .list .now) (a .bytes .now) (a .t5) (a .new .dead) (own .before .before .word-at .result) (own .before .growth-by .result) (own .clusters-for .result) =
     record { entries-are = own .before .before .word-at .ensures; growing-is = own .before .growth-by .ensures; own-is = own .clusters-for .ensures; free = start .pre .0 } in
     omega (arith, both-fit k)
 
@@ -31,7 +31,7 @@ slice-aggregate-growth c =
     let own = c .before in
     let start = own .before .before .before .before .before .before .before .before .before .before .before in
     let a = start .args in
-    let k : Counted (a .table .now) (a .list .now) (a .bytes .now) (a .t5) (a .new .dead) (own .before .before .word-at .result) (own .before .growth-by .result) (own .clusters-for .result) =
+    let k : Counted (a .s) (a .table .now) (a .list .now) (a .bytes .now) (a .t5) (a .new .dead) (own .before .before .word-at .result) (own .before .growth-by .result) (own .clusters-for .result) =
     record { entries-are = own .before .before .word-at .ensures; growing-is = own .before .growth-by .ensures; own-is = own .clusters-for .ensures; free = start .pre .0 } in
     growth-long k
 
@@ -40,7 +40,7 @@ mul-taken c =
     let own = c .before in
     let start = own .before .before .before .before .before .before .before .before .before .before .before in
     let a = start .args in
-    let k : Counted (a .table .now) (a .list .now) (a .bytes .now) (a .t5) (a .new .dead) (own .before .before .word-at .result) (own .before .growth-by .result) (own .clusters-for .result) =
+    let k : Counted (a .s) (a .table .now) (a .list .now) (a .bytes .now) (a .t5) (a .new .dead) (own .before .before .word-at .result) (own .before .growth-by .result) (own .clusters-for .result) =
     record { entries-are = own .before .before .word-at .ensures; growing-is = own .before .growth-by .ensures; own-is = own .clusters-for .ensures; free = start .pre .0 } in
     omega (arith, both-fit k)
 
@@ -55,7 +55,7 @@ part-taken-end c =
     let own = c .before in
     let start = own .before .before .before .before .before .before .before .before .before .before .before in
     let a = start .args in
-    let k : Counted (a .table .now) (a .list .now) (a .bytes .now) (a .t5) (a .new .dead) (own .before .before .word-at .result) (own .before .growth-by .result) (own .clusters-for .result) =
+    let k : Counted (a .s) (a .table .now) (a .list .now) (a .bytes .now) (a .t5) (a .new .dead) (own .before .before .word-at .result) (own .before .growth-by .result) (own .clusters-for .result) =
     record { entries-are = own .before .before .word-at .ensures; growing-is = own .before .growth-by .ensures; own-is = own .clusters-for .ensures; free = start .pre .0 } in
     both-fit k
 
@@ -73,7 +73,7 @@ cast-new-page c =
     let own = c .before .before .before .before .before .before in
     let start = own .before .before .before .before .before .before .before .before .before .before .before in
     let a = start .args in
-    let k : Counted (a .table .now) (a .list .now) (a .bytes .now) (a .t5) (a .new .dead) (own .before .before .word-at .result) (own .before .growth-by .result) (own .clusters-for .result) =
+    let k : Counted (a .s) (a .table .now) (a .list .now) (a .bytes .now) (a .t5) (a .new .dead) (own .before .before .word-at .result) (own .before .growth-by .result) (own .clusters-for .result) =
     record { entries-are = own .before .before .word-at .ensures; growing-is = own .before .growth-by .ensures; own-is = own .clusters-for .ensures; free = start .pre .0 } in
     omega (arith, start .pre .1 .small (room-so k))
 
@@ -95,7 +95,7 @@ relink-requires c κs =
     let own = reached .before .before .before .before in
     let start = own .before .before .before .before .before .before .before .before .before .before .before in
     let a = start .args in
-    let k : Counted (a .table .now) (a .list .now) (a .bytes .now) (a .t5) (a .new .dead) (own .before .before .word-at .result) (own .before .growth-by .result) (own .clusters-for .result) =
+    let k : Counted (a .s) (a .table .now) (a .list .now) (a .bytes .now) (a .t5) (a .new .dead) (own .before .before .word-at .result) (own .before .growth-by .result) (own .clusters-for .result) =
     record { entries-are = own .before .before .word-at .ensures; growing-is = own .before .growth-by .ensures; own-is = own .clusters-for .ensures; free = start .pre .0 } in
     let growing = own .before .growth-by .result in
     (omega (arith, last-by k (reached .cluster-at .ensures), start .pre .1 .low-last), taken-low (a .s .geometry .format) (a .image .now) (a .table .now) (a .s) (start .pre .1 .card .opened) (start .pre .1 .card .long) growing (growing + own .clusters-for .result - growing) (a .list .now) (start .pre .0 .listed))
@@ -108,7 +108,7 @@ put-down-requires c κs =
     let own = reached .before .before .before .before in
     let start = own .before .before .before .before .before .before .before .before .before .before .before in
     let a = start .args in
-    let k : Counted (a .table .now) (a .list .now) (a .bytes .now) (a .t5) (a .new .dead) (own .before .before .word-at .result) (own .before .growth-by .result) (own .clusters-for .result) =
+    let k : Counted (a .s) (a .table .now) (a .list .now) (a .bytes .now) (a .t5) (a .new .dead) (own .before .before .word-at .result) (own .before .growth-by .result) (own .clusters-for .result) =
     record { entries-are = own .before .before .word-at .ensures; growing-is = own .before .growth-by .ensures; own-is = own .clusters-for .ensures; free = start .pre .0 } in
     record {
       card = record { opened = start .pre .1 .card .opened; long = omega (arith, c .before .before .before .before .relink .kept, start .pre .1 .card .long) };
@@ -133,7 +133,7 @@ returns c =
     let own = reached .before .before .before .before in
     let start = own .before .before .before .before .before .before .before .before .before .before .before in
     let a = start .args in
-    let k : Counted (a .table .now) (a .list .now) (a .bytes .now) (a .t5) (a .new .dead) (own .before .before .word-at .result) (own .before .growth-by .result) (own .clusters-for .result) =
+    let k : Counted (a .s) (a .table .now) (a .list .now) (a .bytes .now) (a .t5) (a .new .dead) (own .before .before .word-at .result) (own .before .growth-by .result) (own .clusters-for .result) =
     record { entries-are = own .before .before .word-at .ensures; growing-is = own .before .growth-by .ensures; own-is = own .clusters-for .ensures; free = start .pre .0 } in
     image-as (a .s) (a .image .now) (c .before .before .put-down .ensures)
     (writes-so k (reached .cluster-at .ensures) (a .new .mode) (a .new .count) (a .time .now) (a .name .now) (named .before .before .before .page-by .ensures) (named .before .first-of .ensures)

@@ -45,7 +45,7 @@ returns-2 c =
 array-share-prefix-list : tie.Need-array-share-prefix-list
 array-share-prefix-list c =
     let listed = c .before .before .before .before .before in
-    collected-inside (listed .collect-free .last .1 .0) (listed .collect-free .ensures .0) (listed .collect-free .ensures .1)
+    collected-inside (listed .collect-free .last .1 .1 .0) (listed .collect-free .ensures .0) (listed .collect-free .ensures .1)
 
 slice-aggregate-replace-listed : tie.Need-slice-aggregate-replace-listed
 slice-aggregate-replace-listed c =

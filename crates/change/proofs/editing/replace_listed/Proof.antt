@@ -16,7 +16,7 @@ slice-aggregate-taken c =
     let own = c .before in
     let start = own .before .before .before .before .before .before in
     let a = start .args in
-    sym (length-take-le (own .clusters-for .result) (a .list .now) (own-inside (a .table .now) (a .list .now) (a .bytes .now) (start .pre .1 .listed) (start .pre .1 .room) (own .clusters-for .ensures)))
+    sym (length-take-le (own .clusters-for .result) (a .list .now) (own-inside (a .s) (a .table .now) (a .list .now) (a .bytes .now) (start .pre .1 .listed) (start .pre .1 .room) (own .clusters-for .ensures)))
 
 slice-aggregate-none : tie.Need-slice-aggregate-none
 slice-aggregate-none c = search needs
@@ -26,7 +26,7 @@ cast-replaced-page c =
     let own = c .before .before .before .before in
     let start = own .before .before .before .before .before .before in
     let a = start .args in
-    omega (arith, few-bytes (a .table .now) (a .list .now) (a .bytes .now) (start .pre .1 .listed) (start .pre .1 .room) (own .clusters-for .ensures) (a .image .now) (a .s) (start .pre .0))
+    omega (arith, few-bytes (a .s) (a .table .now) (a .list .now) (a .bytes .now) (start .pre .1 .listed) (start .pre .1 .room) (own .clusters-for .ensures) (a .image .now) (start .pre .0))
 
 first-of-requires : tie.Need-first-of-requires
 first-of-requires c κs = search needs
@@ -51,7 +51,7 @@ relink-requires c κs =
     let own = c .before .before .before .before .before .before .before .before .before .before .before .before .before .before .before .before in
     let start = own .before .before .before .before .before .before in
     let a = start .args in
-    (omega arith, own-low (a .table .now) (a .list .now) (a .bytes .now) (start .pre .1 .listed) (start .pre .1 .room) (own .clusters-for .ensures) (a .image .now) (a .s) (start .pre .0))
+    (omega arith, own-low (a .s) (a .table .now) (a .list .now) (a .bytes .now) (start .pre .1 .listed) (start .pre .1 .room) (own .clusters-for .ensures) (a .image .now) (start .pre .0))
 
 put-down-requires : tie.Need-put-down-requires
 put-down-requires c κs =
@@ -62,9 +62,9 @@ put-down-requires c κs =
     record {
       card = record { opened = start .pre .0 .opened; long = omega (arith, c .before .before .before .before .relink .kept, start .pre .0 .long) };
       one = omega arith;
-      filled = own-taken (a .table .now) (a .list .now) (a .bytes .now) (start .pre .1 .listed) (start .pre .1 .room) (own .clusters-for .ensures);
+      filled = own-taken (a .s) (a .table .now) (a .list .now) (a .bytes .now) (start .pre .1 .listed) (start .pre .1 .room) (own .clusters-for .ensures);
       lands =
-          replaced-lands (a .table .now) (a .list .now) (a .bytes .now) (start .pre .1 .listed) (start .pre .1 .room) (own .clusters-for .ensures) (a .t5) (a .t6) (a .time .now)
+          replaced-lands (a .s) (a .table .now) (a .list .now) (a .bytes .now) (start .pre .1 .listed) (start .pre .1 .room) (own .clusters-for .ensures) (a .t5) (a .t6) (a .time .now)
           (paged .before .word-at .ensures) (paged .with-length .ensures) (paged .before .before .before .before .before .before .first-of .ensures) (paged .before .before .before .before .before .replaced-page .ensures) (a .s .end) (start .pre .2);
     }
 
@@ -82,9 +82,9 @@ returns c =
     let start = own .before .before .before .before .before .before in
     let a = start .args in
     image-as (a .s) (a .image .now) (c .before .before .put-down .ensures)
-    (replaced-writes (a .table .now) (a .list .now) (a .bytes .now) (start .pre .1 .listed) (start .pre .1 .room) (own .clusters-for .ensures) (a .t5) (a .t6) (a .time .now)
+    (replaced-writes (a .s) (a .table .now) (a .list .now) (a .bytes .now) (start .pre .1 .listed) (start .pre .1 .room) (own .clusters-for .ensures) (a .t5) (a .t6) (a .time .now)
     (paged .before .word-at .ensures) (paged .with-length .ensures) (paged .before .before .before .before .before .before .first-of .ensures) (paged .before .before .before .before .before .replaced-page .ensures))
-    (replaced-words (a .table .now) (a .list .now) (a .bytes .now) (start .pre .1 .listed) (start .pre .1 .room) (own .clusters-for .ensures) (a .t6) (relinked .before .before .file-clusters .ensures) (relinked .before .before .before .word-at2 .ensures) (relinked .relink .ensures))
+    (replaced-words (a .s) (a .table .now) (a .list .now) (a .bytes .now) (start .pre .1 .listed) (start .pre .1 .room) (own .clusters-for .ensures) (a .t6) (relinked .before .before .file-clusters .ensures) (relinked .before .before .before .word-at2 .ensures) (relinked .relink .ensures))
 
 pub replace-listed-spec : {M : Type 1} → statement M
 replace-listed-spec =
