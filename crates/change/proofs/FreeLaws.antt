@@ -11,12 +11,13 @@ use Rattle.layout.proofs.OpenFacts.{open-facts}
 use Rattle.tree.specs.declared.along.Place.{Place}
 use Rattle.tree.specs.declared.along.Place.the-variants as place
 use Rattle.model.specs.Check.{ok}
-use Rattle.model.specs.Counts.{mayTakeOn, takeable}
+use Rattle.model.specs.Counts.{takeable}
 use Rattle.model.specs.Plan.{freeBelow, ifFree}
 use Rattle.model.specs.Tree.{times}
 use Rattle.model.specs.View.{Link, linkOf, mostClusters, topBit}
 use Rattle.model.proofs.Allocation.{free-low}
 use Rattle.model.proofs.Frame.{times-drop, times-take}
+use Rattle.change.specs.Changed.{rulesOf}
 use Rattle.change.specs.Deeds.{growthBy}
 use Rattle.change.specs.Words.{freeList}
 
@@ -44,7 +45,7 @@ module _ (format : Format) (image table : List ℕ) (s : Superblock) (opened : o
 
   -- the links of which the free ones are taken
   pool : ℕ → Link
-  pool = takeable (mayTakeOn (s .clusters) (s .end)) (λ c. linkOf (getD table c 0))
+  pool = takeable ((rulesOf s) .mayTake) (λ c. linkOf (getD table c 0))
 
   pub free-few : length (freeList s table) ≤ mostClusters
   unfolding pool

@@ -14,7 +14,7 @@ use Rattle.layout.specs.See.{see}
 use Rattle.layout.specs.Table.{openCard, tableOf}
 use Rattle.layout.proofs.TableLaws.{length-table}
 use Rattle.model.specs.Check.{ok}
-use Rattle.model.specs.Counts.{mayTakeOn, takeable}
+use Rattle.model.specs.Counts.{takeable}
 use Rattle.model.specs.Entry.{clustersFor, entryOf}
 use Rattle.model.specs.Names.{Path}
 use Rattle.model.specs.Pages.{dataPages, dataPagesTo, zeroPage}
@@ -36,13 +36,13 @@ free-ext f g zero h = refl
 free-ext f g (suc k) h = ap₂ (λ l x. l ++ ifFree x k) (free-ext f g k (λ c u. h c (omega arith))) (h k (omega arith))
 
 free-table : (s : Superblock) (table : List ℕ)
-    → freeList s table ≡ freeBelow (takeable (mayTakeOn (s .clusters) (s .end)) (linksOf (length table) (λ c. getD table c 0))) (length table)
+    → freeList s table ≡ freeBelow (takeable ((rulesOf s) .mayTake) (linksOf (length table) (λ c. getD table c 0))) (length table)
 free-table s table = free-ext _ _ (length table) (λ c h. rw (lt-ltb c (length table) h))
 
 module _ (format : Format) (image : List ℕ) (s : Superblock) (opened : openCard format image ≡ ok s) where
   pub free-is : freeClusters (rulesOf s) (see s image) ≡ freeList s (tableOf image s)
   free-is =
-      ap (freeBelow (takeable (mayTakeOn (s .clusters) (s .end)) ((see s image) .link))) (end-is format image s opened ∙ sym (length-table image s))
+      ap (freeBelow (takeable ((rulesOf s) .mayTake) ((see s image) .link))) (end-is format image s opened ∙ sym (length-table image s))
       ∙ sym (free-table s (tableOf image s))
 
   module _ (root : Root) (p : Path) (here : EntryAt) (site : Site (see s image) (tableOf image s) root p here) where

@@ -3,15 +3,16 @@ use Prim.Native.Nat.{ℕ, zero, suc, _%_}
 use mathlib.Core.List.{List, [], _∷_}
 use lib.ListN.{getD, length, set}
 use Rattle.layout.specs.declared.Superblock.{Superblock}
-use Rattle.model.specs.Counts.{mayTakeOn, takeable}
+use Rattle.model.specs.Counts.{takeable}
 use Rattle.model.specs.Plan.{freeBelow}
 use Rattle.model.specs.View.{linkOf, topBit}
 use Rattle.model.specs.Writes.{wordTo}
 use Rattle.tree.specs.Slots.{nextOf}
+use Rattle.change.specs.Changed.{rulesOf}
 
 -- the free clusters of a card's table that may be taken, ascending
 abbrev pub freeList : Superblock → List ℕ → List ℕ
-freeList s table = freeBelow (takeable (mayTakeOn (s .clusters) (s .end)) (λ c. linkOf (getD table c 0))) (length table)
+freeList s table = freeBelow (takeable ((rulesOf s) .mayTake) (λ c. linkOf (getD table c 0))) (length table)
 
 -- A table in which each of the clusters leads to the next one and the last has the end mark; one outside the table is passed over.
 unfoldable pub chained : List ℕ → List ℕ → List ℕ

@@ -21,7 +21,7 @@ use Rattle.model.specs.Change.{Change, creates, path, standingAfter}
 use Rattle.model.specs.Check.{Marks, Result, andThen, fault, ok}
 use Rattle.model.specs.Claims as model
 use Rattle.model.specs.Claims.{chainBack}
-use Rattle.model.specs.Counts.{freeCount, heldCount, mayTakeOn}
+use Rattle.model.specs.Counts.{freeCount, heldCount}
 use Rattle.model.specs.Names.{Path, beginning, samePath}
 use Rattle.model.specs.Perform.{done, perform}
 use Rattle.model.specs.Plan.{Plan, freeOf, heldOf, planOf, returned, withheld}
@@ -65,13 +65,13 @@ module _ (format : Format) (image : List ℕ) (s : Superblock) (root : Root) (m 
   unfolding freeIn
   free-is =
       ap (countBy (λ c. c .free)) counted
-      ∙ ap (λ n. freeCount (mayTakeOn (s .clusters) (s .end)) n (see s image)) (sym (end-is format image s ((checked-parts format image s root m checked) .0)))
+      ∙ ap (λ n. freeCount ((rulesOf s) .mayTake) n (see s image)) (sym (end-is format image s ((checked-parts format image s root m checked) .0)))
 
   pub held-is : heldIn format image ≡ heldOf (rulesOf s) (see s image)
   unfolding heldIn
   held-is =
       ap (countBy (λ c. c .held)) counted
-      ∙ ap (λ n. heldCount (mayTakeOn (s .clusters) (s .end)) n (see s image)) (sym (end-is format image s ((checked-parts format image s root m checked) .0)))
+      ∙ ap (λ n. heldCount ((rulesOf s) .mayTake) n (see s image)) (sym (end-is format image s ((checked-parts format image s root m checked) .0)))
 
   pub long-is : length image ≡ clusterBytes (s .geometry .format) * s .clusters
   long-is = (open-facts format image s ((checked-parts format image s root m checked) .0)) .long

@@ -12,7 +12,6 @@ use Rattle.layout.specs.See.{checkImage, see}
 use Rattle.model.specs.Change.{Change, Crossed, creates, path, standingAfter}
 use Rattle.model.specs.Check.{Marks, Result, fault, ok}
 use Rattle.model.specs.Claims.{chainBack}
-use Rattle.model.specs.Counts.{mayTakeOn}
 use Rattle.model.specs.Names.{Path, beginning, samePath}
 use Rattle.model.specs.Plan.{returned, withheld}
 use Rattle.model.specs.Refusal.{needed}
@@ -59,7 +58,7 @@ pub record Kept (format : Format) (image : List ℕ) (c : Change) : Type 0 where
   pub free : freeIn format (imageLeft format c image) ≡ freeIn format image - takenBy format c image + givenBackBy format c image
   pub held : heldIn format (imageLeft format c image) ≡ heldIn format image + heldBackBy format c image
   -- a free table word from the limit up is still free
-  pub untaken : (s : Superblock) → superblockIn (checkImage format image) ≡ ok s → (d : ℕ) → mayTakeOn (s .clusters) (s .end) d ≡ false
+  pub untaken : (s : Superblock) → superblockIn (checkImage format image) ≡ ok s → (d : ℕ) → (rulesOf s) .mayTake d ≡ false
       → (see s image) .link d ≡ Link.free → (see s (imageLeft format c image)) .link d ≡ Link.free
 
 abbrev pub ChangeKeeps : Type 0

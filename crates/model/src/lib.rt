@@ -9,7 +9,7 @@ pub const DEEPEST: u32 = 7;
 
 pub const MOST_NAMES: usize = 8;
 
-// The reserved tail: on a card of this many clusters nothing new is put from this table index up.
+// The reserved tail: on a card of this many clusters no new cluster is taken from this table index up.
 pub const STANDARD_CLUSTERS: u32 = 8192;
 
 pub const TAIL_START: usize = 8000;
