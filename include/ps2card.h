@@ -23,9 +23,10 @@
  * The check reads the superblock, the table and every directory, but NO FILE DATA: a card that it accepts may have
  *   files with unreadable pages. Only ps2card_read of all of a file's bytes shows that they can be read.
  * Room: a change takes free clusters, the lowest first. A card of 8,192 clusters has a reserved tail, as on consoles:
- *   its allocatable clusters from index 8,000 on. No change takes a new cluster there: one that the table has as free,
- *   also one that a change has just freed, is held back and not free. What stands in the tail is read, replaced and
- *   deleted as anywhere else. No other card has a tail.
+ *   its allocatable clusters from index 8,000 on. No other card has a tail. Every card lists its bad erase blocks, of 8
+ *   clusters each, in 32 words at 0xD0 of its first page, 0xFFFFFFFF for none. No change takes a new cluster in the
+ *   tail or in a listed block: one that the table has as free there, also one that a change has just freed, is held
+ *   back and not free. What stands there is read, replaced and deleted as anywhere else.
  * path, path_length: a path on the card as bytes, without a zero at the end: "/" alone, or one to eight names, each
  *   after a "/". A name has 1 to 31 bytes from 0x20 to 0x7E, none of them * / or ?, and is neither "." nor "..". Names
  *   are compared whole: case and blanks count. Directories have one to seven names, files one to eight. So a path has
@@ -49,9 +50,9 @@
 #include <stddef.h>
 #include <stdint.h>
 
-#define PS2CARD_VERSION "0.4.0"
+#define PS2CARD_VERSION "0.5.0"
 /* 10,000 for each major, 100 for each minor version, and the patch. */
-#define PS2CARD_VERSION_NUMBER 400
+#define PS2CARD_VERSION_NUMBER 500
 
 /* Clusters of the largest card. */
 #define PS2CARD_MOST_CLUSTERS 65536
@@ -77,8 +78,8 @@ enum ps2card_refusal {
     PS2CARD_BAD_LENGTH = 1,      /* the image's length is that of no card */
     PS2CARD_UNREADABLE_PAGE = 2, /* a needed page is damaged beyond correction */
     PS2CARD_BAD_TEXT = 3,        /* the format text differs */
-    PS2CARD_BAD_SUPERBLOCK = 4,  /* another rule of the superblock is broken */
-    PS2CARD_BAD_TABLE_NAME = 5,  /* the name of a table cluster breaks its rule */
+    PS2CARD_BAD_SUPERBLOCK = 4,  /* another superblock rule is broken, or a listed bad block is 0 or beyond the card */
+    PS2CARD_BAD_TABLE_NAME = 5,  /* the indirect or a table cluster is wrongly named, or lies in a listed bad block */
     PS2CARD_BAD_CHAIN = 6,       /* a chain of clusters isn't sound */
     PS2CARD_BAD_ENTRY = 7,       /* a directory entry breaks its rule */
     PS2CARD_BAD_PATH = 8,        /* the path is malformed, the root in a change, or eight names for a new directory */
@@ -88,7 +89,7 @@ enum ps2card_refusal {
     PS2CARD_EXISTS = 11,         /* the path to create exists */
     PS2CARD_NOT_EMPTY = 13,      /* the directory to remove has a live entry after its first two */
     PS2CARD_BAD_OFFSET = 15,     /* the read's offset lies beyond the file's length */
-    PS2CARD_NO_ROOM = 12,        /* fewer free clusters than needed */
+    PS2CARD_NO_ROOM = 12,        /* fewer free clusters than needed; those held back are not free */
     PS2CARD_WRONG_OUTPUT = 23    /* the output of a conversion isn't exactly as long as needed */
 };
 
@@ -115,7 +116,7 @@ extern "C" {
  *   free        free in the table, and a change can take them: so many times 1,024 bytes are left
  *   reached     in the chain of a directory or a file
  *   orphaned    not free in the table, and in no chain
- *   held        held back: free in the table, but in the reserved tail, so that no change takes them
+ *   held        held back: free in the table, but in the reserved tail or in a bad block, so that no change takes them
  * The four add up to the allocatable clusters.
  * Refusals: 1 to 7. Untouched on a refusal: clusters, free, reached, orphaned, held.
  * Stack: at most 1,200 KiB. */

@@ -14,7 +14,7 @@ pub struct Counts {
     /// Those that the table has not as free and that no chain reaches.
     pub orphaned: usize,
     /// Held back: those that the table has as free, but that no change takes, because they lie in the reserved tail of a
-    /// card of 8,192 clusters, from index 8,000 on. It is 0 on every other card.
+    /// card of 8,192 clusters, from index 8,000 on, or in an erase block that the card lists as bad.
     pub held: usize,
 }
 

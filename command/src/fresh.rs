@@ -18,7 +18,8 @@ const DIRECTORY_MODE: u16 = 0x8427;
 
 impl Card {
     /// A card with nothing but an empty root, its entries with this time; 14 where the time is invalid, 1 where no card
-    /// has so many clusters. Every page that nothing stands in is erased, both backup blocks too.
+    /// has so many clusters. Every page that nothing stands in is erased, both backup blocks too. No block is listed as
+    /// bad.
     pub fn fresh(format: Format, clusters: usize, time: &Stamp) -> Result<Card, Refusal> {
         if !allowed_clusters(clusters) {
             return Err(Refusal::BadLength);
@@ -84,7 +85,7 @@ fn superblock(layout: &Layout) -> [u8; DATA] {
     put(&mut data, 0x40, &word(last_block));
     put(&mut data, 0x44, &word(last_block - 1));
     put(&mut data, 0x50, &word(INDIRECT));
-    // The list of bad blocks: none.
+    // The list of bad blocks: 32 times none. Zeros would list block 0, which is refused.
     data[0xD0..0x150].fill(0xFF);
     // Type: PlayStation 2; flags as 001 gives them.
     put(&mut data, 0x150, &[2, 0x52]);

@@ -22,6 +22,11 @@ impl<B: AsRef<[u8]>> Card<B> {
     /// // The standard card has 8,135 allocatable clusters: 8,000 that changes can take, and its reserved tail.
     /// let counts = Card::fresh(Format::Raw, 8_192, &Stamp::now())?.check()?;
     /// assert_eq!((counts.free, counts.reached, counts.orphaned, counts.held), (7_999, 1, 0, 135));
+    /// // Block 3, clusters 24 to 31 of the card, is listed as bad: nothing new goes there.
+    /// let mut image = Card::fresh(Format::Plain, 56, &Stamp::now())?.into_image();
+    /// image[0xD0..0xD4].copy_from_slice(&3_u32.to_le_bytes());
+    /// let counts = Card::plain(image).check()?;
+    /// assert_eq!((counts.free, counts.reached, counts.orphaned, counts.held), (21, 1, 0, 8));
     /// assert_eq!(Card::raw(&b"no card"[..]).check(), Err(Refusal::BadLength));
     /// # Ok::<(), Refusal>(())
     /// ```

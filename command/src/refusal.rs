@@ -23,9 +23,9 @@ pub enum Refusal {
     UnreadablePage(usize),
     /// 3: the format text differs.
     BadText,
-    /// 4: another rule of the superblock is broken.
+    /// 4: another rule of the superblock is broken, or a listed bad block is block 0 or beyond the card.
     BadSuperblock,
-    /// 5: a table cluster's name breaks its rule.
+    /// 5: the name of the indirect or a table cluster breaks its rule, or the cluster lies in a listed bad block.
     BadTableName,
     /// 6: a chain isn't sound.
     BadChain,
@@ -125,8 +125,8 @@ impl Refusal {
             }
             Refusal::UnreadablePage(_) => "this page of the card is damaged beyond correction and is needed",
             Refusal::BadText => "the card is not formatted as a PlayStation 2 memory card",
-            Refusal::BadSuperblock => "the card's description of itself (its first page) is wrong",
-            Refusal::BadTableName => "the card's list of allocation table clusters is wrong",
+            Refusal::BadSuperblock => "the card's description of itself (its first page, with its list of bad blocks) is wrong",
+            Refusal::BadTableName => "the card's list of allocation table clusters is wrong, or this list or one of them lies in a block that the card says is bad",
             Refusal::BadChain => "the clusters of a file or directory do not hang together",
             Refusal::BadEntry => "a directory entry on the card is wrong",
             Refusal::BadPath => "this path cannot be used: a path is / or up to eight names each after /, such as /SAVE/icon.sys, a name up to 31 plain characters without * and ?; / itself cannot be changed, and a directory has at most seven names",

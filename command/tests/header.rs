@@ -6,7 +6,7 @@ mod common;
 
 use common::{in_wrapper, Folder};
 use ps2card::{Card, Counts, Entry, Format, Kind, Refusal, Stamp};
-use reader::build;
+use reader::build::{self, Assembly, Layout};
 
 /// What stands in an output before a call of the C program.
 const UNTOUCHED: usize = 77;
@@ -172,14 +172,20 @@ impl Script {
 }
 
 /// C through the header and Rust through the wrapper tell the same and leave the same image, in both formats, on a small
-/// card and on one with a reserved tail, and however C is compiled.
+/// card, on one that lists a bad block and on one with a reserved tail, and however C is compiled.
 #[test]
 fn c_program() {
     for way in c::WAYS {
         let folder = Folder::new();
         let program = c::compiled(&folder, c::test("header"), way);
         for format in reader::Format::BOTH {
-            let cards = [(build::bench(format), "56 29 1 0 0"), (build::standard(format), "8192 7999 1 0 135")];
+            let mut worn = Assembly::with_root(format, Layout::bench());
+            worn.superblock[0x14C..0x150].copy_from_slice(&2_u32.to_le_bytes());
+            let cards = [
+                (build::bench(format), "56 29 1 0 0"),
+                (worn.finish(), "56 21 1 0 8"),
+                (build::standard(format), "8192 7999 1 0 135"),
+            ];
             for (image, counts) in cards {
                 let text = same(&folder, &program, format, &image);
                 let checks = format!("check 0 77 {counts}\ncheck 1 77 77 77 77 77 77\n");

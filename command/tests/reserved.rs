@@ -136,7 +136,8 @@ fn chains_in_the_tail() {
     }
 }
 
-/// Where a card has a tail: with 8,192 clusters and from index 8,000 on, whatever the list of bad blocks says.
+/// Where a card has a tail: with 8,192 clusters and from index 8,000 on, whatever the list of bad blocks says. Block 200
+/// has clusters 1,559 to 1,566, which are held back with it.
 #[test]
 fn which_cards() {
     let fresh = |format: Format, layout: Layout, bad_block: u32| {
@@ -145,10 +146,11 @@ fn which_cards() {
         Card::new(in_wrapper(format), card.finish()).check()
     };
     for format in Format::BOTH {
-        for (alloc_end, held) in [(1_usize, 0), (7_999, 0), (8_000, 0), (8_001, 1), (8_002, 2), (8_135, 135)] {
+        let ends = [(1_usize, 0, 0), (7_999, 0, 8), (8_000, 0, 8), (8_001, 1, 9), (8_002, 2, 10), (8_135, 135, 143)];
+        for (alloc_end, tail, with_block) in ends {
             let standard = Layout::standard();
             let table = standard.table[..alloc_end.div_ceil(256)].to_vec();
-            for bad_block in [u32::MAX, 200] {
+            for (bad_block, held) in [(u32::MAX, tail), (200, with_block)] {
                 let told = fresh(format, Layout { alloc_end, table: table.clone(), ..standard.clone() }, bad_block);
                 assert_eq!(told, Ok(counts(8_192, alloc_end - 1 - held, 1, held)), "{alloc_end} {bad_block}");
             }

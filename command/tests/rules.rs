@@ -16,6 +16,13 @@ fn time() -> Stamp {
     Stamp(build::usual_time())
 }
 
+fn in_reader(format: Format) -> reader::Format {
+    match format {
+        Format::Raw => reader::Format::Raw,
+        Format::Plain => reader::Format::Plain,
+    }
+}
+
 fn fresh() -> Card {
     Card::fresh(Format::Raw, 56, &time()).expect("a fresh card")
 }
@@ -127,6 +134,40 @@ fn room() {
         assert_eq!(card.create(b"/A", &time(), &bytes[1..]), Ok(()));
         assert_eq!(told(&card), Ok((0, free + 1, held)));
         assert_eq!((card.delete(b"/A"), told(&card)), (Ok(()), Ok((free - 1, 2, held))));
+    }
+}
+
+/// Nothing new in a listed block, in either format: here block 3 of the bench card, its allocatable clusters 14 to 21.
+#[test]
+fn bad_blocks() {
+    says(
+        HEADER,
+        "Every card lists its bad erase blocks, of 8 clusters each, in 32 words at 0xD0 of its first page, 0xFFFFFFFF for none.",
+    );
+    says(HEADER, "No change takes a new cluster in the tail or in a listed block");
+    for format in Format::ALL {
+        let card = |place: usize, block: u32| {
+            let mut card = build::Assembly::with_root(in_reader(format), build::Layout::bench());
+            card.superblock[0xD0 + 4 * place..][..4].copy_from_slice(&block.to_le_bytes());
+            Card::new(format, card.finish())
+        };
+        for place in 0..32 {
+            let mut card = card(place, 3);
+            let told = |card: &Card| card.check().map(|counts| (counts.free, counts.reached, counts.held));
+            assert_eq!(told(&card), Ok((21, 1, 8)), "word {place}");
+            let bytes = vec![7; 20 * 1_024 + 1];
+            assert_eq!(card.create(b"/A", &time(), &bytes), Err(Refusal::NoRoom));
+            assert_eq!(card.create(b"/A", &time(), &bytes[1..]), Ok(()));
+            assert_eq!(told(&card), Ok((0, 22, 8)));
+            assert_eq!((card.delete(b"/A"), told(&card)), (Ok(()), Ok((20, 2, 8))));
+        }
+        for place in 0..32 {
+            let told = [0, 1, 2, 6, 7, u32::MAX - 1].map(|block| card(place, block).check().err());
+            let (four, five) = (Some(Refusal::BadSuperblock), Some(Refusal::BadTableName));
+            assert_eq!(told, [four, five, None, None, four, four], "word {place}");
+        }
+        // The word after the list is none of it.
+        assert!(card(32, 7).check().is_ok());
     }
 }
 

@@ -3,17 +3,18 @@
 
 mod common;
 
-use common::both::{bytes, Both};
+use common::both::Both;
 use common::changes::Changes;
-use common::orders::{are_apart, Run};
+use common::orders::Run;
+use common::room::{create, delete, drawn_pairs_on, make, node, replace, up_to_room};
 use common::{flip_each_chunk, needed_pages};
 use reader::build::random::tight;
 use reader::build::requests::random_change;
+use reader::build::scribble;
 use reader::build::tail::sample;
-use reader::build::{scribble, usual_time};
 use reader::rng::Rng;
-use reader::tree::{Checked, Node};
-use reader::{lookup, paths, time, tree, Change, Counts, Format, Tree};
+use reader::tree::Checked;
+use reader::{lookup, tree, Change, Counts, Format};
 
 /// What a sequence met, beside the answers.
 #[derive(Debug, Default)]
@@ -57,10 +58,6 @@ impl Met {
     }
 }
 
-fn node(checked: &Checked, names: &[&[u8]]) -> Node {
-    lookup::locate(&checked.root, names).expect("it is there").clone()
-}
-
 /// Flips in any raw pages, those of the tail more often; damage in pages of it that the check does not need.
 fn wear(format: Format, image: &mut [u8], needed: &[usize], tail: std::ops::Range<usize>, rng: &mut Rng) {
     if format == Format::Raw {
@@ -71,26 +68,6 @@ fn wear(format: Format, image: &mut [u8], needed: &[usize], tail: std::ops::Rang
     if rng.chance(1, 4) && !needed.contains(&page) {
         scribble::ruin(format, image, page, rng.below(4), rng);
     }
-}
-
-/// Whether nothing but room can refuse the change.
-fn is_up_to_room(change: &Change, items: &Tree) -> bool {
-    let path = change.path();
-    let (there, around) = (items.get(path), items.get(paths::directory_of(path)));
-    let has_inside = || items.keys().any(|other| other != path && paths::is_beginning(path, other));
-    let is_new = paths::parse(path).is_some() && there.is_none() && around.is_some_and(|item| item.is_directory);
-    match change {
-        Change::Create { time, .. } => is_new && time::valid(time),
-        Change::MakeDir { time, .. } => is_new && time::valid(time) && paths::depth(path) < paths::MOST_NAMES,
-        Change::Replace { time, .. } => there.is_some_and(|item| !item.is_directory) && time::valid(time),
-        Change::Delete { .. } => there.is_some_and(|item| !item.is_directory),
-        Change::RemoveDir { .. } => path != b"/" && there.is_some_and(|item| item.is_directory) && !has_inside(),
-    }
-}
-
-/// A random change that nothing but room can refuse.
-fn up_to_room(rng: &mut Rng, items: &Tree) -> Change {
-    std::iter::repeat_with(|| random_change(rng, items)).find(|change| is_up_to_room(change, items)).expect("endless")
 }
 
 fn sequences(format: Format, seeds: std::ops::Range<u64>) {
@@ -140,29 +117,13 @@ fn plain_sequences() {
     sequences(Format::Plain, 1000..1032);
 }
 
-/// Random pairs on tight cards, every second one in one directory where there is such a pair.
 fn pairs(format: Format, seeds: std::ops::Range<u64>) {
     let mut run = Run::new(format);
     for seed in seeds {
-        let mut rng = Rng::new(seed ^ 0x7A11_0D03);
         let image = tight(format, seed).image;
-        let items = tree(format, &image).expect("an accepted card");
-        for number in 0..4 {
-            let one = up_to_room(&mut rng, &items);
-            let around = paths::directory_of(one.path());
-            let others: Vec<Change> = (0..12).map(|_| up_to_room(&mut rng, &items)).collect();
-            let mut apart = others.iter().filter(|other| are_apart(one.path(), other.path()));
-            let near = apart.clone().find(|other| number % 2 == 0 && paths::directory_of(other.path()) == around);
-            if let Some(other) = near.or(apart.next()) {
-                run.both_orders(&image, &[one, other.clone()], || format!("tight card {seed}, pair {number}"));
-            }
-        }
+        run.pairs_up_to_room(&image, 4, &mut Rng::new(seed ^ 0x7A11_0D03), || format!("tight card {seed}"));
     }
-    let accepted: usize = run.accepted.iter().flatten().sum();
-    let Run { one_order, neither, creations_refused, differed, .. } = run;
-    let others = [one_order, neither, creations_refused, differed];
-    println!("{format:?}: {accepted} pairs accepted in both orders; one order, neither, creations, counts: {others:?}");
-    assert!(accepted >= 30 && neither >= 10 && creations_refused >= 3, "{accepted} {others:?}");
+    run.room_decided(30);
 }
 
 #[test]
@@ -173,22 +134,6 @@ fn raw_pairs() {
 #[test]
 fn plain_pairs() {
     pairs(Format::Plain, 2000..2020);
-}
-
-fn create(path: &str, clusters: usize) -> Change {
-    Change::Create { path: path.into(), time: usual_time(), data: bytes(1024 * clusters) }
-}
-
-fn replace(path: &str, clusters: usize) -> Change {
-    Change::Replace { path: path.into(), time: usual_time(), data: bytes(1024 * clusters) }
-}
-
-fn make(path: &str) -> Change {
-    Change::MakeDir { path: path.into(), time: usual_time() }
-}
-
-fn delete(path: &str) -> Change {
-    Change::Delete { path: path.into() }
 }
 
 /// Pairs on the sample with three clusters free: in how many orders each is accepted to its end, 0, 1 or 2.
@@ -222,16 +167,7 @@ fn drawn_pairs() {
         ([delete("/FULL/x"), create("/FULL/a", 4)], 0),
     ];
     for format in Format::BOTH {
-        let image = sample(format, &[4, 9, 7998]).finish();
-        let mut run = Run::new(format);
-        for (number, (pair, orders)) in cases.iter().enumerate() {
-            let before = (run.accepted.iter().flatten().sum::<usize>(), run.one_order, run.neither);
-            run.both_orders(&image, pair, || format!("pair {number}"));
-            let after = (run.accepted.iter().flatten().sum::<usize>(), run.one_order, run.neither);
-            let met = (after.0 - before.0, after.1 - before.1, after.2 - before.2);
-            let expected = [(0, 0, 1), (0, 1, 0), (1, 0, 0)][*orders];
-            assert_eq!(met, expected, "{format:?}, {pair:?}");
-        }
+        let run = drawn_pairs_on(format, &sample(format, &[4, 9, 7998]).finish(), &cases);
         // Only `/FULL` grows in one order and not in the other.
         assert_eq!(run.differed, 1);
     }

@@ -8,7 +8,7 @@ use common::requests::{random_offset, random_path, random_size, random_slot};
 use common::Tally;
 use compare::cards::{full, full_great};
 use compare::{change, check, find, listing, read, step};
-use reader::build::random::{random, tight};
+use reader::build::random::{listed, random, tight};
 use reader::build::requests::random_change;
 use reader::build::scribble::junk_spare;
 use reader::build::usual_time;
@@ -143,6 +143,18 @@ fn tight_cards() {
         run.sequence(&mut twins, 6, &mut rng, || format!("tight card {seed}"));
     }
     run.changes.met([0, 12], 5);
+}
+
+/// Cards that list bad blocks, with hardly a free cluster beside them.
+#[test]
+fn listed_cards() {
+    let mut run = Run::default();
+    for seed in 0..60 {
+        let mut rng = Rng::new(seed ^ 0x721A);
+        let mut twins = Twins::of(listed(Format::Plain, seed).image, &mut rng);
+        run.sequence(&mut twins, 8, &mut rng, || format!("listed card {seed}"));
+    }
+    run.changes.met([0, 12], 30);
 }
 
 #[test]

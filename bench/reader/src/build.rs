@@ -4,9 +4,12 @@
 
 pub mod bad;
 pub mod bad_entries;
+pub mod bad_lists;
 pub mod deep;
 pub mod draw;
 pub mod good;
+mod layout;
+pub mod listed;
 pub mod random;
 pub mod requests;
 pub mod samples;
@@ -16,91 +19,16 @@ pub mod tail;
 pub mod vandal;
 mod wear;
 
-use crate::card::{END_MARK, FORMAT, USED};
+use crate::card::{BAD_BLOCKS, BAD_BLOCK_WORDS, END_MARK, FORMAT, USED};
 use crate::entry::{name_field, Entry};
 use crate::page::{self, put_half, put_word, Data, Format, CLUSTER_DATA, DATA};
 use crate::time::{stamp, Time};
-use crate::tree::Counts;
+
+pub use layout::Layout;
 
 /// The time on cards built here: 12:34:56 on 29 February 2000.
 pub fn usual_time() -> Time {
     stamp(2000, 2, 29, 12, 34, 56)
-}
-
-/// Where the parts of a card lie.
-#[derive(Clone, Debug)]
-pub struct Layout {
-    pub clusters: usize,
-    pub alloc_offset: usize,
-    pub alloc_end: usize,
-    pub indirect: usize,
-    pub table: Vec<usize>,
-    pub backups: [u32; 2],
-    pub version: &'static str,
-}
-
-impl Layout {
-    /// The bench card of document 01.
-    pub fn bench() -> Layout {
-        Layout::fresh(56)
-    }
-
-    /// The standard 8 MB card of source 001.
-    pub fn standard() -> Layout {
-        Layout::fresh(8192)
-    }
-
-    /// A card of N clusters as those two are laid out: the indirect cluster is 8, the table begins at 9, the last two
-    /// blocks are the backups, and everything between is allocatable.
-    pub fn fresh(clusters: usize) -> Layout {
-        Layout::behind(clusters, 8)
-    }
-
-    /// The card of N clusters with most of them allocatable: indirect cluster and table lie from 1 on.
-    pub fn widest(clusters: usize) -> Layout {
-        Layout::behind(clusters, 1)
-    }
-
-    /// The table right behind the indirect cluster, with room for a word of each cluster that follows; now and then the
-    /// last cluster of that room isn't needed.
-    fn behind(clusters: usize, indirect: usize) -> Layout {
-        let blocks = clusters / 8;
-        let table = indirect + 1;
-        let left = clusters - 16 - table;
-        let room = (1..).find(|room| (left - room).div_ceil(256) <= *room).expect("a table fits");
-        let alloc_end = left - room;
-        Layout {
-            clusters,
-            alloc_offset: table + room,
-            alloc_end,
-            indirect,
-            table: (table..table + alloc_end.div_ceil(256)).collect(),
-            backups: [blocks as u32 - 1, blocks as u32 - 2],
-            version: "1.2.0.0",
-        }
-    }
-
-    /// The same card with fewer allocatable clusters; nobody has those behind them.
-    pub fn ending(mut self, alloc_end: usize) -> Layout {
-        assert!((1..=self.alloc_end).contains(&alloc_end), "fewer clusters, at least 1");
-        self.table.truncate(alloc_end.div_ceil(256));
-        Layout { alloc_end, ..self }
-    }
-
-    /// The table index from which no new cluster is taken: only a card of 8,192 clusters has a tail.
-    pub fn limit(&self) -> usize {
-        if self.clusters == 8192 {
-            self.alloc_end.min(8000)
-        } else {
-            self.alloc_end
-        }
-    }
-
-    /// The counts where so many clusters are reached, all of them below the limit, and none is orphaned.
-    pub fn counts(&self, reached: usize) -> Counts {
-        let limit = self.limit();
-        Counts { clusters: self.clusters, free: limit - reached, reached, orphaned: 0, held: self.alloc_end - limit }
-    }
 }
 
 /// A card under construction: its parts stay open until `finish` puts them into pages.
@@ -140,6 +68,22 @@ impl Assembly {
         let mut card = Assembly::new(format, layout);
         card.directory(&[0], 2);
         card
+    }
+
+    /// Puts these words into the list of bad blocks, from its first one on.
+    pub fn list(&mut self, words: &[u32]) {
+        assert!(words.len() <= BAD_BLOCK_WORDS, "the list has 32 words");
+        words
+            .iter()
+            .enumerate()
+            .for_each(|(place, &word)| put_word(&mut self.superblock, BAD_BLOCKS + 4 * place, word));
+    }
+
+    /// Whether new clusters may lie here: below the limit and in no block of the list.
+    pub fn is_open(&self, cluster: usize) -> bool {
+        let block = (self.layout.alloc_offset + cluster) / 8;
+        let list = &self.superblock[BAD_BLOCKS..BAD_BLOCKS + 4 * BAD_BLOCK_WORDS];
+        cluster < self.layout.limit() && list.chunks(4).all(|word| word != (block as u32).to_le_bytes())
     }
 
     /// A directory's chain and its first two entries, the first with its length as the root's has it.

@@ -11,6 +11,10 @@ pub const BLOCK: u64 = 8;
 /// Clusters of the smallest card and of the greatest.
 pub const LEAST_CLUSTERS: usize = 32;
 pub const MOST_CLUSTERS: usize = 65_536;
+/// Where the superblock lists bad erase blocks, in how many words, and the word that lists none.
+pub const BAD_BLOCKS: usize = 0xD0;
+pub const BAD_BLOCK_WORDS: usize = 32;
+pub const NO_BLOCK: u32 = 0xFFFF_FFFF;
 /// A card of so many clusters keeps its last allocatable ones back, from this table index up.
 pub const TAIL_CLUSTERS: usize = 8192;
 pub const TAIL: usize = 8000;
@@ -45,6 +49,8 @@ pub struct Card {
     pub clusters: usize,
     pub alloc_offset: usize,
     pub alloc_end: usize,
+    /// The erase blocks listed as bad; one may be there twice.
+    pub bad_blocks: Vec<u64>,
     /// Card clusters of the table, in the order of their names.
     pub table_clusters: Vec<usize>,
     /// One word for each allocatable cluster.
@@ -75,12 +81,25 @@ fn needed_cluster(format: Format, image: &[u8], cluster: usize) -> Result<Vec<u8
     Ok([first, second].concat())
 }
 
+/// The erase block that a card cluster lies in.
+fn block_of(cluster: usize) -> u64 {
+    cluster as u64 / BLOCK
+}
+
+/// The listed bad blocks: all 32 words count, also behind one that lists none.
+fn bad_blocks(block: &Data) -> Vec<u64> {
+    let words = (0..BAD_BLOCK_WORDS).map(|place| word(block, BAD_BLOCKS + 4 * place));
+    words.filter(|&word| word != NO_BLOCK).map(u64::from).collect()
+}
+
 /// The rules of number 4; sums are taken as whole numbers.
 fn superblock_rules(block: &Data, clusters: usize) -> bool {
     let wide = |at| u64::from(word(block, at));
     let (offset, end) = (wide(0x34), wide(0x38));
     let (backup1, backup2) = (wide(0x40), wide(0x44));
-    let backup_fits = |backup| backup < clusters as u64 / BLOCK && backup * BLOCK >= offset + end;
+    let backup_fits = |backup| backup < block_of(clusters) && backup * BLOCK >= offset + end;
+    // The superblock's own block can't be listed, a backup block can.
+    let may_be_bad = |bad: &u64| *bad != block_of(0) && *bad < block_of(clusters);
     VERSIONS.iter().any(|version| block[0x1C..0x28] == version[..])
         && (half(block, 0x28), half(block, 0x2A), half(block, 0x2C)) == (DATA as u16, 2, 16)
         && wide(0x30) == clusters as u64
@@ -90,6 +109,7 @@ fn superblock_rules(block: &Data, clusters: usize) -> bool {
         && backup1 != backup2
         && backup_fits(backup1)
         && backup_fits(backup2)
+        && bad_blocks(block).iter().all(may_be_bad)
 }
 
 impl Card {
@@ -105,12 +125,14 @@ impl Card {
         }
         let alloc_offset = word(&block, 0x34) as usize;
         let alloc_end = word(&block, 0x38) as usize;
+        let bad_blocks = bad_blocks(&block);
 
-        // The indirect cluster's name is judged before its pages, all names before the table. Its 256 words are enough,
-        // since alloc_end is below N.
+        // The indirect cluster's name is judged before its pages, all names before the table; none may lie in a bad
+        // block. Its 256 words are enough, since alloc_end is below N.
         let mut names: Vec<usize> = Vec::new();
         let judge = |names: &mut Vec<usize>, name: usize| {
-            if name < 1 || name >= alloc_offset || names.contains(&name) {
+            let is_bad = bad_blocks.contains(&block_of(name));
+            if name < 1 || name >= alloc_offset || names.contains(&name) || is_bad {
                 return Err(Refusal::number(5));
             }
             names.push(name);
@@ -130,7 +152,7 @@ impl Card {
             table.extend((0..WORDS).map(|index| word(&words, 4 * index)));
         }
         table.truncate(alloc_end);
-        Ok(Card { format, clusters, alloc_offset, alloc_end, table_clusters, table })
+        Ok(Card { format, clusters, alloc_offset, alloc_end, bad_blocks, table_clusters, table })
     }
 
     /// The image's page index of the first or second page of an allocatable cluster.
@@ -156,8 +178,28 @@ impl Card {
         }
     }
 
-    /// The clusters below the limit whose table words are free, ascending: those that may be taken.
+    /// Whether an allocatable cluster lies in a bad block: blocks are counted in card clusters.
+    pub fn is_bad(&self, cluster: usize) -> bool {
+        self.bad_blocks.contains(&block_of(self.alloc_offset + cluster))
+    }
+
+    /// Whether a cluster may be taken once it is free: it lies below the limit and in no bad block.
+    pub fn is_ours(&self, cluster: usize) -> bool {
+        cluster < self.limit() && !self.is_bad(cluster)
+    }
+
+    /// The clusters whose table words are free, ascending, those that may be taken and the others alike.
+    fn free_words(&self) -> impl Iterator<Item = usize> + '_ {
+        (0..self.alloc_end).filter(|&cluster| self.link(cluster) == Link::Free)
+    }
+
+    /// The free clusters that may be taken, ascending.
     pub fn free(&self) -> impl Iterator<Item = usize> + '_ {
-        (0..self.limit()).filter(|&cluster| self.link(cluster) == Link::Free)
+        self.free_words().filter(|&cluster| self.is_ours(cluster))
+    }
+
+    /// The free clusters that may not: those of the tail and of bad blocks, each once.
+    pub fn held(&self) -> impl Iterator<Item = usize> + '_ {
+        self.free_words().filter(|&cluster| !self.is_ours(cluster))
     }
 }

@@ -224,8 +224,8 @@ impl Edit {
         Edit { table: card.table.clone(), card, pages: Vec::new() }
     }
 
-    /// The lowest free clusters, all below the limit, ascending: directory growth first, then the new chain; too few
-    /// is 12.
+    /// The lowest free clusters that may be taken, ascending: directory growth first, then the new chain; too few is
+    /// 12.
     fn take(&self, own: usize, growth: usize) -> Result<(Vec<usize>, Vec<usize>), Refusal> {
         let mut free: Vec<usize> = self.card.free().take(own.saturating_add(growth)).collect();
         if free.len() < own.saturating_add(growth) {

@@ -81,15 +81,15 @@ impl Checked {
     }
 
     pub fn counts(&self) -> Counts {
-        let (limit, end) = (self.card.limit(), self.card.alloc_end);
+        let end = self.card.alloc_end;
         let is_free = |cluster: &usize| self.card.link(*cluster) == Link::Free;
         let is_reached = |cluster: &usize| self.reached.contains(cluster);
         Counts {
             clusters: self.card.clusters,
-            free: (0..limit).filter(is_free).count(),
+            free: self.card.free().count(),
             reached: (0..end).filter(is_reached).count(),
             orphaned: (0..end).filter(|cluster| !is_free(cluster) && !is_reached(cluster)).count(),
-            held: (limit..end).filter(is_free).count(),
+            held: self.card.held().count(),
         }
     }
 }

@@ -1,18 +1,23 @@
 //! Which clusters a change takes on random cards of both formats, and that all are found again when a card is emptied.
 
-use reader::build::random::{random, tight};
+mod common;
+
+use common::open_clusters;
+use reader::build::random::{listed, random, tight};
 use reader::build::requests::random_change;
 use reader::content::lines;
 use reader::rng::Rng;
 use reader::tree::Checked;
 use reader::{check, find, paths, tree, Format};
 
-/// New clusters are the lowest free ones, ascending, growth first. On every third card the reserved tail is free too.
+/// New clusters are the lowest free ones that may be taken, ascending, growth first. On every third card the reserved
+/// tail is free too, on every third bad blocks are.
 #[test]
 fn lowest_free_clusters() {
-    for seed in 0..300 {
+    let mut steps_over = 0;
+    for seed in 0..450 {
         let format = Format::BOTH[seed as usize % 2];
-        let image = if seed % 3 == 0 { tight(format, seed).image } else { random(format, seed).image };
+        let image = [tight, listed, random][seed as usize % 3](format, seed).image;
         let mut rng = Rng::new(seed + 2_000_000);
         let change = random_change(&mut rng, &tree(format, &image).unwrap());
         let mut after = image.clone();
@@ -20,13 +25,13 @@ fn lowest_free_clusters() {
             continue;
         }
         let (old, new) = (Checked::of(format, &image).unwrap(), Checked::of(format, &after).unwrap());
-        // Only a card of 8,192 clusters has a tail, from 8,000 up.
-        let limit = if old.card.clusters == 8192 { 8000 } else { 65_536 };
+        let is_open = open_clusters(format, &image);
         let is_free = |cluster: &usize| old.card.table[*cluster] >> 31 == 0;
         let free: Vec<usize> = (0..old.card.alloc_end).filter(is_free).collect();
         let taken: Vec<usize> = free.iter().copied().filter(|&cluster| new.card.table[cluster] >> 31 == 1).collect();
-        assert_eq!(taken, free[..taken.len()]);
-        assert!(taken.iter().all(|&cluster| cluster < limit), "seed {seed}");
+        let open = free.iter().copied().filter(|&cluster| is_open[cluster]);
+        assert_eq!(taken, open.take(taken.len()).collect::<Vec<usize>>(), "seed {seed}");
+        steps_over += usize::from(taken != free[..taken.len()]);
         if change.is_removal() {
             assert!(taken.is_empty());
             continue;
@@ -35,6 +40,7 @@ fn lowest_free_clusters() {
         let node = reader::lookup::locate(&new.root, &names).unwrap();
         assert_eq!(node.chain, taken[taken.len() - node.chain.len()..]);
     }
+    assert!(steps_over >= 12, "{steps_over} changes passed by a free cluster that is held back");
 }
 
 /// Fill a card to the last cluster, empty it, and find every cluster again.

@@ -1,6 +1,6 @@
 //! Demand 3 in both formats: two changes, neither path a beginning of the other, in both orders.
 
-use reader::build::random::{random, tight};
+use reader::build::random::{listed, random, tight};
 use reader::build::requests::random_change;
 use reader::paths::{directory_of, is_beginning, parse};
 use reader::rng::Rng;
@@ -31,8 +31,13 @@ fn both_orders_agree() {
     let raw = (0..500).map(|seed| (Format::Raw, seed));
     let plain = (500..700).map(|seed| (Format::Plain, seed));
     let with_tail = (700..800).map(|seed| (Format::BOTH[seed as usize % 2], seed));
-    for (format, seed) in raw.chain(plain).chain(with_tail) {
-        let card = if seed < 700 { random(format, seed) } else { tight(format, seed) };
+    let with_list = (800..950).map(|seed| (Format::BOTH[seed as usize % 2], seed));
+    for (format, seed) in raw.chain(plain).chain(with_tail).chain(with_list) {
+        let card = match seed {
+            0..700 => random(format, seed),
+            700..800 => tight(format, seed),
+            _ => listed(format, seed),
+        };
         let mut rng = Rng::new(seed + 3_000_000);
         let mut image = card.image;
         // Some cards are filled up first, so that room is what decides.

@@ -11,7 +11,7 @@ use reader::{check, find, list, read, step, tree, Format, Piece, Refusal};
 
 /// The pages of files that must be unreadable, on cards as varied as they are meant to be.
 fn counts_and_tree(format: Format) -> usize {
-    let (mut orphans, mut damaged, mut tables, mut longest, mut tails) = (0, 0, 0, 0, 0);
+    let (mut orphans, mut damaged, mut tables, mut longest, mut tails, mut lists) = (0, 0, 0, 0, 0, 0);
     let mut deepest = [0; MOST_NAMES + 1];
     for seed in 0..400 {
         let card = random(format, seed);
@@ -29,12 +29,13 @@ fn counts_and_tree(format: Format) -> usize {
             .filter(|piece| matches!(piece, Piece::Unreadable { .. }))
             .count();
         tables = tables.max(card.layout.table.len());
-        tails += usize::from(counts.held > 0);
+        tails += usize::from(card.layout.limit() < card.layout.alloc_end);
+        lists += usize::from(card.layout.limit() == card.layout.alloc_end && counts.held > 0);
     }
     println!("{format:?}, cards by the most names of a path: {deepest:?}");
     assert!(deepest.iter().all(|&cards| cards >= 5), "{deepest:?}");
     assert!(orphans > 1000 && tables > 10 && longest == MOST_BYTES, "{orphans} {tables} {longest}");
-    assert!(tails >= 3, "{tails} cards with clusters held back");
+    assert!(tails >= 3 && lists >= 50, "{tails} cards with a tail, {lists} more with clusters held back");
     damaged
 }
 

@@ -1,8 +1,11 @@
 //! Seeded random changes on random cards of both formats, against a model that knows the tree only.
 
+mod common;
+
 use std::collections::{BTreeSet, HashMap};
 
-use reader::build::random::{random, tight, RandomCard};
+use common::open_clusters;
+use reader::build::random::{listed, random, tight, RandomCard};
 use reader::build::requests::random_change;
 use reader::content::{Item, Piece, Tree};
 use reader::ecc::code_of;
@@ -23,21 +26,16 @@ fn room(format: Format, image: &[u8], directory: &[u8]) -> (bool, bool) {
     (live + 2 < length, length.is_multiple_of(2))
 }
 
-/// The table index from which nothing new is put.
-fn limit(checked: &Checked) -> usize {
-    let end = checked.card.alloc_end;
-    if checked.card.clusters == 8192 {
-        end.min(8000)
-    } else {
-        end
-    }
-}
-
-/// Free words below the limit, and from it up.
+/// Free words of clusters that may be taken, and of others.
 fn free_words(format: Format, image: &[u8]) -> [usize; 2] {
-    let checked = Checked::of(format, image).unwrap();
-    let (below, above) = checked.card.table.split_at(limit(&checked));
-    [below, above].map(|words| words.iter().filter(|&word| word >> 31 == 0).count())
+    let table = Checked::of(format, image).unwrap().card.table;
+    let free: Vec<bool> = open_clusters(format, image)
+        .into_iter()
+        .zip(table)
+        .filter(|(_, word)| word >> 31 == 0)
+        .map(|(open, _)| open)
+        .collect();
+    [true, false].map(|is_open| free.iter().filter(|&&open| open == is_open).count())
 }
 
 /// The number a change must be refused with, from the tree, the free words and the room.
@@ -149,12 +147,12 @@ fn pages_are_right(format: Format, before: &[u8], after: &[u8], change: &Change)
 /// Each table word stays, is freed by its top bit, is newly taken, or leads a directory's end to its growth.
 fn table_is_right(format: Format, before: &[u8], after: &[u8]) {
     let (old, new) = (Checked::of(format, before).unwrap(), Checked::of(format, after).unwrap());
-    for cluster in 0..old.card.alloc_end {
+    for (cluster, is_open) in open_clusters(format, before).into_iter().enumerate() {
         let (one, other) = (old.card.table[cluster], new.card.table[cluster]);
         match (one >> 31, other >> 31) {
             (0, 0) => assert_eq!(one, other),
             (1, 0) => assert_eq!(other, one & 0x7FFF_FFFF),
-            (0, 1) => assert!(cluster < limit(&old)),
+            (0, 1) => assert!(is_open),
             (1, 1) if one != other => {
                 assert_eq!(one, 0xFFFF_FFFF);
                 assert_eq!(old.card.table[(other & 0x7FFF_FFFF) as usize] >> 31, 0);
@@ -239,4 +237,10 @@ fn plain_cards() {
 #[test]
 fn tight_cards() {
     changes_do_what_the_model_says((0..100).map(|seed| tight(Format::BOTH[seed as usize % 2], seed)), 10);
+}
+
+/// Cards with a list of bad blocks, which decides.
+#[test]
+fn listed_cards() {
+    changes_do_what_the_model_says((0..200).map(|seed| listed(Format::BOTH[seed as usize % 2], seed)), 10);
 }

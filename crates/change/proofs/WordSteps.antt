@@ -21,30 +21,30 @@ use Rattle.model.proofs.Frame.{hit-self}
 use Rattle.tree.specs.Slots.{nextOf}
 use Rattle.change.specs.Words.{chained, clearedFrom}
 
--- ---- free clusters below a limit
-abbrev pub freeUpTo : ℕ → List ℕ → ℕ → List ℕ
-freeUpTo limit table c = freeBelow (takeable (λ x. ltb x limit) (λ x. linkOf (getD table x 0))) c
+-- ---- free clusters that may be taken
+abbrev pub freeUpTo : (ℕ → Bool) → List ℕ → ℕ → List ℕ
+freeUpTo mayTake table c = freeBelow (takeable mayTake (λ x. linkOf (getD table x 0))) c
 
-pub none-yet : (limit : ℕ) (table : List ℕ) → [] ≡ freeUpTo limit table 0
+pub none-yet : (mayTake : ℕ → Bool) (table : List ℕ) → [] ≡ freeUpTo mayTake table 0
 unfolding freeBelow
-none-yet limit table = refl
+none-yet mayTake table = refl
 
-module _ (limit : ℕ) (table list : List ℕ) (count c : ℕ) (found : take count list ≡ freeUpTo limit table c) where
-  pub one-more : count < length list → (ltb c limit && ltb (getD table c 0) topBit) ≡ true → take (count + 1) (set list count c) ≡ freeUpTo limit table (c + 1)
+module _ (mayTake : ℕ → Bool) (table list : List ℕ) (count c : ℕ) (found : take count list ≡ freeUpTo mayTake table c) (may : Bool) (m : may ≡ mayTake c) where
+  pub one-more : count < length list → (may && ltb (getD table c 0) topBit) ≡ true → take (count + 1) (set list count c) ≡ freeUpTo mayTake table (c + 1)
   unfolding freeBelow
   one-more room test =
-      rw (add-one count, add-one c, and-l (ltb c limit) _ test, and-r (ltb c limit) _ test) (take-suc-set list count c room ∙ ap (λ (l : List ℕ). l ++ (c ∷ [])) found)
+      rw (add-one count, add-one c, ← m, and-l may _ test, and-r may _ test) (take-suc-set list count c room ∙ ap (λ (l : List ℕ). l ++ (c ∷ [])) found)
 
-  pub not-one : (ltb c limit && ltb (getD table c 0) topBit) ≡ false → take count list ≡ freeUpTo limit table (c + 1)
+  pub not-one : (may && ltb (getD table c 0) topBit) ≡ false → take count list ≡ freeUpTo mayTake table (c + 1)
   unfolding freeBelow
-  not-one test = rw (add-one c) (found ∙ go (ltb c limit) (ltb (getD table c 0) topBit) (eqb (getD table c 0) endMark) test)
+  not-one test = rw (add-one c, ← m) (found ∙ go may (ltb (getD table c 0) topBit) (eqb (getD table c 0) endMark) test)
     where
-      go : (below low last : Bool) → (below && low) ≡ false
-          → freeUpTo limit table c ≡ freeUpTo limit table c ++ ifFree (cond below (cond low Link.free (cond last Link.last (Link.next (getD table c 0 - topBit)))) Link.last) c
+      go : (x low last : Bool) → (x && low) ≡ false
+          → freeUpTo mayTake table c ≡ freeUpTo mayTake table c ++ ifFree (cond x (cond low Link.free (cond last Link.last (Link.next (getD table c 0 - topBit)))) Link.last) c
       go true true last e = tf refl e
-      go true false true e = sym (append-nil (freeUpTo limit table c))
-      go true false false e = sym (append-nil (freeUpTo limit table c))
-      go false low last e = sym (append-nil (freeUpTo limit table c))
+      go true false true e = sym (append-nil (freeUpTo mayTake table c))
+      go true false false e = sym (append-nil (freeUpTo mayTake table c))
+      go false low last e = sym (append-nil (freeUpTo mayTake table c))
 
 -- ---- a chain linked, from its last cluster to its first
 pub nothing-linked : (clusters table : List ℕ) → (table ≡ chained (drop (length clusters) clusters) table) × (endMark ≡ wordTo (drop (length clusters) clusters))

@@ -8,9 +8,9 @@ use fields::paths::Parsed;
 use fields::paths::name_at;
 use fields::paths::parse_path;
 use fields::times::is_valid_time;
-use layout::Opened;
 use layout::Refusal;
 use layout::Superblock;
+use layout::Verdict;
 use lookup::way::Arrival;
 use lookup::way::descend;
 use model::MOST_CLUSTERS;
@@ -180,9 +180,11 @@ pub(crate) fn change(
 {
     let mut table = [0u32; MOST_CLUSTERS];
     let opened = open_checked(format, image, &mut table);
-    match opened {
-        Opened::Refused(refusal) => Answer::Refused(refusal),
-        Opened::Card(s) => {
+    let verdict = opened.verdict;
+    match verdict {
+        Verdict::Refused(refusal) => Answer::Refused(refusal),
+        Verdict::Sound => {
+            let s = opened.superblock;
             let end = s.end as usize;
             change_card(image, &mut table[..end], s, kind, path, time, bytes)
         }

@@ -32,7 +32,7 @@ module _ (one other : Format) (image twin : List ℕ) (same : SameData one other
       go : Checks one other image twin same → checkOf one image ≡ checkOf other twin
       go (Checks.refused n p a b) = rw (a, b)
       go (Checks.accepted s root m a b) =
-          rw (a, b) (ap (λ (v : View). ok (countsIn (s .clusters) (s .end) v root)) (see-alike one other image twin same s))
+          rw (a, b) (ap (λ (v : View). ok (countsIn s v root)) (see-alike one other image twin same s))
 
   list-alike : listingOf one image ≡ listingOf other twin
   unfolding listingOf
@@ -41,7 +41,7 @@ module _ (one other : Format) (image twin : List ℕ) (same : SameData one other
       go : Checks one other image twin same → listingOf one image ≡ listingOf other twin
       go (Checks.refused n p a b) = rw (a, b)
       go (Checks.accepted s root m a b) =
-          rw (a, b) (ap (λ (v : View). cardText (countsIn (s .clusters) (s .end) v root) root) (see-alike one other image twin same s))
+          rw (a, b) (ap (λ (v : View). cardText (countsIn s v root) root) (see-alike one other image twin same s))
 
   -- what is asked of a card goes by its tree, and by its numbers but for the format
   module _ {A : Type 0} (path : List ℕ) (ask : Superblock → Root → Path → Result A)

@@ -13,12 +13,13 @@ use Rattle.change.specs.Changed.{Outcome, rulesOf}
 use Rattle.layout.specs.declared.Superblock.{Superblock}
 use Rattle.layout.proofs.OpenFacts.{good-card}
 use Rattle.layout.proofs.Stages.{Readable}
-use Rattle.layout.specs.Superblock.{clustersIn, goodLength, goodSuperblock, goodText, superblockOf}
-use Rattle.layout.specs.Table.{dataOf, goodTableNames, namesOf, openCard, tableNames, tableOf, tablePage, tableWord, upTo}
+use Rattle.layout.specs.Superblock.{clustersIn, goodLength, goodSuperblock, goodText, superblockOf, upTo}
+use Rattle.layout.specs.Table.{dataOf, goodTableNames, namesOf, openCard, tableNames, tableOf, tablePage, tableWord}
 use Rattle.model.proofs.CheckHolds.{holds-check}
 use Rattle.model.specs.Bench.{benchTime, bytes, pathA}
 use Rattle.model.specs.Bytes.{word}
 use Rattle.model.specs.Change.{Change, create}
+use Rattle.model.specs.Counts.{listWords, noBlock}
 use Rattle.model.specs.Check.{checkTree, ok}
 use Rattle.model.specs.Holds.{HoldsCard}
 use Rattle.model.specs.Refusal.{refusal}
@@ -94,7 +95,7 @@ module _ (format : Format) where
 
   -- ---- the card is open
   abbrev card : Superblock
-  card = record { clusters = 56; geometry = record { format = format; offset = 10 }; end = 30; backup1 = 6; backup2 = 5; indirect = 8 }
+  card = record { clusters = 56; geometry = record { format = format; offset = 10 }; end = 30; backup1 = 6; backup2 = 5; indirect = 8; bad = replicate listWords noBlock }
 
   readable : (q : ℕ) (bytes : List ℕ) → pageAt format (benchImage format) q ≡ some bytes → Readable format (benchImage format) q
   readable q bytes e = e ∙ ap (λ o. some (dataOf o)) (sym e)
@@ -111,7 +112,7 @@ module _ (format : Format) where
   table-read (suc (suc t)) h = absurd (omega arith)
 
   opened : openCard format (benchImage format) ≡ ok card
-  unfolding benchPages benchSuperblock zeroPage
+  unfolding upTo benchPages benchSuperblock zeroPage
   opened =
       good-card format (benchImage format) card
       (record {
@@ -124,7 +125,7 @@ module _ (format : Format) where
           indirect-good = refl;
           first-read = readable 16 benchNames (bench-read 16);
           second-read = readable 17 onesPage (bench-read 17);
-          names-good = ap (λ names. goodTableNames 10 (8 ∷ []) names) names-are;
+          names-good = ap (λ names. goodTableNames 10 (card .bad) (8 ∷ []) names) names-are;
           table-read = λ t h. rw names-are (table-read t h);
         };
       })
@@ -207,7 +208,7 @@ module _ (format : Format) where
   accepted-in : AcceptedIn format
   accepted-in =
       record {
-        counts = counted format (benchImage format) card root (reached root) checked ∙ ap (λ (v : View). ok (countsIn 56 30 v root)) view-is;
+        counts = counted format (benchImage format) card root (reached root) checked ∙ ap (λ (v : View). ok (countsIn card v root)) view-is;
         full = told format (benchImage format) card root (reached root) checked (file 28672) (accepts format (benchImage format) card root (reached root) checked (file 28672) (refused-by (file 28672) ∙ full));
         tooMuch = ap (λ (o : Outcome). o .answer) ((refuses format (benchImage format) card root (reached root) checked (file 28673) 11 (refused-by (file 28673) ∙ too-much)) .0);
       }

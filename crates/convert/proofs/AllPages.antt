@@ -12,7 +12,8 @@ use Rattle.page.specs.declared.Format.{Format}
 use Rattle.page.specs.Page.{isSome, pageAt, pagesIn}
 use Rattle.page.proofs.Lists.{below-or-not}
 use Rattle.model.specs.Check.{Result, fault, ok}
-use Rattle.layout.specs.Table.{needPages, upTo, withPage}
+use Rattle.layout.specs.Superblock.{upTo}
+use Rattle.layout.specs.Table.{needPages, withPage}
 use Rattle.layout.proofs.Stages.{not-ok, pages-ok, pages-pass, there}
 use Rattle.layout.proofs.UpTo.{drop-upTo, getD-upTo, length-upTo}
 use Rattle.convert.specs.Claims.{AllReadable, Lowest}

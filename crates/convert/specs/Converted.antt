@@ -8,8 +8,8 @@ use Rattle.page.specs.declared.Format.{Format}
 use Rattle.page.specs.Page.{clusterBytes, pageAt, pagesIn, written}
 use Rattle.model.specs.Check.{Result, fault, ok}
 use Rattle.layout.specs.Refusal.{numberOf, pageOf}
-use Rattle.layout.specs.Superblock.{clustersIn, goodLength}
-use Rattle.layout.specs.Table.{dataOf, needPages, unless, upTo}
+use Rattle.layout.specs.Superblock.{clustersIn, goodLength, upTo}
+use Rattle.layout.specs.Table.{dataOf, needPages, unless}
 use Rattle.convert.specs.declared.Conversion.{Conversion}
 use Rattle.convert.specs.declared.Conversion.the-variants as conversion
 

@@ -15,7 +15,8 @@ ghost use lib.ListN.{length, replicate};
 ghost use Rattle.page.specs.declared.Format.the-variants.{Plain, Raw};
 ghost use Rattle.page.specs.Page.{isSome, pageAt, pagesIn};
 ghost use Rattle.model.specs.Check.{ok};
-ghost use Rattle.layout.specs.Table.{dataOf, needPages, upTo};
+ghost use Rattle.layout.specs.Superblock.{upTo};
+ghost use Rattle.layout.specs.Table.{dataOf, needPages};
 ghost use Rattle.convert.specs.Converted.{filled, inFormat, converted, toldConversion, Converts};
 
 // What a conversion answers.

@@ -8,11 +8,13 @@ use native.Mathlib.Omega.{arith}
 use borrow.Author.Tests.{ne-eqb, eqb-true, ltb-true, leb-true}
 use lib.Dec.{eqb, leb, ltb}
 use lib.ListN.{length, getD, drop, drop-of-length-le}
+use Rattle.model.specs.Counts.{blockOf, isListed}
 use Rattle.model.specs.Tree.{hit, times}
 use Rattle.model.proofs.Equality.{and-l, and-r}
 use Rattle.model.proofs.Allocation.{times-append}
 use Rattle.model.proofs.Frame.{hit-self, hit-0}
-use Rattle.layout.specs.Table.{upTo, inRange, goodTableNames}
+use Rattle.layout.specs.Superblock.{upTo}
+use Rattle.layout.specs.Table.{inRange, goodName, goodTableNames}
 use Rattle.layout.proofs.UpTo.{length-upTo, drop-upTo}
 
 times-next : (f : ℕ → ℕ) (n x : ℕ) → times (upTo f (suc n)) x ≡ times (upTo f n) x + hit (f n) x
@@ -56,12 +58,12 @@ module _ (f : ℕ → ℕ) (indirect : ℕ) where
   times-seen zero x = unfold upTo in refl
   times-seen (suc n) x = omega (arith, times-seen n x, times-next f n x)
 
-  module _ (offset k : ℕ) where
+  module _ (offset : ℕ) (bad : List ℕ) (k : ℕ) where
     abbrev pub goodFrom : ℕ → Bool
-    goodFrom i = goodTableNames offset (seen i) (drop i (upTo f k))
+    goodFrom i = goodTableNames offset bad (seen i) (drop i (upTo f k))
 
     abbrev pub goodAt : ℕ → Bool
-    goodAt i = inRange offset (f i) && isNew f indirect (f i) i
+    goodAt i = goodName offset bad (f i) && isNew f indirect (f i) i
 
     step : (i : ℕ) → i < k → goodFrom i ≡ goodAt i && goodFrom (suc i)
     step i h = rw (drop-upTo f k i h, times-seen i (f i))
@@ -79,35 +81,37 @@ module _ (f : ℕ → ℕ) (indirect : ℕ) where
 abbrev pub Named : ℕ → List ℕ → ℕ → Type 0
 Named offset before name = (1 ≤ name) × (name < offset) × (times before name ≡ 0)
 
-named : (offset n : ℕ) (before : List ℕ) → (inRange offset n && eqb (times before n) 0) ≡ true → Named offset before n
-named offset n before e =
-    let range = and-l (inRange offset n) (eqb (times before n) 0) e in (
-      leb-true 1 n (and-l (leb 1 n) (ltb n offset) range),
-      ltb-true n offset (and-r (leb 1 n) (ltb n offset) range),
-      eqb-true (times before n) 0 (and-r (inRange offset n) (eqb (times before n) 0) e),
-    )
+pub in-range : (offset n : ℕ) (bad : List ℕ) → goodName offset bad n ≡ true → (1 ≤ n) × (n < offset)
+in-range offset n bad e =
+    let range = and-l (inRange offset n) (not (isListed bad (blockOf n))) e in
+    (leb-true 1 n (and-l (leb 1 n) (ltb n offset) range), ltb-true n offset (and-r (leb 1 n) (ltb n offset) range))
 
-rest : (offset n : ℕ) (before ns : List ℕ) → goodTableNames offset before (n ∷ ns) ≡ true → goodTableNames offset (n ∷ before) ns ≡ true
-rest offset n before ns e = and-r (inRange offset n && eqb (times before n) 0) (goodTableNames offset (n ∷ before) ns) e
+named : (offset n : ℕ) (bad before : List ℕ) → (goodName offset bad n && eqb (times before n) 0) ≡ true → Named offset before n
+named offset n bad before e =
+    let range = in-range offset n bad (and-l (goodName offset bad n) (eqb (times before n) 0) e) in
+    (range .0, range .1, eqb-true (times before n) 0 (and-r (goodName offset bad n) (eqb (times before n) 0) e))
 
-pub name-good : (offset : ℕ) (before ns : List ℕ) → goodTableNames offset before ns ≡ true → (i : ℕ) → i < length ns → Named offset before (getD ns i 0)
-name-good offset before [] e i h = absurd (omega arith)
-name-good offset before (n ∷ ns) e zero h = named offset n before (and-l _ (goodTableNames offset (n ∷ before) ns) e)
-name-good offset before (n ∷ ns) e (suc i) h =
-    let z = name-good offset (n ∷ before) ns (rest offset n before ns e) i (omega arith) in
+rest : (offset n : ℕ) (bad before ns : List ℕ) → goodTableNames offset bad before (n ∷ ns) ≡ true → goodTableNames offset bad (n ∷ before) ns ≡ true
+rest offset n bad before ns e = and-r (goodName offset bad n && eqb (times before n) 0) (goodTableNames offset bad (n ∷ before) ns) e
+
+pub name-good : (offset : ℕ) (bad before ns : List ℕ) → goodTableNames offset bad before ns ≡ true → (i : ℕ) → i < length ns → Named offset before (getD ns i 0)
+name-good offset bad before [] e i h = absurd (omega arith)
+name-good offset bad before (n ∷ ns) e zero h = named offset n bad before (and-l _ (goodTableNames offset bad (n ∷ before) ns) e)
+name-good offset bad before (n ∷ ns) e (suc i) h =
+    let z = name-good offset bad (n ∷ before) ns (rest offset n bad before ns e) i (omega arith) in
     (z .0, z .1, omega (arith, z .2))
 
-later : (offset n : ℕ) (before ns : List ℕ) → goodTableNames offset before (n ∷ ns) ≡ true → (j : ℕ) → j < length ns → n ≡ getD ns j 0 → ⊥
-later offset n before ns e j h q =
-    let z = name-good offset (n ∷ before) ns (rest offset n before ns e) j h in
+later : (offset n : ℕ) (bad before ns : List ℕ) → goodTableNames offset bad before (n ∷ ns) ≡ true → (j : ℕ) → j < length ns → n ≡ getD ns j 0 → ⊥
+later offset n bad before ns e j h q =
+    let z = name-good offset bad (n ∷ before) ns (rest offset n bad before ns e) j h in
     let y : times (n ∷ before) n ≡ 0 = rw (← q) at (z .2) in
     omega (arith, hit-self n)
 
-pub name-once : (offset : ℕ) (before ns : List ℕ) → goodTableNames offset before ns ≡ true → (i j : ℕ) → i < length ns → j < length ns
+pub name-once : (offset : ℕ) (bad before ns : List ℕ) → goodTableNames offset bad before ns ≡ true → (i j : ℕ) → i < length ns → j < length ns
     → getD ns i 0 ≡ getD ns j 0 → i ≡ j
-name-once offset before [] e i j h k q = absurd (omega arith)
-name-once offset before (n ∷ ns) e zero zero h k q = refl
-name-once offset before (n ∷ ns) e zero (suc j) h k q = absurd (later offset n before ns e j (omega arith) q)
-name-once offset before (n ∷ ns) e (suc i) zero h k q = absurd (later offset n before ns e i (omega arith) (sym q))
-name-once offset before (n ∷ ns) e (suc i) (suc j) h k q =
-    ap suc (name-once offset (n ∷ before) ns (rest offset n before ns e) i j (omega arith) (omega arith) q)
+name-once offset bad before [] e i j h k q = absurd (omega arith)
+name-once offset bad before (n ∷ ns) e zero zero h k q = refl
+name-once offset bad before (n ∷ ns) e zero (suc j) h k q = absurd (later offset n bad before ns e j (omega arith) q)
+name-once offset bad before (n ∷ ns) e (suc i) zero h k q = absurd (later offset n bad before ns e i (omega arith) (sym q))
+name-once offset bad before (n ∷ ns) e (suc i) (suc j) h k q =
+    ap suc (name-once offset bad (n ∷ before) ns (rest offset n bad before ns e) i j (omega arith) (omega arith) q)

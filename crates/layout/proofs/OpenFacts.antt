@@ -18,19 +18,19 @@ use Rattle.model.proofs.Equality.{and-l, and-r}
 use Rattle.model.proofs.Frame.{hit-self}
 use Rattle.model.proofs.PlanFits.{length-pages}
 use Rattle.layout.specs.declared.Superblock.{Superblock}
-use Rattle.layout.specs.Superblock.{leastClusters, clustersIn, goodLength, goodText, goodVersion, fixedNumbers, goodNumbers, goodSuperblock, superblockOf}
-use Rattle.layout.specs.Table.{unless, withPage, inRange, goodTableNames, tableClusters, openTable, openCard, dataOf, namesOf, tablePage}
-use Rattle.layout.proofs.Names.{Named, name-good, name-once}
+use Rattle.layout.specs.Superblock.{badBlocksOf, leastClusters, clustersIn, goodLength, goodText, goodVersion, fixedNumbers, goodBadBlocks, goodNumbers, goodSuperblock, superblockOf}
+use Rattle.layout.specs.Table.{unless, withPage, goodName, goodTableNames, tableClusters, openTable, openCard, dataOf, namesOf, tablePage}
+use Rattle.layout.proofs.Names.{Named, in-range, name-good, name-once}
 use Rattle.layout.proofs.Stages.{Readable, unless-ok, page-ok, pages-ok, pages-pass, same-ok}
 use Rattle.layout.proofs.TablePages.{getD-pages}
 use Rattle.layout.proofs.UpTo.{length-upTo}
 
 -- ---- the guards that an open card passed
 pub record GoodTable (image : List ℕ) (s : Superblock) : Type 0 where
-  pub indirect-good : inRange (s .geometry .offset) (s .indirect) ≡ true
+  pub indirect-good : goodName (s .geometry .offset) (s .bad) (s .indirect) ≡ true
   pub first-read : Readable (s .geometry .format) image (2 * s .indirect)
   pub second-read : Readable (s .geometry .format) image (2 * s .indirect + 1)
-  pub names-good : goodTableNames (s .geometry .offset) (s .indirect ∷ []) (namesOf image s) ≡ true
+  pub names-good : goodTableNames (s .geometry .offset) (s .bad) (s .indirect ∷ []) (namesOf image s) ≡ true
   pub table-read : (t : ℕ) → t < 2 * tableClusters (s .end) → Readable (s .geometry .format) image (tablePage (namesOf image s) t)
 
 pub record GoodCard (format : Format) (image : List ℕ) (s : Superblock) : Type 0 where
@@ -47,10 +47,10 @@ many image s = length-upTo (λ i. word (dataOf (pageAt (s .geometry .format) ima
 pub table-good : (image : List ℕ) (s a : Superblock) → openTable image s ≡ ok a → (s ≡ a) × GoodTable image s
 unfolding openTable
 table-good image s a e =
-    let name = unless-ok (inRange (s .geometry .offset) (s .indirect)) 5 _ a e in
+    let name = unless-ok (goodName (s .geometry .offset) (s .bad) (s .indirect)) 5 _ a e in
     let first = page-ok (2 * s .indirect) (pageAt (s .geometry .format) image (2 * s .indirect)) _ a (name .1) in
     let second = page-ok (2 * s .indirect + 1) (pageAt (s .geometry .format) image (2 * s .indirect + 1)) _ a (first .1) in
-    let names = unless-ok (goodTableNames (s .geometry .offset) (s .indirect ∷ []) (namesOf image s)) 5 _ a (second .1) in
+    let names = unless-ok (goodTableNames (s .geometry .offset) (s .bad) (s .indirect ∷ []) (namesOf image s)) 5 _ a (second .1) in
     let pages = pages-ok (s .geometry .format) image (pagesOf (namesOf image s)) (ok s) a (names .1) in (
       same-ok s a (pages .0),
       record {
@@ -104,7 +104,7 @@ pub record Numbers (format : Format) (bytes : ℕ) (s : Superblock) : Type 0 whe
   pub room : s .geometry .offset + s .end ≤ s .clusters
 
 numbers : (format : Format) (bytes : ℕ) (page : List ℕ) → goodLength format bytes ≡ true → goodSuperblock format (clustersIn format bytes) page ≡ true → Numbers format bytes (superblockOf format page)
-numbers format bytes page l n = go (superblockOf format page) (and-r (fixedNumbers page) _ (and-r (goodVersion page) _ n))
+numbers format bytes page l n = go (superblockOf format page) (and-l _ (goodBadBlocks (clustersIn format bytes) (badBlocksOf page)) (and-r (fixedNumbers page) _ (and-r (goodVersion page) _ n)))
   where
     go : (s : Superblock) → goodNumbers (clustersIn format bytes) s ≡ true → Numbers format bytes s
     go s g =
@@ -177,8 +177,9 @@ open-facts format image s e =
         let n = card-numbers (s .geometry .format) image s g in
         let t = g .table in
         let size = many image s in
+        let indirect = in-range (s .geometry .offset) (s .indirect) (s .bad) (t .indirect-good) in
         let name : (i : ℕ) → i < tableClusters (s .end) → Named (s .geometry .offset) (s .indirect ∷ []) (getD (namesOf image s) i 0) =
-        λ i h. name-good (s .geometry .offset) (s .indirect ∷ []) (namesOf image s) (t .names-good) i (omega arith) in
+        λ i h. name-good (s .geometry .offset) (s .bad) (s .indirect ∷ []) (namesOf image s) (t .names-good) i (omega arith) in
         record {
           long = n .long;
           pages = n .pages;
@@ -186,12 +187,12 @@ open-facts format image s e =
           most = n .most;
           some-end = n .some-end;
           room = n .room;
-          indirect-above = leb-true 1 (s .indirect) (and-l (leb 1 (s .indirect)) (ltb (s .indirect) (s .geometry .offset)) (t .indirect-good));
-          indirect-below = ltb-true (s .indirect) (s .geometry .offset) (and-r (leb 1 (s .indirect)) (ltb (s .indirect) (s .geometry .offset)) (t .indirect-good));
+          indirect-above = indirect .0;
+          indirect-below = indirect .1;
           many = size;
           range = λ i h. (name i h .0, name i h .1);
           apart = λ i h q. let z : times (s .indirect ∷ []) (s .indirect) ≡ 0 = rw q at (name i h .2) in omega (arith, hit-self (s .indirect));
-          once = λ i j h k. name-once (s .geometry .offset) (s .indirect ∷ []) (namesOf image s) (t .names-good) i j (omega arith) (omega arith);
+          once = λ i j h k. name-once (s .geometry .offset) (s .bad) (s .indirect ∷ []) (namesOf image s) (t .names-good) i j (omega arith) (omega arith);
           superblock-read = g .page-read;
           superblock-is = g .superblock;
           first-read = t .first-read;

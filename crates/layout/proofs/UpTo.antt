@@ -1,17 +1,17 @@
 -- The values of a function in order: how many, which stands where, and a list whose front they replace one by one.
 use Prim.Native.Nat.{ℕ, zero, suc, _+_, _≤_, _<_}
 use mathlib.Core.Bool.{true, false}
-use mathlib.Core.List.{List, [], _∷_, _++_}
+use mathlib.Core.List.{List, [], _∷_, _++_, append-nil}
 use mathlib.Core.Logic.{⊎-elim}
 use mathlib.Core.Path.{_≡_, refl, sym, ap, _∙_}
 use native.Mathlib.Numerals.{add-one}
 use native.Mathlib.Omega.{arith}
 use borrow.Author.Tests.{ltb-true, ltb-false}
 use lib.Dec.{ltb}
-use lib.ListN.{length, getD, set, drop, length-append, length-drop, List·getD-append}
+use lib.ListN.{length, getD, set, drop, drop-of-length-le, length-append, length-drop, List·getD-append}
 use lib.Seq.{drop-cons, getD-at, set-at, append-snoc}
 use Rattle.model.proofs.Equality.{bool}
-use Rattle.layout.specs.Table.{upTo}
+use Rattle.layout.specs.Superblock.{upTo}
 
 pub length-upTo : (f : ℕ → ℕ) (n : ℕ) → length (upTo f n) ≡ n
 unfolding upTo
@@ -46,3 +46,6 @@ filled-more f list n h =
 
 pub length-filled : (f : ℕ → ℕ) (list : List ℕ) (n : ℕ) → n ≤ length list → length (filled f list n) ≡ length list
 length-filled f list n h = simp (length-append, length-upTo f n, length-drop) (omega arith)
+
+pub filled-whole : (f : ℕ → ℕ) (list : List ℕ) (n : ℕ) → length list ≡ n → filled f list n ≡ upTo f n
+filled-whole f list n h = rw (drop-of-length-le list {i = n} (omega arith)) (append-nil (upTo f n))

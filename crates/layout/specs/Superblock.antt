@@ -1,14 +1,20 @@
 -- The superblock in page 0 (RULES, "Superblock and table"): refusals 1 to 4.
-use Prim.Native.Nat.{ℕ, _+_, _*_, _/_, _%_}
-use mathlib.Core.Bool.{Bool, not, _&&_, _||_}
-use mathlib.Core.List.{List, [], _∷_}
+use Prim.Native.Nat.{ℕ, zero, suc, _+_, _*_, _/_, _%_}
+use mathlib.Core.Bool.{Bool, true, not, _&&_, _||_}
+use mathlib.Core.List.{List, [], _∷_, _++_}
 use lib.Dec.{eqb, leb, ltb}
 use Rattle.page.specs.declared.Format.{Format}
 use Rattle.page.specs.Page.{clusterBytes}
 use Rattle.model.specs.Bytes.{slice, half, word}
+use Rattle.model.specs.Counts.{listWords, mayTakeOn, noBlock}
 use Rattle.model.specs.Names.{sameName}
 use Rattle.model.specs.View.{mostClusters}
 use Rattle.layout.specs.declared.Superblock.{Superblock}
+
+-- the values at 0, 1, .., n - 1
+unfoldable pub upTo : (ℕ → ℕ) → ℕ → List ℕ
+upTo f zero = []
+upTo f (suc n) = upTo f n ++ (f n ∷ [])
 
 -- The image has N clusters, as many bytes each as its format has; N is a multiple of 8 from leastClusters to mostClusters.
 abbrev pub leastClusters : ℕ
@@ -42,7 +48,11 @@ goodVersion page = sameName (slice page 0x1C 12) (versionText 0x31) || sameName 
 abbrev pub fixedNumbers : List ℕ → Bool
 fixedNumbers page = eqb (half page 0x28) 512 && (eqb (half page 0x2A) 2 && (eqb (half page 0x2C) 16 && eqb (word page 0x3C) 0))
 
--- 0x30 N, 0x34 alloc_offset, 0x38 alloc_end, 0x40 and 0x44 the backup blocks, 0x50 the indirect cluster
+-- 0xD0 the bad block list, on cards of either version
+abbrev pub badBlocksOf : List ℕ → List ℕ
+badBlocksOf page = upTo (λ i. word page (0xD0 + 4 * i)) listWords
+
+-- 0x30 N, 0x34 alloc_offset, 0x38 alloc_end, 0x40 and 0x44 the backup blocks, 0x50 the indirect cluster, and the list
 abbrev pub superblockOf : Format → List ℕ → Superblock
 superblockOf format page =
     record {
@@ -52,6 +62,7 @@ superblockOf format page =
       backup1 = word page 0x40;
       backup2 = word page 0x44;
       indirect = word page 0x50;
+      bad = badBlocksOf page;
     }
 
 -- Alloc_end is at least 1; alloc_offset plus alloc_end, as a whole number, is at most N. The backup blocks differ,
@@ -67,6 +78,20 @@ goodNumbers n s =
     && (leb (s .geometry .offset + s .end) (8 * s .backup1)
     && leb (s .geometry .offset + s .end) (8 * s .backup2)))))))
 
+-- A word of the list names none, or a block below N/8 that is not block 0, which holds the superblock. The same block twice
+-- is allowed, and so is a backup block.
+abbrev pub goodBadBlock : ℕ → ℕ → Bool
+goodBadBlock n block = eqb block noBlock || (leb 1 block && ltb block (n / 8))
+
+abbrev pub goodBadBlocks : ℕ → List ℕ → Bool
+goodBadBlocks n [] = true
+goodBadBlocks n (b ∷ bad) = goodBadBlock n b && goodBadBlocks n bad
+
 -- every rule of number 4
 abbrev pub goodSuperblock : Format → ℕ → List ℕ → Bool
-goodSuperblock format n page = goodVersion page && (fixedNumbers page && goodNumbers n (superblockOf format page))
+goodSuperblock format n page =
+    goodVersion page && (fixedNumbers page && (goodNumbers n (superblockOf format page) && goodBadBlocks n (badBlocksOf page)))
+
+-- which allocatable clusters a change of the card may take
+abbrev pub mayTakeBy : Superblock → ℕ → Bool
+mayTakeBy s = mayTakeOn (s .clusters) (s .end) (s .geometry .offset) (s .bad)

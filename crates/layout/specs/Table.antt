@@ -1,6 +1,6 @@
 -- The indirect cluster, the table's clusters and the table's words (RULES, "Superblock and table"): refusals 1 to 5 in the check's order.
-use Prim.Native.Nat.{ℕ, zero, suc, _+_, _*_, _/_, _%_}
-use mathlib.Core.Bool.{Bool, true, false, _&&_}
+use Prim.Native.Nat.{ℕ, _+_, _*_, _/_, _%_}
+use mathlib.Core.Bool.{Bool, true, false, not, _&&_}
 use mathlib.Core.List.{List, [], _∷_, _++_}
 use mathlib.Core.Option.{Option, none, some}
 use lib.Dec.{eqb, leb, ltb}
@@ -9,18 +9,15 @@ use Rattle.page.specs.declared.Format.{Format}
 use Rattle.page.specs.Page.{pageAt}
 use Rattle.model.specs.Bytes.{word}
 use Rattle.model.specs.Check.{Result, fault, ok}
+use Rattle.model.specs.Counts.{blockOf, isListed}
 use Rattle.model.specs.Tree.{times}
 use Rattle.model.specs.View.{pagesOf}
 use Rattle.layout.specs.declared.Superblock.{Superblock}
 use Rattle.layout.specs.declared.Opened.{Opened}
-use Rattle.layout.specs.declared.Opened.the-variants as opened
+use Rattle.layout.specs.declared.Verdict.{Verdict}
+use Rattle.layout.specs.declared.Verdict.the-variants as verdict
 use Rattle.layout.specs.Refusal.{numberOf, pageOf}
-use Rattle.layout.specs.Superblock.{clustersIn, goodLength, goodText, goodSuperblock, superblockOf}
-
--- the values at 0, 1, .., n - 1
-unfoldable pub upTo : (ℕ → ℕ) → ℕ → List ℕ
-upTo f zero = []
-upTo f (suc n) = upTo f n ++ (f n ∷ [])
+use Rattle.layout.specs.Superblock.{clustersIn, goodLength, goodText, goodSuperblock, superblockOf, upTo}
 
 -- One word for each allocatable cluster, 256 words to a cluster.
 abbrev pub tableClusters : ℕ → ℕ
@@ -30,13 +27,17 @@ tableClusters end = (end + 255) / 256
 abbrev pub tableNames : List ℕ → ℕ → List ℕ
 tableNames indirect k = upTo (λ i. word indirect (4 * i)) k
 
--- A name is a card cluster from 1 to alloc_offset - 1; no two are equal, the indirect cluster's own included.
+-- A name is a card cluster from 1 to alloc_offset - 1 that lies in no listed block; no two are equal, the indirect
+-- cluster's own included.
 abbrev pub inRange : ℕ → ℕ → Bool
 inRange offset name = leb 1 name && ltb name offset
 
-abbrev pub goodTableNames : ℕ → List ℕ → List ℕ → Bool
-goodTableNames offset seen [] = true
-goodTableNames offset seen (n ∷ ns) = (inRange offset n && eqb (times seen n) 0) && goodTableNames offset (n ∷ seen) ns
+abbrev pub goodName : ℕ → List ℕ → ℕ → Bool
+goodName offset bad name = inRange offset name && not (isListed bad (blockOf name))
+
+abbrev pub goodTableNames : ℕ → List ℕ → List ℕ → List ℕ → Bool
+goodTableNames offset bad seen [] = true
+goodTableNames offset bad seen (n ∷ ns) = (goodName offset bad n && eqb (times seen n) 0) && goodTableNames offset bad (n ∷ seen) ns
 
 -- ---- the check up to the table
 
@@ -61,10 +62,10 @@ module _ {A : Type 0} where
 -- The indirect cluster's name is judged before its pages are read; both its pages, all its names, then both pages of each table cluster in turn.
 unfoldable pub openTable : List ℕ → Superblock → Result Superblock
 openTable image s =
-    unless (inRange (s .geometry .offset) (s .indirect)) 5
+    unless (goodName (s .geometry .offset) (s .bad) (s .indirect)) 5
     (needPage (s .geometry .format) image (2 * s .indirect) (λ first.
     needPage (s .geometry .format) image (2 * s .indirect + 1) (λ second.
-    unless (goodTableNames (s .geometry .offset) (s .indirect ∷ []) (tableNames (first ++ second) (tableClusters (s .end)))) 5
+    unless (goodTableNames (s .geometry .offset) (s .bad) (s .indirect ∷ []) (tableNames (first ++ second) (tableClusters (s .end)))) 5
     (needPages (s .geometry .format) image (pagesOf (tableNames (first ++ second) (tableClusters (s .end)))) (ok s)))))
 
 -- Length, page 0, format text, the other superblock rules, the table.
@@ -76,10 +77,13 @@ openCard format image =
     (unless (goodSuperblock format (clustersIn format (length image)) page) 4
     (openTable image (superblockOf format page)))))
 
--- what the answer of a call says
+-- what the answer of a call says: of a card that is refused nothing but why
+abbrev pub told : Verdict → Superblock → Result Superblock
+told verdict.Sound s = ok s
+told (verdict.Refused r) s = fault (numberOf r) (pageOf r)
+
 abbrev pub toldOpened : Opened → Result Superblock
-toldOpened (opened.Card s) = ok s
-toldOpened (opened.Refused r) = fault (numberOf r) (pageOf r)
+toldOpened o = told (o .verdict) (o .superblock)
 
 -- ---- the table's words
 

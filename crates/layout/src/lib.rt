@@ -2,6 +2,7 @@
 pub mod page0;
 pub mod table;
 
+use model::LIST_WORDS;
 use model::MOST_CLUSTERS;
 use page::Format;
 use page::read_page;
@@ -16,7 +17,8 @@ ghost use mathlib.Core.Path.{_≡_};
 ghost use Prim.Native.Nat.{_%_, _^_};
 ghost use Rattle.layout.specs.Refusal.{numberOf, pageOf};
 ghost use Rattle.layout.specs.See.{imagePage};
-ghost use Rattle.layout.specs.Table.{openCard, toldOpened, tableAfter};
+ghost use Rattle.layout.specs.Superblock.{superblockOf};
+ghost use Rattle.layout.specs.Table.{openCard, told, toldOpened, tableAfter};
 
 // Why a call is refused: a case for each row of the paper's table.
 pub enum Refusal {
@@ -95,7 +97,7 @@ pub struct Geometry {
     pub offset: u32,
 }
 
-// The numbers of a superblock: N, alloc_offset, alloc_end, the backup blocks and the indirect cluster.
+// The numbers of a superblock: N, alloc_offset, alloc_end, the backup blocks, the indirect cluster and the bad block list.
 pub struct Superblock {
     pub clusters: u32,
     pub geometry: Geometry,
@@ -103,12 +105,19 @@ pub struct Superblock {
     pub backup1: u32,
     pub backup2: u32,
     pub indirect: u32,
+    pub bad: [u32; LIST_WORDS],
 }
 
-// A card that is open, or why it is refused.
-pub enum Opened {
-    Card(Superblock),
+// How a card, or a part of its tree, is judged.
+pub enum Verdict {
+    Sound,
     Refused(Refusal),
+}
+
+// A card that is open, or why it is refused: then the superblock says nothing.
+pub struct Opened {
+    pub verdict: Verdict,
+    pub superblock: Superblock,
 }
 
 // The image's page that is a page of the allocatable clusters, which are counted from 0. A sum past 64 bits wraps.
@@ -118,24 +127,23 @@ pub fn image_page(geometry: Geometry, page: usize) -> usize
     std::num::wrapping_add_usize(2 * (geometry.offset as usize), page)
 }
 
-// The check up to the table: length, page 0, format text, the other superblock rules, the table.
-fn judge_card(format: Format, image: &[u8]) -> Opened
-    ensures { λ r. ⌜ toldOpened r ≡ openCard format (now (image .entry)) ⌝ }
+// The check up to the table: length, page 0, format text, the other superblock rules, the table. The lent page gets page 0.
+fn judge_card(format: Format, image: &[u8], page: &mut [u8; 512]) -> Verdict
+    ensures { λ r. ⌜ told r (superblockOf format (now (page .exit))) ≡ openCard format (now (image .entry)) ⌝ }
 {
     if !good_length(format, image.len()) {
-        return Opened::Refused(Refusal::BadLength);
+        return Verdict::Refused(Refusal::BadLength);
     }
-    let mut page = [0u8; 512];
-    if !read_page(format, image, 0, &mut page) {
-        return Opened::Refused(Refusal::UnreadablePage(0));
+    if !read_page(format, image, 0, page) {
+        return Verdict::Refused(Refusal::UnreadablePage(0));
     }
-    if !good_text(&page) {
-        return Opened::Refused(Refusal::BadText);
+    if !good_text(page) {
+        return Verdict::Refused(Refusal::BadText);
     }
-    if !good_superblock(format, clusters_in(format, image.len()), &page) {
-        return Opened::Refused(Refusal::BadSuperblock);
+    if !good_superblock(format, clusters_in(format, image.len()), page) {
+        return Verdict::Refused(Refusal::BadSuperblock);
     }
-    judge_table(image, superblock_of(format, &page))
+    judge_table(image, superblock_of(format, page))
 }
 
 // Checks the card up to its table, and loads the table's words. A refusal leaves the lent table as it was.
@@ -143,12 +151,20 @@ pub fn open_card(format: Format, image: &[u8], table: &mut [u32; MOST_CLUSTERS])
     ensures opened { λ r. ⌜ toldOpened r ≡ openCard format (now (image .entry)) ⌝ }
     ensures loaded { λ _. ⌜ now (table .exit) ≡ tableAfter (now (image .entry)) (openCard format (now (image .entry))) (now (table .entry)) ⌝ }
 {
-    let opened = judge_card(format, image);
-    match opened {
-        Opened::Card(s) => {
+    let mut page = [0u8; 512];
+    let verdict = judge_card(format, image, &mut page);
+    let s = superblock_of(format, &page);
+    match verdict {
+        Verdict::Sound => {
             load_table(image, s, table);
-            Opened::Card(s)
+            Opened {
+                verdict: Verdict::Sound,
+                superblock: s,
+            }
         }
-        Opened::Refused(refusal) => Opened::Refused(refusal),
+        Verdict::Refused(refusal) => Opened {
+            verdict: Verdict::Refused(refusal),
+            superblock: s,
+        },
     }
 }

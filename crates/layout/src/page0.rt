@@ -3,7 +3,10 @@ use crate::Geometry;
 use crate::Superblock;
 use fields::numbers::half_at;
 use fields::numbers::word_at;
+use model::BLOCK_CLUSTERS;
+use model::LIST_WORDS;
 use model::MOST_CLUSTERS;
+use model::NO_BLOCK;
 use page::Format;
 use page::cluster_bytes;
 ghost use mathlib.Core.Path.{_≡_};
@@ -11,7 +14,7 @@ ghost use Prim.Native.Nat.{_+_, _≤_};
 ghost use lib.ListN.{length};
 ghost use Rattle.model.specs.Bytes.{slice};
 ghost use Rattle.model.specs.Names.{sameName};
-ghost use Rattle.layout.specs.Superblock.{clustersIn, goodLength, goodText, goodVersion, fixedNumbers, superblockOf, goodNumbers, goodSuperblock};
+ghost use Rattle.layout.specs.Superblock.{badBlocksOf, clustersIn, goodLength, goodText, goodVersion, fixedNumbers, superblockOf, goodNumbers, goodBadBlock, goodBadBlocks, goodSuperblock};
 
 const LEAST_CLUSTERS: usize = 32;
 
@@ -58,9 +61,23 @@ pub fn fixed_numbers(page: &[u8; 512]) -> bool
         & ((half_at(page, 0x2A) == 2) & ((half_at(page, 0x2C) == 16) & (word_at(page, 0x3C) == 0)))
 }
 
+// The words of the bad block list.
+fn bad_blocks(page: &[u8; 512]) -> [u32; LIST_WORDS]
+    ensures { λ r. ⌜ r ≡ badBlocksOf (now (page .entry)) ⌝ }
+{
+    let mut bad = [0u32; LIST_WORDS];
+    let mut i: usize = 0;
+    while i < LIST_WORDS {
+        bad[i] = word_at(page, 0xD0 + 4 * i);
+        i += 1;
+    }
+    bad
+}
+
 pub fn superblock_of(format: Format, page: &[u8; 512]) -> Superblock
     ensures { λ r. ⌜ r ≡ superblockOf format (now (page .entry)) ⌝ }
 {
+    let bad = bad_blocks(page);
     Superblock {
         clusters: word_at(page, 0x30),
         geometry: Geometry {
@@ -71,6 +88,7 @@ pub fn superblock_of(format: Format, page: &[u8; 512]) -> Superblock
         backup1: word_at(page, 0x40),
         backup2: word_at(page, 0x44),
         indirect: word_at(page, 0x50),
+        bad: bad,
     }
 }
 
@@ -83,15 +101,37 @@ pub fn good_numbers(n: usize, s: Superblock) -> bool
         & ((1 <= s.end)
             & ((top <= n)
                 & (!(s.backup1 == s.backup2)
-                    & (((s.backup1 as usize) < n / 8)
-                        & (((s.backup2 as usize) < n / 8)
-                            & ((top <= 8 * s.backup1 as usize)
-                                & (top <= 8 * s.backup2 as usize)))))))
+                    & (((s.backup1 as usize) < n / BLOCK_CLUSTERS)
+                        & (((s.backup2 as usize) < n / BLOCK_CLUSTERS)
+                            & ((top <= BLOCK_CLUSTERS * s.backup1 as usize)
+                                & (top <= BLOCK_CLUSTERS * s.backup2 as usize)))))))
+}
+
+// The rule on a word of the bad block list, for an image of n clusters.
+fn good_bad_block(n: usize, word: u32) -> bool
+    ensures { λ r. ⌜ r ≡ goodBadBlock n word ⌝ }
+{
+    (word == NO_BLOCK) | ((1 <= word) & ((word as usize) < n / BLOCK_CLUSTERS))
+}
+
+fn good_bad_blocks(n: usize, bad: &[u32]) -> bool
+    ensures { λ r. ⌜ r ≡ goodBadBlocks n (now (bad .entry)) ⌝ }
+{
+    let mut i: usize = 0;
+    while i < bad.len() {
+        if !good_bad_block(n, bad[i]) {
+            return false;
+        }
+        i += 1;
+    }
+    true
 }
 
 // Every rule of page 0 but its text.
 pub fn good_superblock(format: Format, n: usize, page: &[u8; 512]) -> bool
     ensures { λ r. ⌜ r ≡ goodSuperblock format n (now (page .entry)) ⌝ }
 {
-    good_version(page) & (fixed_numbers(page) & good_numbers(n, superblock_of(format, page)))
+    let s = superblock_of(format, page);
+    let bad = s.bad;
+    good_version(page) & (fixed_numbers(page) & (good_numbers(n, s) & good_bad_blocks(n, &bad)))
 }

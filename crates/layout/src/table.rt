@@ -1,11 +1,13 @@
 // The allocation table: its clusters' names in the indirect cluster, their pages, and the words in them.
-use crate::Opened;
 use crate::Refusal;
 use crate::Superblock;
+use crate::Verdict;
 use fields::numbers::word_at;
 use fields::numbers::word_in;
+use model::BLOCK_CLUSTERS;
 use page::Format;
 use page::read_page;
+use reached::is_listed;
 ghost use mathlib.Core.Path.{_≡_};
 ghost use mathlib.Core.List.{_++_, _∷_, []};
 ghost use mathlib.Core.Bool.{true};
@@ -17,12 +19,21 @@ ghost use Rattle.model.specs.Bytes.{word};
 ghost use Rattle.model.specs.Check.{ok};
 ghost use Rattle.model.specs.Tree.{times};
 ghost use Rattle.model.specs.View.{mostClusters, pagesOf};
-ghost use Rattle.layout.specs.Table.{upTo, tableClusters, tableNames, inRange, goodTableNames, needPages, openTable, openCard, toldOpened, tablePage, tableWord, tableOf};
+ghost use Rattle.layout.specs.declared.Superblock.{Superblock};
+ghost use Rattle.layout.specs.Superblock.{upTo};
+ghost use Rattle.layout.specs.Table.{tableClusters, tableNames, inRange, goodName, goodTableNames, needPages, openTable, openCard, told, tablePage, tableWord, tableOf};
 
 fn in_range(offset: u32, name: u32) -> bool
     ensures { λ r. ⌜ r ≡ inRange offset name ⌝ }
 {
     (1 <= name) & (name < offset)
+}
+
+// A name in that range whose erase block is not listed.
+fn good_name(offset: u32, bad: &[u32], name: u32) -> bool
+    ensures { λ r. ⌜ r ≡ goodName offset (now (bad .entry)) name ⌝ }
+{
+    in_range(offset, name) & !is_listed(bad, name as usize / BLOCK_CLUSTERS)
 }
 
 // Word i of the indirect cluster, whose two pages are given. A missing word counts as zero.
@@ -66,16 +77,17 @@ fn good_names(
     first: &[u8; 512],
     second: &[u8; 512],
     offset: u32,
+    bad: &[u32],
     indirect: u32,
     count: usize,
 ) -> bool
     requires { ⌜ count ≤ 256 ⌝ }
-    ensures { λ r. ⌜ r ≡ goodTableNames offset (indirect ∷ []) (tableNames (now (first .entry) ++ now (second .entry)) count) ⌝ }
+    ensures { λ r. ⌜ r ≡ goodTableNames offset (now (bad .entry)) (indirect ∷ []) (tableNames (now (first .entry) ++ now (second .entry)) count) ⌝ }
 {
     let mut i = 0;
     while i < count {
         let name = name_at(first, second, i);
-        if !(in_range(offset, name) & is_new(first, second, indirect, i, name)) {
+        if !(good_name(offset, bad, name) & is_new(first, second, indirect, i, name)) {
             return false;
         }
         i += 1;
@@ -96,56 +108,55 @@ pub fn table_page(first: &[u8; 512], second: &[u8; 512], count: usize, t: usize)
 
 // Both pages of each table cluster in turn: the first that is unreadable decides.
 fn judge_pages(
+    format: Format,
     image: &[u8],
     first: &[u8; 512],
     second: &[u8; 512],
     count: usize,
-    s: Superblock,
-) -> Opened
+) -> Verdict
     requires { ⌜ count ≤ 256 ⌝ }
-    ensures { λ r. ⌜ toldOpened r ≡ needPages (s .geometry .format) (now (image .entry)) (pagesOf (tableNames (now (first .entry) ++ now (second .entry)) count)) (ok s) ⌝ }
+    ensures { λ r. ⌜ ((s : Superblock) → told r s ≡ needPages format (now (image .entry)) (pagesOf (tableNames (now (first .entry) ++ now (second .entry)) count)) (ok s)) ⌝ }
 {
-    let geometry = s.geometry;
-    let format = geometry.format;
     let mut page = [0u8; 512];
     let mut t = 0;
     while t < 2 * count {
         let p = table_page(first, second, count, t);
         if !read_page(format, image, p, &mut page) {
-            return Opened::Refused(Refusal::UnreadablePage(p));
+            return Verdict::Refused(Refusal::UnreadablePage(p));
         }
         t += 1;
     }
-    Opened::Card(s)
+    Verdict::Sound
 }
 
 // The check of the table. Its clusters' names are in the indirect cluster, whose own name is judged first.
-pub(crate) fn judge_table(image: &[u8], s: Superblock) -> Opened
+pub(crate) fn judge_table(image: &[u8], s: Superblock) -> Verdict
     requires { ⌜ s .end ≤ mostClusters ⌝ }
-    ensures { λ r. ⌜ toldOpened r ≡ openTable (now (image .entry)) s ⌝ }
+    ensures { λ r. ⌜ told r s ≡ openTable (now (image .entry)) s ⌝ }
 {
     let geometry = s.geometry;
     let format = geometry.format;
     let offset = geometry.offset;
     let indirect = s.indirect;
+    let bad = s.bad;
     let end = s.end as usize;
-    if !in_range(offset, indirect) {
-        return Opened::Refused(Refusal::BadTableName);
+    if !good_name(offset, &bad, indirect) {
+        return Verdict::Refused(Refusal::BadTableName);
     }
     let p = 2 * (indirect as usize);
     let mut first = [0u8; 512];
     if !read_page(format, image, p, &mut first) {
-        return Opened::Refused(Refusal::UnreadablePage(p));
+        return Verdict::Refused(Refusal::UnreadablePage(p));
     }
     let mut second = [0u8; 512];
     if !read_page(format, image, p + 1, &mut second) {
-        return Opened::Refused(Refusal::UnreadablePage(p + 1));
+        return Verdict::Refused(Refusal::UnreadablePage(p + 1));
     }
     let count = (end + 255) / 256;
-    if !good_names(&first, &second, offset, indirect, count) {
-        return Opened::Refused(Refusal::BadTableName);
+    if good_names(&first, &second, offset, &bad, indirect, count) {
+        return judge_pages(format, image, &first, &second, count);
     }
-    judge_pages(image, &first, &second, count, s)
+    Verdict::Refused(Refusal::BadTableName)
 }
 
 // The words of the clusters below `end`, from the table's pages in turn; each page was judged readable.

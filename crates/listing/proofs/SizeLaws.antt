@@ -188,7 +188,7 @@ listing-lines format image n few = go (checkImage format image) refl
         let high : (c : ℕ) → x .0 .end ≤ c → (see (x .0) image) .link c ≡ Link.free =
         λ c l. rw (le-ltb c (length (tableOf image (x .0))) (omega (arith, length-table image (x .0)))) in
         let tree = card-short (see (x .0) image) (x .1) (x .0 .end) (rw same (y .holds)) high (end-fits format image (x .0) (y .opened)) in
-        let all = countsIn (x .0 .clusters) (x .0 .end) (see (x .0) image) (x .1) in
+        let all = countsIn (x .0) (see (x .0) image) (x .1) in
         omega (arith, length-append (countsText all) (treeText [] (x .1 .slots)), counts-short all, tree, few (x .0) (y .opened))
 
 pub listing-short : (format : Format) (image : List ℕ) → length (listingOf format image) ≤ most

@@ -102,7 +102,7 @@ refusalText number page = refusedWord ++ decimalOf number ++ pageText number pag
 
 abbrev pub textOf : List ℕ → Result (Superblock × Root × Marks) → List ℕ
 textOf image (fault number page) = refusalText number page
-textOf image (ok x) = cardText (countsIn (x .0 .clusters) (x .0 .end) (see (x .0) image) (x .1)) (x .1)
+textOf image (ok x) = cardText (countsIn (x .0) (see (x .0) image) (x .1)) (x .1)
 
 unfoldable pub listingOf : Format → List ℕ → List ℕ
 listingOf format image = textOf image (checkImage format image)

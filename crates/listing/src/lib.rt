@@ -6,7 +6,7 @@ mod path;
 
 use entries::list_tree;
 use layout::Geometry;
-use layout::Opened;
+use layout::Verdict;
 use layout::open_card;
 use lines::put_counts;
 use lines::put_refusal;
@@ -64,9 +64,13 @@ fn list_card(
 {
     let at = put_counts(out, 0, counts);
     let opened = open_card(format, image, table);
-    match opened {
-        Opened::Refused(_) => at,
-        Opened::Card(s) => list_words(image, table, s.end as usize, s.geometry, out, at),
+    let verdict = opened.verdict;
+    match verdict {
+        Verdict::Refused(_) => at,
+        Verdict::Sound => {
+            let s = opened.superblock;
+            list_words(image, table, s.end as usize, s.geometry, out, at)
+        }
     }
 }
 

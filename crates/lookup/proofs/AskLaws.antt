@@ -42,23 +42,23 @@ way-refused v card bytes f r e z = rw e ((λ root holds. rw (z root holds) (refl
 
 pub way-at : (v : View) (card : Superblock) (bytes : List ℕ) (first : ℕ) (page : List ℕ)
     → ((root : Root) → HoldsCard v root → (h : Slot) × (t : Tree) × Stands v first (entryOf page) h t × (withPath (pathOf bytes) (foundAt card root) ≡ ok (card, h, t)))
-    → TellsWay v card bytes (record { standing = stood.At card first; page = page })
-way-at v card bytes first page y = ((λ root holds. let z = y root holds in rw (z .3) (refl, z .2)), refl)
+    → TellsWay v card bytes (record { standing = stood.At (card .end) (card .geometry) first; page = page })
+way-at v card bytes first page y = ((λ root holds. let z = y root holds in rw (z .3) (refl, z .2)), (refl, refl))
 
--- the view by the answer's own card is the given one
+-- the view by the answer's own numbers is the given card's
 as-stood : (card : Superblock) (words image : List ℕ) (x : Result (Superblock × Slot × Tree)) (st : Standing) (page : List ℕ) → Of card st
     → TellsAs (viewBy (card .geometry) (take (card .end) words) image) x st page → TellsAs (viewIn words image st) x st page
 as-stood card words image (fault n p) (stood.Refused f) page o y = y
-as-stood card words image (fault n p) (stood.At s first) page o y = absurd y
+as-stood card words image (fault n p) (stood.At end geometry first) page o y = absurd y
 as-stood card words image (ok x) (stood.Refused f) page o y = absurd y
-as-stood card words image (ok x) (stood.At s first) page o y = rw o (y .0 ∙ o, y .1)
+as-stood card words image (ok x) (stood.At end geometry first) page o y = (y .0, rw (o .0, o .1) (y .1))
 
 fits-of : (card : Superblock) (st : Standing) → Of card st → card .end ≤ mostClusters → Fits st
 fits-of card (stood.Refused f) o h = tt
-fits-of card (stood.At s first) o h = rw o h
+fits-of card (stood.At end geometry first) o h = rw (o .0) h
 
-pub fits-at : (st : Standing) (s : Superblock) (first : ℕ) → Fits st → st ≡ stood.At s first → s .end ≤ mostClusters
-fits-at st s first f e = rw e at f
+pub fits-at : (st : Standing) (end : ℕ) (geometry : Geometry) (first : ℕ) → Fits st → st ≡ stood.At end geometry first → end ≤ mostClusters
+fits-at st end geometry first f e = rw e at f
 
 module _ (format : Format) (image bytes before words : List ℕ) (l : words ≡ tableAfter image (openCard format image) before) (r : Stood) where
   pub stand-refused : (f : Refusal) → r ≡ refusedAs f → fault (numberOf f) (pageOf f) ≡ superblockIn (checkImage format image)
@@ -86,32 +86,32 @@ room-length format image before words l e = go (openCard format image) refl l
         ap length h ∙ length-append (tableOf image s) (drop (s .end) before) ∙ omega (arith, length-table image s, length-drop (s .end) before, facts .room, facts .most)
 
 -- ---- what is asked
-module _ {A : Type 0} (ask : Superblock → Slot → Tree → Result A) where
+module _ {A : Type 0} (ask : Geometry → Slot → Tree → Result A) where
   abbrev onward : Superblock × Slot × Tree → Result A
-  onward x = ask (x .0) (x .1) (x .2)
+  onward x = ask (x .0 .geometry) (x .1) (x .2)
 
-  at-tree : (s : Superblock) (w : ℕ) (f : Found) → refusing w (tell (ask s) (fault 9 0) f) ≡ andThen (refusing w (tell (standsThere s) (fault 9 0) f)) onward
+  at-tree : (s : Superblock) (w : ℕ) (f : Found) → refusing w (tell (ask (s .geometry)) (fault 9 0) f) ≡ andThen (refusing w (tell (standsThere s) (fault 9 0) f)) onward
   unfolding andThen
   at-tree s zero absent = refl
   at-tree s zero (found h t) = refl
   at-tree s (suc w) f = refl
 
-  at-bytes : (s : Superblock) (root : Root) (o : Option Path) → withPath o (λ q. atPath root q (ask s)) ≡ andThen (withPath o (foundAt s root)) onward
+  at-bytes : (s : Superblock) (root : Root) (o : Option Path) → withPath o (λ q. atPath root q (ask (s .geometry))) ≡ andThen (withPath o (foundAt s root)) onward
   unfolding andThen atPath
   at-bytes s root none = refl
   at-bytes s root (some q) = at-tree s (way (lookUp root) q) (lookUp root q)
 
-  asked : (format : Format) (image bytes : List ℕ) → onCard format image bytes (λ s root q. atPath root q (ask s)) ≡ andThen (standingOf format image bytes) onward
+  asked : (format : Format) (image bytes : List ℕ) → onCard format image bytes (λ s root q. atPath root q (ask (s .geometry))) ≡ andThen (standingOf format image bytes) onward
   unfolding andThen onCard
   asked format image bytes = go (checkImage format image)
     where
       go : (r : Result (Superblock × Root × Marks))
-          → andThen r (λ x. withPath (pathOf bytes) (λ q. atPath (x .1) q (ask (x .0)))) ≡ andThen (andThen r (λ x. withPath (pathOf bytes) (foundAt (x .0) (x .1)))) onward
+          → andThen r (λ x. withPath (pathOf bytes) (λ q. atPath (x .1) q (ask (x .0 .geometry)))) ≡ andThen (andThen r (λ x. withPath (pathOf bytes) (foundAt (x .0) (x .1)))) onward
       go (fault n p) = refl
       go (ok x) = at-bytes (x .0) (x .1) (pathOf bytes)
 
   module _ (format : Format) (words image bytes : List ℕ) (r : Stood) (told : TellsStood format words image bytes r) where
-    pub ask-refused : (f : Refusal) → r .standing ≡ stood.Refused f → onCard format image bytes (λ s root q. atPath root q (ask s)) ≡ fault (numberOf f) (pageOf f)
+    pub ask-refused : (f : Refusal) → r .standing ≡ stood.Refused f → onCard format image bytes (λ s root q. atPath root q (ask (s .geometry))) ≡ fault (numberOf f) (pageOf f)
     unfolding andThen
     ask-refused f e = asked format image bytes ∙ go (standingOf format image bytes) (rw e at told)
       where
@@ -119,13 +119,13 @@ module _ {A : Type 0} (ask : Superblock → Slot → Tree → Result A) where
         go (fault n p) y = rw (y .0, y .1)
         go (ok x) y = absurd y
 
-    pub ask-at : (s : Superblock) (first : ℕ) → r .standing ≡ stood.At s first
-        → (h : Slot) × (t : Tree) × Stands (viewBy (s .geometry) (take (s .end) words) image) first (entryOf (r .page)) h t × (onCard format image bytes (λ s root q. atPath root q (ask s)) ≡ ask s h t)
+    pub ask-at : (end : ℕ) (geometry : Geometry) (first : ℕ) → r .standing ≡ stood.At end geometry first
+        → (h : Slot) × (t : Tree) × Stands (viewBy geometry (take end words) image) first (entryOf (r .page)) h t × (onCard format image bytes (λ s root q. atPath root q (ask (s .geometry))) ≡ ask geometry h t)
     unfolding andThen
-    ask-at s first e = go (standingOf format image bytes) (rw e at told) (asked format image bytes)
+    ask-at end geometry first e = go (standingOf format image bytes) (rw e at told) (asked format image bytes)
       where
-        go : (x : Result (Superblock × Slot × Tree)) → TellsAs (viewBy (s .geometry) (take (s .end) words) image) x (stood.At s first) (r .page) → onCard format image bytes (λ s root q. atPath root q (ask s)) ≡ andThen x onward
-            → (h : Slot) × (t : Tree) × Stands (viewBy (s .geometry) (take (s .end) words) image) first (entryOf (r .page)) h t × (onCard format image bytes (λ s root q. atPath root q (ask s)) ≡ ask s h t)
+        go : (x : Result (Superblock × Slot × Tree)) → TellsAs (viewBy geometry (take end words) image) x (stood.At end geometry first) (r .page) → onCard format image bytes (λ s root q. atPath root q (ask (s .geometry))) ≡ andThen x onward
+            → (h : Slot) × (t : Tree) × Stands (viewBy geometry (take end words) image) first (entryOf (r .page)) h t × (onCard format image bytes (λ s root q. atPath root q (ask (s .geometry))) ≡ ask geometry h t)
         go (fault n p) y z = absurd y
         go (ok x) y z = (x .1, x .2, y .1, z ∙ ap (λ a. ask a (x .1) (x .2)) (y .0))
 

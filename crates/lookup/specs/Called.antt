@@ -29,22 +29,22 @@ use Rattle.lookup.specs.declared.stepping.SteppedEntry.{SteppedEntry}
 
 -- the view of a card that stands open, by the words that the lent room has
 abbrev pub viewIn : List ℕ → List ℕ → Standing → View
-viewIn words image (stood.At s first) = viewBy (s .geometry) (take (s .end) words) image
+viewIn words image (stood.At end geometry first) = viewBy geometry (take end words) image
 viewIn words image (stood.Refused f) = viewBy (record { format = Raw; offset = 0 }) [] image
 
 abbrev pub refusedAs : Refusal → Stood
 refusedAs f = record { standing = stood.Refused f; page = replicate 512 0 }
 
--- the refusal; or the card, and in the page the entry of what stands at the path, as the view holds it
+-- the refusal; or where the card's clusters lie, and in the page the entry of what stands at the path, as the view holds it
 abbrev pub TellsAs : View → Result (Superblock × Slot × Tree) → Standing → List ℕ → Type 0
 TellsAs v (fault n p) (stood.Refused f) page = (n ≡ numberOf f) × (p ≡ pageOf f) × (page ≡ replicate 512 0)
-TellsAs v (fault n p) (stood.At s first) page = ⊥
+TellsAs v (fault n p) (stood.At end geometry first) page = ⊥
 TellsAs v (ok x) (stood.Refused f) page = ⊥
-TellsAs v (ok x) (stood.At s first) page = (x .0 ≡ s) × Stands v first (entryOf page) (x .1) (x .2)
+TellsAs v (ok x) (stood.At end geometry first) page = (x .0 .geometry ≡ geometry) × Stands v first (entryOf page) (x .1) (x .2)
 
--- the card is the one given
+-- the numbers are those of the card given
 abbrev pub Of : Superblock → Standing → Type 0
-Of card (stood.At s first) = s ≡ card
+Of card (stood.At end geometry first) = (end ≡ card .end) × (geometry ≡ card .geometry)
 Of card (stood.Refused f) = Unit {0}
 
 -- of a way on one card: whatever tree its view holds
@@ -58,7 +58,7 @@ TellsStood format words image bytes r = TellsAs (viewIn words image (r .standing
 -- the card's words fit the room
 abbrev pub Fits : Standing → Type 0
 Fits (stood.Refused f) = Unit {0}
-Fits (stood.At s first) = s .end ≤ mostClusters
+Fits (stood.At end geometry first) = end ≤ mostClusters
 
 -- ---- what is asked of an entry's page and the cluster in which its chain begins, whatever stands there
 

@@ -3,9 +3,10 @@ use crate::way::Arrival;
 use crate::way::descend;
 use fields::paths::Parsed;
 use fields::paths::parse_path;
-use layout::Opened;
+use layout::Geometry;
 use layout::Refusal;
 use layout::Superblock;
+use layout::Verdict;
 use model::MOST_CLUSTERS;
 use page::Format;
 use tree::open_checked;
@@ -16,9 +17,14 @@ ghost use Rattle.layout.specs.See.{viewBy};
 ghost use Rattle.layout.specs.Table.{openCard, tableAfter};
 ghost use Rattle.lookup.specs.Called.{Fits, TellsStood, TellsWay, refusedAs};
 
-// Where a call stands: at an entry of an open card, whose chain begins with cluster `first`, or refused.
+// Where a call stands: at an entry of an open card, whose chain begins with cluster `first`, or refused. Of the card it has
+// how long its table is and where its clusters lie.
 pub(crate) enum Standing {
-    At { card: Superblock, first: u32 },
+    At {
+        end: u32,
+        geometry: Geometry,
+        first: u32,
+    },
     Refused(Refusal),
 }
 
@@ -53,8 +59,14 @@ fn stand_card(image: &[u8], table: &[u32], card: Superblock, path: &[u8]) -> Sto
                 Arrival::WrongKind => refused(Refusal::WrongKind),
                 Arrival::At(first) => {
                     let page = a.page;
+                    let end = card.end;
+                    let geometry = card.geometry;
                     Stood {
-                        standing: Standing::At { card, first },
+                        standing: Standing::At {
+                            end,
+                            geometry,
+                            first,
+                        },
                         page: page,
                     }
                 }
@@ -84,8 +96,9 @@ pub(crate) fn stand(
     ensures fits { λ r. ⌜ Fits (r .standing) ⌝ }
 {
     let opened = open_checked(format, image, room);
-    match opened {
-        Opened::Refused(refusal) => refused(refusal),
-        Opened::Card(s) => stand_words(image, room, s, path),
+    let verdict = opened.verdict;
+    match verdict {
+        Verdict::Refused(refusal) => refused(refusal),
+        Verdict::Sound => stand_words(image, room, opened.superblock, path),
     }
 }

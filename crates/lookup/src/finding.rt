@@ -53,7 +53,11 @@ pub fn find(format: Format, image: &[u8], path: &[u8]) -> FoundEntry
             outcome: Outcome::Refused(refusal),
             entry: no_entry(),
         },
-        Standing::At { card: _, first: _ } => {
+        Standing::At {
+            end: _,
+            geometry: _,
+            first: _,
+        } => {
             let page = stood.page;
             FoundEntry {
                 outcome: Outcome::Found,

@@ -171,13 +171,17 @@ pub fn read(format: Format, image: &[u8], path: &[u8], from: usize, out: &mut [u
     let standing = stood.standing;
     match standing {
         Standing::Refused(refusal) => ReadOutcome::Refused(refusal),
-        Standing::At { card, first } => {
+        Standing::At {
+            end,
+            geometry,
+            first,
+        } => {
             let page = stood.page;
             read_words(
                 image,
                 &room,
-                card.end as usize,
-                card.geometry,
+                end as usize,
+                geometry,
                 first,
                 &page,
                 from,

@@ -109,17 +109,13 @@ pub fn step(format: Format, image: &[u8], path: &[u8], slot: u32) -> SteppedEntr
             place: Stepped::Refused(refusal),
             entry: no_entry(),
         },
-        Standing::At { card, first } => {
+        Standing::At {
+            end,
+            geometry,
+            first,
+        } => {
             let page = stood.page;
-            step_words(
-                image,
-                &room,
-                card.end as usize,
-                card.geometry,
-                first,
-                &page,
-                slot,
-            )
+            step_words(image, &room, end as usize, geometry, first, &page, slot)
         }
     }
 }

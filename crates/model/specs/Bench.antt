@@ -1,4 +1,4 @@
--- The bench card (RULES, "Numbers to meet") as a view: 56 clusters, 30 of them allocatable, only a root of length 2. Its numbers to meet.
+-- The bench card (RULES, "Numbers to meet") as a view: 56 clusters, 30 of them allocatable, only a root of length 2, no bad block. Its numbers to meet.
 use Prim.Native.Nat.{ℕ}
 use mathlib.Core.Bool.{cond}
 use mathlib.Core.List.{List, [], _∷_}
@@ -8,7 +8,7 @@ use lib.Dec.{eqb, lit≤}
 use lib.ListN.{length, replicate}
 use Rattle.model.specs.Change.{Change, Rules, baseRules, create, delete, directoryMode, makeDirectory, size}
 use Rattle.model.specs.Check.{Marks, Result, checkTree, fault, ok}
-use Rattle.model.specs.Counts.{mayTakeOn, orphanCount, reachedCount}
+use Rattle.model.specs.Counts.{listWords, mayTakeOn, noBlock, orphanCount, reachedCount}
 use Rattle.model.specs.Entry.{Entry, entryOf}
 use Rattle.model.specs.Names.{Name, Path, dotDotName, dotName}
 use Rattle.model.specs.Pages.{newPage, zeroPage}
@@ -18,7 +18,7 @@ use Rattle.model.specs.Tree.{Root}
 use Rattle.model.specs.View.{Link, View}
 
 abbrev pub benchRules : Rules
-benchRules = baseRules 30 (lit≤ tt) (mayTakeOn 56 30)
+benchRules = baseRules 30 (lit≤ tt) (mayTakeOn 56 30 10 (replicate listWords noBlock))
 
 abbrev pub benchEntry : ℕ → Name → Entry
 benchEntry length n = newEntry directoryMode length 0 0 (replicate 8 0) n

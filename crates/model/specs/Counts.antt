@@ -1,6 +1,7 @@
 -- Free, held back, reached and orphaned clusters, each by its own definition over the allocatable clusters 0 to alloc_end - 1.
-use Prim.Native.Nat.{_+_, suc, zero, ℕ}
-use mathlib.Core.Bool.{Bool, _&&_, cond}
+use Prim.Native.Nat.{_+_, _/_, suc, zero, ℕ}
+use mathlib.Core.Bool.{Bool, _&&_, _||_, cond, false, not}
+use mathlib.Core.List.{List, [], _∷_}
 use lib.Dec.{eqb, ltb}
 use Rattle.model.specs.Tree.{Root, reached}
 use Rattle.model.specs.View.{Link, View}
@@ -18,9 +19,29 @@ tailStart = 8000
 abbrev pub takeLimit : ℕ → ℕ → ℕ
 takeLimit clusters allocEnd = cond (eqb clusters standardClusters && ltb tailStart allocEnd) tailStart allocEnd
 
--- whether a new cluster may be this one
-abbrev pub mayTakeOn : ℕ → ℕ → ℕ → Bool
-mayTakeOn clusters allocEnd c = ltb c (takeLimit clusters allocEnd)
+-- ---- the bad blocks
+
+-- the list has this many words; one that names no block is ones
+abbrev pub listWords : ℕ
+listWords = 32
+
+abbrev pub noBlock : ℕ
+noBlock = 0xFFFFFFFF
+
+-- an erase block is 8 clusters of the card
+abbrev pub blockOf : ℕ → ℕ
+blockOf cluster = cluster / 8
+
+-- every word of the list counts, also after one that names none, which is no block's number
+abbrev pub isListed : List ℕ → ℕ → Bool
+isListed [] block = false
+isListed (b ∷ bad) block = eqb b block || isListed bad block
+
+-- ---- which clusters may be taken
+
+-- A new cluster lies below the limit and in no listed block. Table index c is the card's cluster alloc_offset + c.
+abbrev pub mayTakeOn : ℕ → ℕ → ℕ → List ℕ → ℕ → Bool
+mayTakeOn clusters allocEnd offset bad c = ltb c (takeLimit clusters allocEnd) && not (isListed bad (blockOf (offset + c)))
 
 -- ---- one cluster
 

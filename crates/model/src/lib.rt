@@ -14,6 +14,14 @@ pub const STANDARD_CLUSTERS: u32 = 8192;
 
 pub const TAIL_START: usize = 8000;
 
+// An erase block has this many clusters.
+pub const BLOCK_CLUSTERS: usize = 8;
+
+// The bad block list: this many words, each the number of an erase block or NO_BLOCK.
+pub const LIST_WORDS: usize = 32;
+
+pub const NO_BLOCK: u32 = 0xFFFF_FFFF;
+
 // The check follows exactly the sound chains: below alloc_end, not free, not reached before, the end mark at exactly the k-th.
 pub fn chains_are_sound()
     ensures { λ _. ⌜ ChainsAreSound ⌝ }

@@ -37,19 +37,20 @@ free-word w = go (ltb w topBit) (eqb w endMark)
 
 module _ (t : List ℕ) (i : ℕ) (inside : i < length t) where
   -- the code's tests are the model's free and held back cluster
-  pub free-test : (limit : ℕ) (b : Bool) → (ltb i limit && ltb (getD t i 0) topBit) ≡ b → freeAt (λ c. ltb c limit) t i ≡ cond b 1 0
-  free-test limit b e = rw (← e, lt-ltb i (length t) inside) (go (ltb i limit))
-    where
-      go : (m : Bool) → isFree (cond m (linkOf (getD t i 0)) Link.last) ≡ cond (m && ltb (getD t i 0) topBit) 1 0
-      go true = free-word (getD t i 0)
-      go false = refl
+  module _ (mayTake : ℕ → Bool) (may : Bool) (m : may ≡ mayTake i) where
+    pub free-test : (b : Bool) → (may && ltb (getD t i 0) topBit) ≡ b → freeAt mayTake t i ≡ cond b 1 0
+    free-test b e = rw (← e, ← m, lt-ltb i (length t) inside) (go may)
+      where
+        go : (x : Bool) → isFree (cond x (linkOf (getD t i 0)) Link.last) ≡ cond (x && ltb (getD t i 0) topBit) 1 0
+        go true = free-word (getD t i 0)
+        go false = refl
 
-  pub held-test : (limit : ℕ) (b : Bool) → (leb limit i && ltb (getD t i 0) topBit) ≡ b → heldAt (λ c. ltb c limit) t i ≡ cond b 1 0
-  held-test limit b e = rw (← e, lt-ltb i (length t) inside) (go (decLt i limit))
-    where
-      go : Dec (i < limit) → isHeld (ltb i limit) (linkOf (getD t i 0)) ≡ cond (leb limit i && ltb (getD t i 0) topBit) 1 0
-      go (yes l) = rw (lt-ltb i limit l, lt-leb limit i l)
-      go (no l) = let u : limit ≤ i = omega arith in rw (le-ltb i limit u, le-leb limit i u) (free-word (getD t i 0))
+    pub held-test : (b : Bool) → (not may && ltb (getD t i 0) topBit) ≡ b → heldAt mayTake t i ≡ cond b 1 0
+    held-test b e = rw (← e, ← m, lt-ltb i (length t) inside) (go may)
+      where
+        go : (x : Bool) → isHeld x (linkOf (getD t i 0)) ≡ cond (not x && ltb (getD t i 0) topBit) 1 0
+        go true = refl
+        go false = free-word (getD t i 0)
 
   -- the code's test is the model's orphan
   pub orphan-test : (r : Reached) (b : Bool) → (leb topBit (getD t i 0) && not (marked r i)) ≡ b → isOrphan (tableLinks t i) (marksOf r i) ≡ cond b 1 0

@@ -4,4 +4,5 @@ pub mod Totalling
 pub mod MarkLaws
 pub mod ChainSteps
 pub mod ChainLaws
+pub mod ListLaws
 pub mod CountLaws

@@ -1,10 +1,13 @@
-// The clusters that chains reach: their record, the walk of one chain, and the counts over the allocation table.
+// The clusters that chains reach: their record, the walk of one chain, which clusters may be taken, and the counts over the
+// allocation table.
+use model::BLOCK_CLUSTERS;
 use model::MOST_CLUSTERS;
 use model::STANDARD_CLUSTERS;
 use model::TAIL_START;
 ghost use mathlib.Core.Path.{_≡_};
-ghost use lib.Dec.{ltb};
-ghost use Rattle.model.specs.Counts.{takeLimit};
+ghost use lib.Dec.{eqb};
+ghost use lib.ListN.{length};
+ghost use Rattle.model.specs.Counts.{isListed, mayTakeOn, takeLimit};
 ghost use Rattle.reached.specs.Marks.{noMarks, markedIn, marked, withMark};
 ghost use Rattle.reached.specs.Chain.{chainBehind};
 ghost use Rattle.reached.specs.Totals.{freeWords, heldWords, orphansIn};
@@ -139,25 +142,54 @@ pub fn take_limit(clusters: u32, end: usize) -> usize
     end
 }
 
+// Whether a word of the list names the erase block.
+fn names_block(word: u32, block: usize) -> bool
+    ensures { λ r. ⌜ r ≡ eqb word block ⌝ }
+{
+    word as usize == block
+}
+
+// Whether any word of the list does.
+pub fn is_listed(bad: &[u32], block: usize) -> bool
+    ensures { λ r. ⌜ r ≡ isListed (now (bad .entry)) block ⌝ }
+{
+    let mut listed = false;
+    let mut i: usize = 0;
+    while i < bad.len() {
+        listed = listed | names_block(bad[i], block);
+        i += 1;
+    }
+    listed
+}
+
 // How many table words have their top bit clear, in two counts.
 pub struct Unused {
     pub free: usize,
     pub held: usize,
 }
 
-// Free: the top bit of the table word is clear, and the cluster lies below the limit.
-// Held back: it is clear, and the cluster lies at the limit or above. Neither is a remainder.
-pub fn count_unused(table: &[u32], limit: usize) -> Unused
-    ensures { λ r. ⌜ (r .free ≡ freeWords (λ c. ltb c limit) (now (table .entry))) × (r .held ≡ heldWords (λ c. ltb c limit) (now (table .entry))) ⌝ }
+// Free: the top bit of the table word is clear, and the cluster may be taken: it lies below the limit, in no listed block.
+// Held back: it is clear, and the cluster may not be taken. Neither is a remainder. The list is gone over once for each block.
+pub fn count_unused(table: &[u32], clusters: u32, offset: u32, bad: &[u32]) -> Unused
+    ensures { λ r. ⌜ (r .free ≡ freeWords (mayTakeOn clusters (length (now (table .entry))) offset (now (bad .entry))) (now (table .entry))) × (r .held ≡ heldWords (mayTakeOn clusters (length (now (table .entry))) offset (now (bad .entry))) (now (table .entry))) ⌝ }
 {
+    let limit = take_limit(clusters, table.len());
+    let mut block = offset as usize / BLOCK_CLUSTERS;
+    let mut listed = is_listed(bad, block);
     let mut free: usize = 0;
     let mut held: usize = 0;
     let mut i: usize = 0;
     while i < table.len() {
-        if (i < limit) & (table[i] < TOP_BIT) {
+        let here = (offset as usize + i) / BLOCK_CLUSTERS;
+        if here != block {
+            block = here;
+            listed = is_listed(bad, here);
+        }
+        let takeable = (i < limit) & !listed;
+        if takeable & (table[i] < TOP_BIT) {
             free += 1;
         }
-        if (limit <= i) & (table[i] < TOP_BIT) {
+        if !takeable & (table[i] < TOP_BIT) {
             held += 1;
         }
         i += 1;

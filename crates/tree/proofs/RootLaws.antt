@@ -24,8 +24,8 @@ use Rattle.reached.specs.Marks.{Sound, marksOf, noMarks}
 use Rattle.reached.specs.Table.{tableLinks}
 use Rattle.reached.specs.declared.Chain.{Chain}
 use Rattle.reached.specs.declared.Reached.{Reached}
-use Rattle.tree.specs.declared.walk.Verdict.{Verdict}
-use Rattle.tree.specs.declared.walk.Verdict.the-variants as verdict
+use Rattle.layout.specs.declared.Verdict.{Verdict}
+use Rattle.layout.specs.declared.Verdict.the-variants as verdict
 use Rattle.tree.specs.Slots.{nextOf, slotPages}
 use Rattle.tree.specs.Walk.{Passes, Tells, insideOf, marksOnly, rootMarks}
 use Rattle.tree.proofs.ChainPages.{directory-pages, follow-chain}

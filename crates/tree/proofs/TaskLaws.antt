@@ -21,8 +21,8 @@ use Rattle.reached.specs.declared.Chain.{Chain}
 use Rattle.reached.specs.declared.Reached.{Reached}
 use Rattle.tree.specs.declared.walk.Look.{Look}
 use Rattle.tree.specs.declared.walk.Look.the-variants as look
-use Rattle.tree.specs.declared.walk.Verdict.{Verdict}
-use Rattle.tree.specs.declared.walk.Verdict.the-variants as verdict
+use Rattle.layout.specs.declared.Verdict.{Verdict}
+use Rattle.layout.specs.declared.Verdict.the-variants as verdict
 use Rattle.tree.specs.Walk.{Tells, enteredLook, insideOf, soundBy, taskOf}
 use Rattle.tree.proofs.TellLaws.{directory-bad, directory-deep, directory-good, directory-sound, file-bad, file-good}
 

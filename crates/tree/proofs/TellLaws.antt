@@ -26,8 +26,8 @@ use Rattle.reached.specs.declared.Chain.{Chain}
 use Rattle.reached.specs.declared.Reached.{Reached}
 use Rattle.tree.specs.declared.walk.Look.{Look}
 use Rattle.tree.specs.declared.walk.Look.the-variants as look
-use Rattle.tree.specs.declared.walk.Verdict.{Verdict}
-use Rattle.tree.specs.declared.walk.Verdict.the-variants as verdict
+use Rattle.layout.specs.declared.Verdict.{Verdict}
+use Rattle.layout.specs.declared.Verdict.the-variants as verdict
 use Rattle.tree.specs.Slots.{clusterAt, liveBefore, liveHit, nextOf, slotPage, slotPages, clusterAfter}
 use Rattle.tree.specs.Walk.{Judges, Tells, enteredLook, insideOf, isSound, lookedAt, marksOnly, onChain}
 use Rattle.tree.proofs.SlotSteps.{deeperOf, enters, slotMarks, walk-is, walk-step}

@@ -3,14 +3,13 @@
 use Prim.Native.Nat.{ℕ, _+_}
 use mathlib.Core.List.{List}
 use mathlib.Core.Path.{_≡_}
-use lib.ListN.{length}
 use Rattle.page.specs.declared.Format.{Format}
-use Rattle.layout.specs.declared.Geometry.{Geometry}
 use Rattle.layout.specs.declared.Superblock.{Superblock}
 use Rattle.layout.specs.Refusal.{numberOf, pageOf}
 use Rattle.layout.specs.See.{checkImage, onImage, see, viewBy}
+use Rattle.layout.specs.Superblock.{mayTakeBy}
 use Rattle.model.specs.Check.{Marks, Result, andThen, checkTree, fault, ok}
-use Rattle.model.specs.Counts.{freeCount, heldCount, mayTakeOn, orphanCount, reachedCount}
+use Rattle.model.specs.Counts.{freeCount, heldCount, orphanCount, reachedCount}
 use Rattle.model.specs.Tree.{Root}
 use Rattle.model.specs.View.{View}
 use Rattle.tree.specs.declared.Checked.{Checked}
@@ -23,23 +22,23 @@ toldCounts (checked.Card counts) = ok counts
 toldCounts (checked.Refused r) = fault (numberOf r) (pageOf r)
 
 -- N, and the counts over the allocatable clusters
-abbrev pub countsIn : ℕ → ℕ → View → Root → Counts
-countsIn clusters end v root =
+abbrev pub countsIn : Superblock → View → Root → Counts
+countsIn s v root =
     record {
-      clusters = clusters;
-      free = freeCount (mayTakeOn clusters end) end v;
-      reached = reachedCount end root;
-      orphaned = orphanCount end v root;
-      held = heldCount (mayTakeOn clusters end) end v;
+      clusters = s .clusters;
+      free = freeCount (mayTakeBy s) (s .end) v;
+      reached = reachedCount (s .end) root;
+      orphaned = orphanCount (s .end) v root;
+      held = heldCount (mayTakeBy s) (s .end) v;
     }
 
 unfoldable pub checkOf : Format → List ℕ → Result Counts
-checkOf format image = andThen (checkImage format image) (λ x. ok (countsIn (x .0 .clusters) (x .0 .end) (see (x .0) image) (x .1)))
+checkOf format image = andThen (checkImage format image) (λ x. ok (countsIn (x .0) (see (x .0) image) (x .1)))
 
 -- the same of a card that is open, by its table
-unfoldable pub countsBy : ℕ → Geometry → List ℕ → List ℕ → Result Counts
-countsBy clusters geometry table image =
-    andThen (onImage geometry (checkTree (viewBy geometry table image))) (λ x. ok (countsIn clusters (length table) (viewBy geometry table image) (x .0)))
+unfoldable pub countsBy : Superblock → List ℕ → List ℕ → Result Counts
+countsBy s table image =
+    andThen (onImage (s .geometry) (checkTree (viewBy (s .geometry) table image))) (λ x. ok (countsIn s (viewBy (s .geometry) table image) (x .0)))
 
 -- the superblock of a card that passes the check
 abbrev pub superblockIn : Result (Superblock × Root × Marks) → Result Superblock

@@ -22,8 +22,8 @@ use Rattle.reached.specs.Marks.{Keeps}
 use Rattle.tree.specs.declared.walk.Look.{Look}
 use Rattle.tree.specs.declared.walk.Look.the-variants as look
 use Rattle.tree.specs.declared.walk.Task.{Task}
-use Rattle.tree.specs.declared.walk.Verdict.{Verdict}
-use Rattle.tree.specs.declared.walk.Verdict.the-variants as verdict
+use Rattle.layout.specs.declared.Verdict.{Verdict}
+use Rattle.layout.specs.declared.Verdict.the-variants as verdict
 use Rattle.tree.specs.Slots.{liveBefore, nextOf, slotPage, slotPages}
 
 -- what was reached, the tree left out

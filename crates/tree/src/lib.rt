@@ -7,13 +7,13 @@ mod walk;
 use layout::Geometry;
 use layout::Opened;
 use layout::Refusal;
+use layout::Superblock;
+use layout::Verdict;
 use layout::open_card;
 use model::MOST_CLUSTERS;
 use page::Format;
 use reached::count_orphans;
 use reached::count_unused;
-use reached::take_limit;
-use walk::Verdict;
 use walk::walk_root;
 ghost use mathlib.Core.Path.{_≡_};
 ghost use Prim.Native.Nat.{_≤_};
@@ -40,11 +40,14 @@ pub enum Checked {
     Refused(Refusal),
 }
 
-// The counts of a card by the first `end` words of its table, each by its own definition.
-fn count_card(image: &[u8], table: &[u32], end: usize, geometry: Geometry, clusters: u32) -> Checked
-    requires { ⌜ (end ≤ length (now table)) × (end ≤ mostClusters) ⌝ }
-    ensures { λ r. ⌜ toldCounts r ≡ countsBy clusters geometry (take end (now (table .entry))) (now (image .entry)) ⌝ }
+// The counts of a card by the words of its table, which come first, each by its own definition.
+fn count_card(image: &[u8], table: &[u32], s: Superblock) -> Checked
+    requires { ⌜ (s .end ≤ length (now table)) × (s .end ≤ mostClusters) ⌝ }
+    ensures { λ r. ⌜ toldCounts r ≡ countsBy s (take (s .end) (now (table .entry))) (now (image .entry)) ⌝ }
 {
+    let geometry = s.geometry;
+    let bad = s.bad;
+    let end = s.end as usize;
     let words = &table[..end];
     let walked = walk_root(image, words, geometry);
     let verdict = walked.verdict;
@@ -52,9 +55,9 @@ fn count_card(image: &[u8], table: &[u32], end: usize, geometry: Geometry, clust
     match verdict {
         Verdict::Refused(refusal) => Checked::Refused(refusal),
         Verdict::Sound => {
-            let unused = count_unused(words, take_limit(clusters, words.len()));
+            let unused = count_unused(words, s.clusters, geometry.offset, &bad);
             Checked::Card(Counts {
-                clusters: clusters,
+                clusters: s.clusters,
                 free: unused.free,
                 reached: r.count,
                 orphaned: count_orphans(words, r),
@@ -69,9 +72,10 @@ pub fn check_in(format: Format, image: &[u8], table: &mut [u32; MOST_CLUSTERS]) 
     ensures { λ r. ⌜ toldCounts r ≡ checkOf format (now (image .entry)) ⌝ }
 {
     let opened = open_card(format, image, table);
-    match opened {
-        Opened::Refused(refusal) => Checked::Refused(refusal),
-        Opened::Card(s) => count_card(image, table, s.end as usize, s.geometry, s.clusters),
+    let verdict = opened.verdict;
+    match verdict {
+        Verdict::Refused(refusal) => Checked::Refused(refusal),
+        Verdict::Sound => count_card(image, table, opened.superblock),
     }
 }
 
@@ -104,14 +108,16 @@ pub fn open_checked(format: Format, image: &[u8], room: &mut [u32; MOST_CLUSTERS
     ensures working_room { λ _. ⌜ now (room .exit) ≡ tableAfter (now (image .entry)) (openCard format (now (image .entry))) (now (room .entry)) ⌝ }
 {
     let opened = open_card(format, image, room);
-    match opened {
-        Opened::Refused(refusal) => Opened::Refused(refusal),
-        Opened::Card(s) => {
-            let verdict = judge_tree(image, room, s.end as usize, s.geometry);
-            match verdict {
-                Verdict::Refused(refusal) => Opened::Refused(refusal),
-                Verdict::Sound => Opened::Card(s),
-            }
-        }
+    let verdict = opened.verdict;
+    let s = opened.superblock;
+    match verdict {
+        Verdict::Refused(refusal) => Opened {
+            verdict: Verdict::Refused(refusal),
+            superblock: s,
+        },
+        Verdict::Sound => Opened {
+            verdict: judge_tree(image, room, s.end as usize, s.geometry),
+            superblock: s,
+        },
     }
 }

@@ -17,6 +17,7 @@ use fields::names::is_named;
 use fields::numbers::word_at;
 use layout::Geometry;
 use layout::Refusal;
+use layout::Verdict;
 use layout::image_page;
 use model::DEEPEST;
 use reached::END_MARK;
@@ -34,12 +35,6 @@ ghost use Rattle.reached.specs.Marks.{Sound, marksOf};
 ghost use Rattle.tree.specs.Met.{Grows, Knows, mostPages};
 ghost use Rattle.tree.specs.Slots.{clusterAt};
 ghost use Rattle.tree.specs.Walk.{Judges, Tells, dotIn, insideOf, isSound, lookBy, lookedIn, rootMarks, soundBy, taskBy, taskOf};
-
-// How a part of the tree is judged.
-pub(crate) enum Verdict {
-    Sound,
-    Refused(Refusal),
-}
 
 // The record of the clusters reached so far, with a verdict.
 pub(crate) struct Walked {

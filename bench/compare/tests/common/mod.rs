@@ -7,6 +7,7 @@ pub mod converts;
 pub mod lookups;
 pub mod orders;
 pub mod requests;
+pub mod room;
 
 use reader::build::random::RandomCard;
 use reader::build::scribble;

@@ -2,7 +2,7 @@
 
 use super::good::{sample, wide};
 use super::scribble::{break_page, flip};
-use super::{bad_entries, deep};
+use super::{bad_entries, bad_lists, deep};
 use super::{bench, Assembly, Layout};
 use crate::card::{LEAST_CLUSTERS, MOST_CLUSTERS};
 use crate::page::{put_half, put_word, Format};
@@ -18,11 +18,19 @@ pub struct BadCard {
 
 /// Every bad card of a format.
 pub fn all(format: Format) -> Vec<BadCard> {
-    let mut cards: Vec<BadCard> =
-        [lengths, superblocks, names, bad_entries::chains, bad_entries::entries, bad_entries::order, deep::bad]
-            .into_iter()
-            .flat_map(|cards| cards(format))
-            .collect();
+    let mut cards: Vec<BadCard> = [
+        lengths,
+        superblocks,
+        names,
+        bad_lists::bad,
+        bad_entries::chains,
+        bad_entries::entries,
+        bad_entries::order,
+        deep::bad,
+    ]
+    .into_iter()
+    .flat_map(|cards| cards(format))
+    .collect();
     match format {
         Format::Raw => cards.extend(pages()),
         // No page of a plain card is unreadable.

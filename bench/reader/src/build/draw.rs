@@ -1,6 +1,7 @@
 //! Random pieces of cards: layouts, names and entry pages.
 
 use super::Layout;
+use crate::card::NO_BLOCK;
 use crate::entry::{DIRECTORY, EXISTS, FILE};
 use crate::names;
 use crate::page::{self, Data, DATA};
@@ -23,6 +24,25 @@ pub fn random_layout(rng: &mut Rng, clusters: usize) -> Layout {
     let table = names[1..=alloc_end.div_ceil(256)].to_vec();
     let version = *rng.pick(&["1.1.0.0", "1.2.0.0"]);
     Layout { clusters, alloc_offset, alloc_end, indirect: names[0], table, backups, version }
+}
+
+/// A list of bad blocks that is accepted: one to 32 words at any places. They name up to half of the blocks without a
+/// name of superblock or table, some of them more than once; backup blocks too.
+pub fn random_list(rng: &mut Rng, layout: &Layout) -> [u32; 32] {
+    let names = || layout.table.iter().chain([&layout.indirect]).map(|name| name / 8);
+    let mut blocks: Vec<usize> = (1..layout.clusters / 8).filter(|block| names().all(|name| name != *block)).collect();
+    // On a card with a tail often those around its first cluster.
+    if layout.clusters == 8192 && rng.chance(1, 2) {
+        blocks.retain(|&block| block >= 990);
+    }
+    rng.shuffle(&mut blocks);
+    blocks.truncate(rng.between(1, blocks.len().div_ceil(2)));
+    let words = *rng.pick(&[1, 2, 4, 8, 32]);
+    let mut places: Vec<usize> = (0..32).collect();
+    rng.shuffle(&mut places);
+    let mut list = [NO_BLOCK; 32];
+    places[..words].iter().for_each(|&place| list[place] = *rng.pick(&blocks) as u32);
+    list
 }
 
 /// A page of junk.

@@ -1,12 +1,13 @@
 //! Cards that must be accepted although they look wrong, each with its counts.
 
 use super::scribble::{break_page, flip};
-use super::{bench, deep, directory, file, standard, Assembly, Layout};
+use super::{bench, deep, directory, file, listed, standard, Assembly, Layout};
 use crate::card::{END_MARK, USED};
 use crate::entry::Entry;
 use crate::page::{put_word, Format, DATA};
 use crate::tree::Counts;
 
+#[derive(Clone, Debug)]
 pub struct GoodCard {
     pub name: &'static str,
     pub format: Format,
@@ -144,5 +145,6 @@ pub fn all(format: Format) -> Vec<GoodCard> {
         cards.push(GoodCard { name: "a flip in every chunk of needed pages", format, image, counts: SAMPLE });
     }
     cards.extend(deep::good(format));
+    cards.extend(listed::good(format));
     cards
 }

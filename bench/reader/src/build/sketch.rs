@@ -70,6 +70,11 @@ impl Sketch {
         sketch
     }
 
+    /// A list of bad blocks; the tree and what is free take no notice of it.
+    pub(super) fn list(&mut self, words: &[u32]) {
+        self.card.list(words);
+    }
+
     /// Directories one below the other, as deep as they may lie or less; where room is scarce, fewer.
     fn descend(&mut self, rng: &mut Rng) {
         let depth = if rng.chance(2, 3) { DEEPEST } else { rng.between(1, DEEPEST) };
@@ -237,7 +242,6 @@ impl Sketch {
     /// The words of the clusters that no chain took: of those left in the pool some are orphaned, all others are.
     fn put_words(&mut self, rng: &mut Rng) -> Counts {
         let Layout { clusters, alloc_end: end, .. } = self.card.layout;
-        let limit = self.card.layout.limit();
         let (reached, others): (Vec<usize>, Vec<usize>) =
             (0..end).partition(|&cluster| self.card.table[cluster] & USED != 0);
         let mut counts = Counts { clusters, free: 0, reached: reached.len(), orphaned: 0, held: 0 };
@@ -255,7 +259,7 @@ impl Sketch {
                 _ => (!USED, true),
             };
             self.card.table[cluster] = word;
-            *(match (is_free, cluster < limit) {
+            *(match (is_free, self.card.is_open(cluster)) {
                 (false, _) => &mut counts.orphaned,
                 (true, true) => &mut counts.free,
                 (true, false) => &mut counts.held,

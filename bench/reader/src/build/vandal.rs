@@ -3,7 +3,7 @@
 use super::draw::random_name;
 use super::random::random;
 use super::{directory, scribble};
-use crate::card::{END_MARK, USED};
+use crate::card::{BAD_BLOCKS, BAD_BLOCK_WORDS, END_MARK, USED};
 use crate::content::visit;
 use crate::entry::{DIRECTORY, FILE};
 use crate::page::{self, put_half, put_word, word, Data, Format, DATA};
@@ -27,9 +27,9 @@ pub fn vandalised(format: Format, seed: u64) -> Vec<u8> {
     let (end, indirect) = (card.layout.alloc_end, card.layout.indirect);
 
     for _ in 0..rng.between(1, 3) {
-        match rng.below(40) {
+        match rng.below(42) {
             0 => image.truncate(rng.below(image.len())),
-            1..=2 => alter(format, &mut image, 0, |data| superblock_fault(&mut rng, data)),
+            1..=2 | 40 => alter(format, &mut image, 0, |data| superblock_fault(&mut rng, data)),
             3..=4 => {
                 let name = rng.below(card.layout.table.len());
                 let value = *rng.pick(&[0, indirect as u32, 1, 2, END_MARK, card.layout.alloc_offset as u32]);
@@ -46,6 +46,12 @@ pub fn vandalised(format: Format, seed: u64) -> Vec<u8> {
             15..=34 => alter(format, &mut image, *rng.pick(&entries), |data| entry_fault(&mut rng, data, end)),
             35..=36 => scribble::ruin(format, &mut image, *rng.pick(&tables), rng.below(4), &mut rng),
             37 => scribble::ruin(format, &mut image, 2 * indirect + rng.below(2), rng.below(4), &mut rng),
+            38 => {
+                let name = *rng.pick(&card.layout.table);
+                let block = *rng.pick(&[0, 1, indirect / 8, name / 8, card.layout.clusters / 8]) as u32;
+                let at = BAD_BLOCKS + 4 * rng.below(BAD_BLOCK_WORDS);
+                alter(format, &mut image, 0, |data| put_word(data, at, block));
+            }
             _ => scribble::ruin(format, &mut image, *rng.pick(&entries), rng.below(4), &mut rng),
         }
         if image.len() < card.layout.clusters * format.cluster_bytes() {
@@ -95,7 +101,7 @@ fn alter(format: Format, image: &mut [u8], page: usize, change: impl FnOnce(&mut
 }
 
 fn superblock_fault(rng: &mut Rng, data: &mut Data) {
-    let at = *rng.pick(&[0x00, 0x18, 0x1C, 0x24, 0x28, 0x2C, 0x30, 0x34, 0x38, 0x3C, 0x40, 0x44, 0x50]);
+    let at = *rng.pick(&[0x00, 0x0C, 0x18, 0x1C, 0x24, 0x28, 0x2C, 0x30, 0x34, 0x38, 0x3C, 0x40, 0x44, 0x50, 0xD0]);
     let value = match rng.below(4) {
         0 => rng.draw() as u32,
         1 => word(data, at) ^ 1 << rng.below(32),

@@ -70,7 +70,7 @@ returns-5 c =
     let page = read-some (pageAt (c .before .before .before .before .before .before .before .before .before .before .before .before .before .before .before .before .args .format) (now (c .before .before .before .before .before .before .before .before .before .before .before .before .before .before .before .before .args .image)) 0) (c .before .before .before .before .before .before .before .before .before .before .before .read-page .ensures) (not-false _ (c .before .before .before .before .before .before .before .before .before .before .if2 .left)) in
     let text = sym (c .before .before .before .before .before .before .before .before .good-text .ensures) ∙ not-false _ (c .before .before .before .before .before .before .before .if3 .left) in
     let rules = rw (c .before .before .before .before .before .before .clusters-in .ensures) at (sym (c .before .before .before .before .good-superblock .ensures) ∙ not-false _ (c .before .before .before .if4 .left)) in
-    c .judge-table .ensures ∙ rw (c .before .superblock-of .ensures, size, page, text, rules)
+    rw (c .before .superblock-of .ensures) at (c .judge-table .ensures) ∙ rw (size, page, text, rules)
 
 pub judge-card-spec : {M : Type 1} → statement M
 judge-card-spec =

@@ -1,7 +1,8 @@
 -- `list_card` writes the counts, and then the entries of the card that is open; it cannot be refused there.
 use mathlib.Core.Path.{_∙_, ap, sym}
 use native.Mathlib.Omega.{arith}
-use Rattle.layout.specs.Table.{toldOpened}
+use Rattle.layout.specs.declared.Verdict.{Verdict}
+use Rattle.layout.specs.Table.{told}
 use Rattle.lookup.proofs.CardLaws.{accepted, words-fit, words-hold}
 use Rattle.listing.proofs.EmitLaws.{wrote-append, wrote-as}
 use Rattle.listing.proofs.ListingLaws.{listing-card, opens, passes}
@@ -18,37 +19,39 @@ open-card-requires c κs = search needs
 enum-told : tie.Need-enum-told
 enum-told c = search needs
 
-enum-known-opened : tie.Need-enum-known-opened
-enum-known-opened c = search needs
+enum-told-2 : tie.Need-enum-told-2
+enum-told-2 c = search needs
 
 cast-list-words : tie.Need-cast-list-words
 cast-list-words c = search needs
 
 list-words-requires : tie.Need-list-words-requires
 list-words-requires c κs =
-    let format = c .before .before .before .before .before .before .before .before .before .before .before .before .before .before .before .args .format in
-    let image = c .before .before .before .before .before .before .before .before .before .before .before .before .before .before .before .args .image .now in
-    let s = c .before .before .before .before .before .opened .given .0 .0 in
-    words-fit format image s (passes format image (c .before .before .before .before .before .before .before .before .before .before .before .before .before .before .before .args .counts) (c .before .before .before .before .before .before .before .before .before .before .before .before .before .before .before .pre) s (sym (ap toldOpened (c .before .before .before .before .before .opened .given .1)) ∙ c .before .before .before .before .before .before .before .open-card .ensures .0)) _ _ (c .before .before .before .before .before .before .before .open-card .ensures .1)
+    let a = c .before .before .before .before .before .before .before .before .before .before .before .before .before .before .before .args in
+    let s = c .before .before .before .before .before .before .before .open-card .result .superblock in
+    let opened = sym (ap (λ (v : Verdict). told v s) (c .before .before .before .before .before .enum-told2 .given .1)) ∙ c .before .before .before .before .before .before .before .open-card .ensures .0 in
+    words-fit (a .format) (a .image .now) s (passes (a .format) (a .image .now) (a .counts) (c .before .before .before .before .before .before .before .before .before .before .before .before .before .before .before .pre) s opened) _ _ (c .before .before .before .before .before .before .before .open-card .ensures .1)
 
 same-length : tie.Need-same-length
 same-length c = search needs
 
 returns : tie.Need-returns
 returns c =
-    opens (c .before .before .before .before .before .before .before .before .before .before .args .format) (c .before .before .before .before .before .before .before .before .before .before .args .image .now) (c .before .before .before .before .before .before .before .before .before .before .args .counts) (c .before .before .before .before .before .before .before .before .before .before .pre) _ _ (sym (ap toldOpened (c .enum-told .given .1)) ∙ c .before .before .open-card .ensures .0)
+    let a = c .before .before .before .before .before .before .before .before .before .before .args in
+    opens (a .format) (a .image .now) (a .counts) (c .before .before .before .before .before .before .before .before .before .before .pre) _ _ (sym (ap (λ (v : Verdict). told v (c .before .before .open-card .result .superblock)) (c .enum-told .given .1)) ∙ c .before .before .open-card .ensures .0)
 
 same-length-2 : tie.Need-same-length-2
 same-length-2 c = search needs
 
 returns-2 : tie.Need-returns-2
 returns-2 c =
-    let format = c .before .before .before .before .before .before .before .before .before .before .before .before .before .before .before .before .before .before .args .format in
-    let image = c .before .before .before .before .before .before .before .before .before .before .before .before .before .before .before .before .before .before .args .image .now in
-    let s = c .before .before .before .before .before .before .before .before .opened .given .0 .0 in
-    let opened = sym (ap toldOpened (c .before .before .before .before .before .before .before .before .opened .given .1)) ∙ c .before .before .before .before .before .before .before .before .before .before .open-card .ensures .0 in
-    let passed = passes format image (c .before .before .before .before .before .before .before .before .before .before .before .before .before .before .before .before .before .before .args .counts) (c .before .before .before .before .before .before .before .before .before .before .before .before .before .before .before .before .before .before .pre) s opened in
-    wrote-as (listing-card format image (c .before .before .before .before .before .before .before .before .before .before .before .before .before .before .before .before .before .before .args .counts) (c .before .before .before .before .before .before .before .before .before .before .before .before .before .before .before .before .before .before .pre) s opened)
+    let a = c .before .before .before .before .before .before .before .before .before .before .before .before .before .before .before .before .before .before .args in
+    let format = a .format in
+    let image = a .image .now in
+    let s = c .before .before .before .before .before .before .before .before .before .before .open-card .result .superblock in
+    let opened = sym (ap (λ (v : Verdict). told v s) (c .before .before .before .before .before .before .before .before .enum-told2 .given .1)) ∙ c .before .before .before .before .before .before .before .before .before .before .open-card .ensures .0 in
+    let passed = passes format image (a .counts) (c .before .before .before .before .before .before .before .before .before .before .before .before .before .before .before .before .before .before .pre) s opened in
+    wrote-as (listing-card format image (a .counts) (c .before .before .before .before .before .before .before .before .before .before .before .before .before .before .before .before .before .before .pre) s opened)
     (wrote-append (omega (arith, c .before .before .before .before .before .before .before .before .before .before .before .before .before .before .before .before .before .before .good .1 .1 .1 .1 .0)) (c .before .before .before .before .before .before .before .before .before .before .before .before .before .before .put-counts .ensures) (c .before .before .list-words .ensures ((accepted format image s passed) .root) (words-hold format image s passed _ _ (c .before .before .before .before .before .before .before .before .before .before .open-card .ensures .1))))
 
 pub list-card-spec : {M : Type 1} → statement M
@@ -58,7 +61,7 @@ list-card-spec =
     put-counts-requires
     open-card-requires
     enum-told
-    enum-known-opened
+    enum-told-2
     cast-list-words
     list-words-requires
     same-length

@@ -8,13 +8,16 @@ use borrow.Author.Needs.{needs}
 use Rattle.tree.proofs.count_card.Statement.{statement}
 use Rattle.tree.proofs.count_card.Tie as tie
 
+cast-end : tie.Need-cast-end
+cast-end c = search needs
+
 slice-aggregate-words : tie.Need-slice-aggregate-words
 slice-aggregate-words c =
-    sym (length-take-le (c .before .before .before .args .end) (c .before .before .before .args .table .now) (c .before .before .before .pre .0))
+    sym (length-take-le (c .before .before .before .before .before .before .args .s .end) (c .before .before .before .before .before .before .args .table .now) (c .before .before .before .before .before .before .pre .0))
 
 walk-root-requires : tie.Need-walk-root-requires
 walk-root-requires c κs =
-    omega (arith, length-take-le (c .before .before .before .args .end) (c .before .before .before .args .table .now) (c .before .before .before .pre .0), c .before .before .before .pre .1)
+    omega (arith, length-take-le (c .before .before .before .before .before .before .args .s .end) (c .before .before .before .before .before .before .args .table .now) (c .before .before .before .before .before .before .pre .0), c .before .before .before .before .before .before .pre .1)
 
 enum-known-verdict : tie.Need-enum-known-verdict
 enum-known-verdict c = search needs
@@ -22,8 +25,8 @@ enum-known-verdict c = search needs
 enum-told : tie.Need-enum-told
 enum-told c = search needs
 
-take-limit-requires : tie.Need-take-limit-requires
-take-limit-requires c κs = search needs
+slice-aggregate-count-unused : tie.Need-slice-aggregate-count-unused
+slice-aggregate-count-unused c = search needs
 
 count-unused-requires : tie.Need-count-unused-requires
 count-unused-requires c κs = search needs
@@ -33,32 +36,25 @@ count-orphans-requires c κs = search needs
 
 returns : tie.Need-returns
 returns c =
-    let refused = c .before in
-    let walked = refused .before .before .before in
-    let start = walked .before .before .before .before in
-    counted-bad (start .args .clusters) (start .args .geometry) (take (start .args .end) (start .args .table .now)) (start .args .image .now)
-    (walked .walk-root .result .reached) (refused .verdict .given .0 .0) (rw (refused .verdict .given .1) at (walked .walk-root .ensures))
+    let a = c .before .before .before .before .before .before .before .before .before .before .before .args in
+    counted-bad (a .s) (take (a .s .end) (a .table .now)) (a .image .now) (c .before .before .before .before .walk-root .result .reached) (c .before .verdict .given .0 .0) (rw (c .before .verdict .given .1) at (c .before .before .before .before .walk-root .ensures))
 
 returns-2 : tie.Need-returns-2
 returns-2 c =
-    let unused = c .before in
-    let limited = unused .before in
-    let told = limited .before in
-    let walked = told .before .before .before in
-    let start = walked .before .before .before .before in
-    counted-good (start .args .clusters) (start .args .geometry) (take (start .args .end) (start .args .table .now)) (start .args .image .now)
-    (walked .walk-root .result .reached) (limited .take-limit .result) (unused .count-unused .result .free) (c .count-orphans .result) (unused .count-unused .result .held)
-    (rw (told .enum-told .given .1) at (walked .walk-root .ensures)) (limited .take-limit .ensures) (unused .count-unused .ensures .0) (c .count-orphans .ensures) (unused .count-unused .ensures .1)
+    let a = c .before .before .before .before .before .before .before .before .before .before .before .before .before .args in
+    counted-good (a .s) (take (a .s .end) (a .table .now)) (a .image .now) (c .before .before .before .before .before .before .walk-root .result .reached) (c .before .count-unused .result .free) (c .count-orphans .result) (c .before .count-unused .result .held)
+    (length-take-le (a .s .end) (a .table .now) (c .before .before .before .before .before .before .before .before .before .before .before .before .before .pre .0)) (rw (c .before .before .before .enum-told .given .1) at (c .before .before .before .before .before .before .walk-root .ensures)) (c .before .count-unused .ensures .0) (c .count-orphans .ensures) (c .before .count-unused .ensures .1)
 
 pub count-card-spec : {M : Type 1} → statement M
 count-card-spec =
     tie.close
     (tie.spec
+    cast-end
     slice-aggregate-words
     walk-root-requires
     enum-known-verdict
     enum-told
-    take-limit-requires
+    slice-aggregate-count-unused
     count-unused-requires
     count-orphans-requires
     returns

@@ -11,20 +11,24 @@ use Rattle.page.proofs.Puts.{read-some, read-none}
 use denote.Ref.{now}
 use Rattle.model.specs.Bytes.{word}
 use Rattle.model.specs.Check.{ok}
-use Rattle.layout.specs.Table.{upTo, tableNames}
+use Rattle.layout.specs.declared.Superblock.{Superblock}
+use Rattle.layout.specs.Superblock.{upTo}
+use Rattle.layout.specs.Table.{tableNames}
 use Rattle.layout.proofs.UpTo.{length-upTo}
 use Rattle.layout.proofs.TablePages.{pagesFrom, pages-stop, pages-more, pages-done}
 use Rattle.layout.proofs.table.judge_pages.Statement.{statement}
 use Rattle.layout.proofs.table.judge_pages.Tie as tie
 
 abbrev Inv-loop : tie.InvT-loop
-Inv-loop image first second count s format page₀ t₀ page t = (t ≤ 2 * count) × (pagesFrom (s .geometry .format) image (tableNames (first ++ second) count) (ok s) 0 ≡ pagesFrom (s .geometry .format) image (tableNames (first ++ second) count) (ok s) t)
+Inv-loop format image first second count page₀ t₀ page t =
+    (t ≤ 2 * count)
+    × ((s : Superblock) → pagesFrom format image (tableNames (first ++ second) count) (ok s) 0 ≡ pagesFrom format image (tableNames (first ++ second) count) (ok s) t)
 
 abbrev μ-loop : tie.MeasureT-loop
-μ-loop image first second count s format page₀ t₀ page t = 2 * count - t
+μ-loop format image first second count page₀ t₀ page t = 2 * count - t
 
 loop-holds : tie.Need-loop-holds Inv-loop μ-loop
-loop-holds c = (omega arith, refl)
+loop-holds c = (omega arith, λ s. refl)
 
 mul-loop : tie.Need-mul-loop Inv-loop μ-loop
 mul-loop c = omega arith
@@ -37,11 +41,11 @@ read-page-requires c κs = search needs
 
 returns : tie.Need-returns Inv-loop μ-loop
 returns c =
-    let a = c .before .before .before .before .before .before .before .before .args in
+    let a = c .before .before .before .before .before .before .before .args in
     let f : ℕ → ℕ = λ i. word (now (a .first) ++ now (a .second)) (4 * i) in
     let inside : c .before .before .before .before .before .loop .t < 2 * length (upTo f (a .count)) = omega (arith, length-upTo f (a .count)) in
-    let gone = read-none (pageAt (a .s .geometry .format) (now (a .image)) (c .before .before .before .table-page .result)) (c .before .read-page .ensures) (not-true _ (c .if1 .taken)) in
-    sym (c .before .before .before .before .before .loop .inv .1 ∙ pages-stop (a .s .geometry .format) (now (a .image)) (upTo f (a .count)) (ok (a .s)) (c .before .before .before .before .before .loop .t) inside (rw (c .before .before .before .table-page .ensures) at gone) ∙ rw (c .before .before .before .table-page .ensures))
+    let gone = read-none (pageAt (a .format) (now (a .image)) (c .before .before .before .table-page .result)) (c .before .read-page .ensures) (not-true _ (c .if1 .taken)) in
+    λ s. sym (c .before .before .before .before .before .loop .inv .1 s ∙ pages-stop (a .format) (now (a .image)) (upTo f (a .count)) (ok s) (c .before .before .before .before .before .loop .t) inside (rw (c .before .before .before .table-page .ensures) at gone) ∙ rw (c .before .before .before .table-page .ensures))
 
 add-t : tie.Need-add-t Inv-loop μ-loop
 add-t c = omega arith
@@ -51,17 +55,17 @@ loop-less c = omega arith
 
 loop-again : tie.Need-loop-again Inv-loop μ-loop
 loop-again c =
-    let a = c .before .before .before .before .before .before .before .before .args in
+    let a = c .before .before .before .before .before .before .before .args in
     let f : ℕ → ℕ = λ i. word (now (a .first) ++ now (a .second)) (4 * i) in
     let inside : c .before .before .before .before .before .loop .t < 2 * length (upTo f (a .count)) = omega (arith, length-upTo f (a .count)) in
-    let there = read-some (pageAt (a .s .geometry .format) (now (a .image)) (c .before .before .before .table-page .result)) (c .before .read-page .ensures) (not-false _ (c .if1 .left)) in
-    (omega arith, c .before .before .before .before .before .loop .inv .1 ∙ pages-more (a .s .geometry .format) (now (a .image)) (upTo f (a .count)) (ok (a .s)) (c .before .before .before .before .before .loop .t) inside (rw (c .before .before .before .table-page .ensures) at there))
+    let there = read-some (pageAt (a .format) (now (a .image)) (c .before .before .before .table-page .result)) (c .before .read-page .ensures) (not-false _ (c .if1 .left)) in
+    (omega arith, λ s. c .before .before .before .before .before .loop .inv .1 s ∙ pages-more (a .format) (now (a .image)) (upTo f (a .count)) (ok s) (c .before .before .before .before .before .loop .t) inside (rw (c .before .before .before .table-page .ensures) at there))
 
 returns-2 : tie.Need-returns-2 Inv-loop μ-loop
 returns-2 c =
-    let a = c .before .before .before .before .args in
+    let a = c .before .before .before .args in
     let names = tableNames (now (a .first) ++ now (a .second)) (a .count) in
-    sym (c .before .loop .inv .1 ∙ pages-done (a .s .geometry .format) (now (a .image)) names (ok (a .s)) (c .before .loop .t) (omega (arith, length-upTo (λ i. word (now (a .first) ++ now (a .second)) (4 * i)) (a .count))))
+    λ s. sym (c .before .loop .inv .1 s ∙ pages-done (a .format) (now (a .image)) names (ok s) (c .before .loop .t) (omega (arith, length-upTo (λ i. word (now (a .first) ++ now (a .second)) (4 * i)) (a .count))))
 
 pub judge-pages-spec : {M : Type 1} → statement M
 judge-pages-spec =

@@ -8,7 +8,8 @@ use denote.Ref.{now}
 use lib.ListN.{drop}
 use Rattle.page.specs.Page.{pageAt, isSome}
 use Rattle.layout.specs.declared.Superblock.{Superblock}
-use Rattle.layout.specs.Table.{upTo, tableClusters, tableNames, dataOf, tablePage, tableWord, tableOf}
+use Rattle.layout.specs.Superblock.{upTo}
+use Rattle.layout.specs.Table.{tableClusters, tableNames, dataOf, tablePage, tableWord, tableOf}
 use Rattle.layout.proofs.Stages.{read-data}
 use Rattle.layout.proofs.OpenFacts.{OpenFacts, open-facts}
 use borrow.Author.Needs.{needs}

@@ -56,8 +56,8 @@ returns-3 c =
 
 returns-4 : tie.Need-returns-4
 returns-4 c =
-    let a = c .before .before .before .before .before .before .before .before .before .before .before .before .args in
-    way-at (viewBy (a .card .geometry) (a .table .now) (a .image .now)) (a .card) (a .path .now) (c .before .before .arrival .given .0 .0) (c .before .before .before .before .descend .result .page) (λ root holds. call-at (standsThere (a .card)) root (a .path .now) (viewBy (a .card .geometry) (a .table .now) (a .image .now)) holds _ _ (c .before .before .before .before .before .before .before .before .parse-path .ensures) (c .before .before .before .before .before .before .parsed .given .1) _ _ _ (leads (a .card .geometry) (a .table .now) (a .image .now) (a .path .now) _ _ (c .before .before .before .before .descend .ensures)) (c .before .before .arrival .given .1))
+    let a = c .before .before .before .before .before .before .before .before .before .before .before .before .before .args in
+    way-at (viewBy (a .card .geometry) (a .table .now) (a .image .now)) (a .card) (a .path .now) (c .before .before .before .arrival .given .0 .0) (c .before .before .before .before .before .descend .result .page) (λ root holds. call-at (standsThere (a .card)) root (a .path .now) (viewBy (a .card .geometry) (a .table .now) (a .image .now)) holds _ _ (c .before .before .before .before .before .before .before .before .before .parse-path .ensures) (c .before .before .before .before .before .before .before .parsed .given .1) _ _ _ (leads (a .card .geometry) (a .table .now) (a .image .now) (a .path .now) _ _ (c .before .before .before .before .before .descend .ensures)) (c .before .before .before .arrival .given .1))
 
 pub stand-card-spec : {M : Type 1} → statement M
 stand-card-spec =

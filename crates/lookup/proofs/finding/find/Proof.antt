@@ -27,14 +27,14 @@ returns c =
     let a = c .before .before .before .before .before .before .before .before .args in
     let way = c .before .before .before .before in
     let told = c .before .before in
-    find-refused _ (told .standing .given .0 .0) _ (ask-refused (λ s. foundEntry) (a .format) _ (a .image .now) (a .path .now) (way .stand .result) (way .stand .ensures .0) (told .standing .given .0 .0) (told .standing .given .1)) (c .no-entry .ensures)
+    find-refused _ (told .standing .given .0 .0) _ (ask-refused (λ geometry. foundEntry) (a .format) _ (a .image .now) (a .path .now) (way .stand .result) (way .stand .ensures .0) (told .standing .given .0 .0) (told .standing .given .1)) (c .no-entry .ensures)
 
 returns-2 : tie.Need-returns-2
 returns-2 c =
     let a = c .before .before .before .before .before .before .before .before .before .args in
     let way = c .before .before .before .before .before in
     let told = c .before .before .before in
-    find-at _ _ _ (entryOf (way .stand .result .page)) _ (ask-at (λ s. foundEntry) (a .format) _ (a .image .now) (a .path .now) (way .stand .result) (way .stand .ensures .0) (told .enum-told .given .0 .0) (told .enum-told .given .0 .1 .0) (told .enum-told .given .1)) (c .entry-of .ensures)
+    find-at _ _ _ (entryOf (way .stand .result .page)) _ (ask-at (λ geometry. foundEntry) (a .format) _ (a .image .now) (a .path .now) (way .stand .result) (way .stand .ensures .0) (told .enum-told .given .0 .0) (told .enum-told .given .0 .1 .0) (told .enum-told .given .0 .1 .1 .0) (told .enum-told .given .1)) (c .entry-of .ensures)
 
 pub find-spec : {M : Type 1} → statement M
 find-spec =

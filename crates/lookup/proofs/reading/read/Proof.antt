@@ -32,26 +32,26 @@ cast-read-words c = search needs
 
 read-words-requires : tie.Need-read-words-requires
 read-words-requires c κs =
-    let way = c .before .before .before .before .before .before .before .before in
-    let told = c .before .before .before .before .before .before in
-    omega (arith, room-length (c .before .before .before .before .before .before .before .before .before .before .before .before .before .args .format) (c .before .before .before .before .before .before .before .before .before .before .before .before .before .args .image .now) _ _ (way .stand .ensures .1 .0) (length-replicate {A = ℕ} mostClusters 0), fits-at (way .stand .result .standing) (told .standing2 .given .0 .0) (told .standing2 .given .0 .1 .0) (way .stand .ensures .1 .1) (told .standing2 .given .1))
+    let way = c .before .before .before .before .before .before .before in
+    let told = c .before .before .before .before .before in
+    omega (arith, room-length (c .before .before .before .before .before .before .before .before .before .before .before .before .args .format) (c .before .before .before .before .before .before .before .before .before .before .before .before .args .image .now) _ _ (way .stand .ensures .1 .0) (length-replicate {A = ℕ} mostClusters 0), fits-at (way .stand .result .standing) (told .standing2 .given .0 .0) (told .standing2 .given .0 .1 .0) (told .standing2 .given .0 .1 .1 .0) (way .stand .ensures .1 .1) (told .standing2 .given .1))
 
 returns : tie.Need-returns
 returns c =
     let a = c .before .before .before .before .before .before .before .before .args in
     let way = c .before .before .before in
     let told = c .before in
-    read-unopened _ (told .standing .given .0 .0) _ (read-so (a .format) (a .image .now) (a .path .now) (a .from) (length (a .out .now)) ∙ ask-refused (λ s h t. onImage (s .geometry) (readFrom (a .from) (length (a .out .now)) h t)) (a .format) _ (a .image .now) (a .path .now) (way .stand .result) (way .stand .ensures .0) (told .standing .given .0 .0) (told .standing .given .1))
+    read-unopened _ (told .standing .given .0 .0) _ (read-so (a .format) (a .image .now) (a .path .now) (a .from) (length (a .out .now)) ∙ ask-refused (λ geometry h t. onImage geometry (readFrom (a .from) (length (a .out .now)) h t)) (a .format) _ (a .image .now) (a .path .now) (way .stand .result) (way .stand .ensures .0) (told .standing .given .0 .0) (told .standing .given .1))
 
 same-length : tie.Need-same-length
 same-length c = search needs
 
 returns-2 : tie.Need-returns-2
 returns-2 c =
-    let a = c .before .before .before .before .before .before .before .before .before .before .before .before .before .before .before .before .args in
-    let way = c .before .before .before .before .before .before .before .before .before .before .before in
-    let told = c .before .before .before .before .before .before .before .before .before in
-    let there = ask-at (λ s h t. onImage (s .geometry) (readFrom (a .from) (length (a .out .now)) h t)) (a .format) _ (a .image .now) (a .path .now) (way .stand .result) (way .stand .ensures .0) (told .standing2 .given .0 .0) (told .standing2 .given .0 .1 .0) (told .standing2 .given .1) in
+    let a = c .before .before .before .before .before .before .before .before .before .before .before .before .before .before .before .args in
+    let way = c .before .before .before .before .before .before .before .before .before .before in
+    let told = c .before .before .before .before .before .before .before .before in
+    let there = ask-at (λ geometry h t. onImage geometry (readFrom (a .from) (length (a .out .now)) h t)) (a .format) _ (a .image .now) (a .path .now) (way .stand .result) (way .stand .ensures .0) (told .standing2 .given .0 .0) (told .standing2 .given .0 .1 .0) (told .standing2 .given .0 .1 .1 .0) (told .standing2 .given .1) in
     read-at _ _ _ _ _ (read-so (a .format) (a .image .now) (a .path .now) (a .from) (length (a .out .now)) ∙ there .3) (c .before .before .read-words .ensures (there .0) (there .1) (there .2))
 
 pub read-spec : {M : Type 1} → statement M

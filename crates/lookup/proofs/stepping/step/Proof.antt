@@ -34,23 +34,23 @@ cast-step-words c = search needs
 
 step-words-requires : tie.Need-step-words-requires
 step-words-requires c κs =
-    let way = c .before .before .before .before .before .before .before in
-    let told = c .before .before .before .before .before in
-    omega (arith, room-length (c .before .before .before .before .before .before .before .before .before .before .before .args .format) (c .before .before .before .before .before .before .before .before .before .before .before .args .image .now) _ _ (way .stand .ensures .1 .0) (length-replicate {A = ℕ} mostClusters 0), fits-at (way .stand .result .standing) (told .standing2 .given .0 .0) (told .standing2 .given .0 .1 .0) (way .stand .ensures .1 .1) (told .standing2 .given .1))
+    let way = c .before .before .before .before .before .before in
+    let told = c .before .before .before .before in
+    omega (arith, room-length (c .before .before .before .before .before .before .before .before .before .before .args .format) (c .before .before .before .before .before .before .before .before .before .before .args .image .now) _ _ (way .stand .ensures .1 .0) (length-replicate {A = ℕ} mostClusters 0), fits-at (way .stand .result .standing) (told .standing2 .given .0 .0) (told .standing2 .given .0 .1 .0) (told .standing2 .given .0 .1 .1 .0) (way .stand .ensures .1 .1) (told .standing2 .given .1))
 
 returns : tie.Need-returns
 returns c =
     let a = c .before .before .before .before .before .before .before .before .args in
     let way = c .before .before .before .before in
     let told = c .before .before in
-    step-refused _ (told .standing .given .0 .0) _ (ask-refused (λ s. stepFrom (a .slot)) (a .format) _ (a .image .now) (a .path .now) (way .stand .result) (way .stand .ensures .0) (told .standing .given .0 .0) (told .standing .given .1)) (c .no-entry .ensures)
+    step-refused _ (told .standing .given .0 .0) _ (ask-refused (λ geometry. stepFrom (a .slot)) (a .format) _ (a .image .now) (a .path .now) (way .stand .result) (way .stand .ensures .0) (told .standing .given .0 .0) (told .standing .given .1)) (c .no-entry .ensures)
 
 returns-2 : tie.Need-returns-2
 returns-2 c =
-    let a = c .before .before .before .before .before .before .before .before .before .before .before .before .args in
-    let way = c .before .before .before .before .before .before .before .before in
-    let told = c .before .before .before .before .before .before in
-    step-at (a .slot) _ _ _ (entryOf (way .stand .result .page)) _ (ask-at (λ s. stepFrom (a .slot)) (a .format) _ (a .image .now) (a .path .now) (way .stand .result) (way .stand .ensures .0) (told .standing2 .given .0 .0) (told .standing2 .given .0 .1 .0) (told .standing2 .given .1)) (c .step-words .ensures)
+    let a = c .before .before .before .before .before .before .before .before .before .before .before .args in
+    let way = c .before .before .before .before .before .before .before in
+    let told = c .before .before .before .before .before in
+    step-at (a .slot) _ _ _ (entryOf (way .stand .result .page)) _ (ask-at (λ geometry. stepFrom (a .slot)) (a .format) _ (a .image .now) (a .path .now) (way .stand .result) (way .stand .ensures .0) (told .standing2 .given .0 .0) (told .standing2 .given .0 .1 .0) (told .standing2 .given .0 .1 .1 .0) (told .standing2 .given .1)) (c .step-words .ensures)
 
 pub step-spec : {M : Type 1} → statement M
 step-spec =
