@@ -1,33 +1,18 @@
-//! The bad block list by library and reader: which words and clusters it speaks of, what is counted, and that new
-//! clusters step over listed blocks.
+//! The bad block list by library and reader: which words and clusters it speaks of, and that new clusters step over
+//! listed blocks.
 
 mod common;
 
 use common::both::{bytes, Both};
+use common::room::all_taken;
 use common::same;
 use compare::cards::{counts_by_tree, full};
-use compare::listing;
-use reader::build::listed::{fresh_with, good, wide, with_tail};
+use reader::build::listed::{fresh_with, wide};
 use reader::build::tail::crammed;
-use reader::build::{Assembly, Layout};
+use reader::build::Layout;
 use reader::card::{END_MARK, NO_BLOCK, USED};
 use reader::page::{self, put_word};
-use reader::tree::Checked;
 use reader::{Counts, Format, Refusal};
-
-/// Every trap card: the counts that it was built for, which add up, and the listing's first lines.
-#[test]
-fn counted() {
-    for card in Format::BOTH.into_iter().flat_map(|format| [good(format), with_tail(format)].concat()) {
-        assert_eq!(same(card.format, &card.image, card.name), Ok(card.counts), "{:?}, {}", card.format, card.name);
-        let Counts { clusters, free, reached, orphaned, held } = card.counts;
-        let end = Checked::of(card.format, &card.image).expect("an accepted card").card.alloc_end;
-        assert_eq!(free + reached + orphaned + held, end, "{}", card.name);
-        let head = format!("card {clusters}\nfree {free}\nreached {reached}\norphaned {orphaned}\nheld {held}\n");
-        let text = listing::whole(card.format, &card.image);
-        assert!(text == reader::list(card.format, &card.image) && text.starts_with(&head), "{}", card.name);
-    }
-}
 
 /// Each of the 32 words counts alone on cards of both versions, whatever the others are; those on both sides don't.
 #[test]
@@ -56,22 +41,6 @@ fn places() {
             }
         }
     }
-}
-
-/// On a fresh card these clusters are free: the root grows by the first, and a file takes all others, but none more.
-fn all_taken(format: Format, card: Assembly, taken: &[usize], held: usize) {
-    let what = format!("{format:?}, {:?}", card.layout);
-    let mut both = Both::new(format, card.finish());
-    let room = |both: &Both| (both.counts().free, both.counts().held);
-    assert_eq!(room(&both), (taken.len(), held), "{what}");
-    let most = 1024 * (taken.len() - 1);
-    assert_eq!((both.create("/A", &bytes(most + 1)), both.create("/A", &bytes(most))), (12, 0), "{what}");
-    let root = Checked::of(format, &both.ours).expect("a sound card").root;
-    let chain = [&root.chain[1..], &root.inside.expect("the root").children[0].chain].concat();
-    assert_eq!((chain, room(&both)), (taken.to_vec(), (0, held)), "{what}");
-    assert_eq!((both.make_dir("/B"), both.create("/B", b"x"), both.replace("/A", b"x")), (12, 12, 12), "{what}");
-    assert_eq!((both.create("/B", b""), both.delete("/A")), (0, 0), "{what}");
-    assert_eq!(room(&both), (taken.len() - 1, held), "{what}");
 }
 
 /// A block is one of the card, not of the table: each offset moves its clusters to other table indices.
@@ -122,13 +91,7 @@ fn beside_the_tail() {
         let listed: Vec<usize> = (1..8000).filter(|&cluster| !card.is_open(cluster)).collect();
         listed.into_iter().for_each(|cluster| card.table[cluster] = 0);
         taken.iter().for_each(|&cluster| card.table[cluster] = !USED);
-        let mut both = Both::new(format, card.finish());
-        assert_eq!((both.counts().free, both.counts().held), (taken.len(), held), "{list:?}");
-        let most = 1024 * (taken.len() - 1);
-        assert_eq!((both.create("/A", &bytes(most + 1)), both.create("/A", &bytes(most))), (12, 0), "{list:?}");
-        let root = Checked::of(format, &both.ours).expect("a sound card").root;
-        let chain = [&root.chain[1..], &root.inside.expect("the root").children[0].chain].concat();
-        assert_eq!((chain, both.counts().free, both.counts().held), (taken.to_vec(), 0, held), "{list:?}");
+        all_taken(format, card, taken, held);
     }
 }
 
@@ -143,37 +106,31 @@ fn with_free(format: Format, free: &[usize]) -> Both {
     both
 }
 
-/// The chain at a path below the root by the reader.
-fn chain(both: &Both, name: &[u8]) -> Vec<usize> {
-    let root = Checked::of(both.format(), &both.ours).expect("a sound card").root;
-    root.inside.expect("the root").child(name).expect("it is there").chain.clone()
-}
-
 /// Every change that takes clusters steps over the listed blocks: growth, a directory, a file, its new bytes.
 #[test]
 fn steps_over() {
     for format in Format::BOTH {
         let mut both = with_free(format, &[1, 2, 19, 20]);
         assert_eq!((both.create("/A", &bytes(3073)), both.create("/A", &bytes(3072))), (12, 0));
-        assert_eq!((chain(&both, b"A"), both.counts().free, both.counts().held), (vec![2, 19, 20], 0, 16));
+        assert_eq!((both.chain(b"A"), both.counts().free, both.counts().held), (vec![2, 19, 20], 0, 16));
 
         let mut both = with_free(format, &[2, 19]);
-        assert_eq!((both.create("/D", &bytes(1025)), both.make_dir("/D"), chain(&both, b"D")), (12, 0, vec![19]));
+        assert_eq!((both.create("/D", &bytes(1025)), both.make_dir("/D"), both.chain(b"D")), (12, 0, vec![19]));
         // The root's odd slot is there still, but no cluster for a directory, a byte or the growth of `/D`.
         assert_eq!((both.make_dir("/E"), both.create("/E", b"x"), both.create("/D/x", b"")), (12, 12, 12));
         assert_eq!((both.create("/E", b""), both.remove_dir("/D"), both.counts().free), (0, 0, 1));
-        assert_eq!((both.create("/F", &bytes(1024)), chain(&both, b"F"), both.counts().held), (0, vec![19], 16));
+        assert_eq!((both.create("/F", &bytes(1024)), both.chain(b"F"), both.counts().held), (0, vec![19], 16));
 
         let mut both = with_free(format, &[2, 19, 20, 25]);
-        assert_eq!((both.make_dir("/D"), both.create("/D/x", b""), chain(&both, b"D")), (0, 0, vec![19, 20]));
-        assert_eq!((both.create("/D/y", b""), both.create("/D/z", b""), chain(&both, b"D")), (0, 0, vec![19, 20, 25]));
+        assert_eq!((both.make_dir("/D"), both.create("/D/x", b""), both.chain(b"D")), (0, 0, vec![19, 20]));
+        assert_eq!((both.create("/D/y", b""), both.create("/D/z", b""), both.chain(b"D")), (0, 0, vec![19, 20, 25]));
         assert_eq!((both.counts().free, both.counts().held), (0, 16));
 
         let mut both = with_free(format, &[2, 19, 20, 21]);
-        assert_eq!((both.create("/A", &bytes(9)), chain(&both, b"A")), (0, vec![19]));
+        assert_eq!((both.create("/A", &bytes(9)), both.chain(b"A")), (0, vec![19]));
         assert_eq!((both.replace("/A", &bytes(2049)), both.replace("/A", &bytes(2048))), (12, 0));
-        assert_eq!((chain(&both, b"A"), both.counts().free), (vec![20, 21], 1));
-        assert_eq!((both.replace("/A", b"x"), chain(&both, b"A"), both.counts().held), (0, vec![19], 16));
+        assert_eq!((both.chain(b"A"), both.counts().free), (vec![20, 21], 1));
+        assert_eq!((both.replace("/A", b"x"), both.chain(b"A"), both.counts().held), (0, vec![19], 16));
     }
 }
 

@@ -1,51 +1,17 @@
-//! The reserved tail by library and reader: which cards have one, what is counted there, and that new clusters lie
-//! below it, up to the last one and no further.
+//! The reserved tail by library and reader: which cards have one, and that new clusters lie below it, up to the last one
+//! and no further.
 
 mod common;
 
 use common::both::{bytes, Both};
-use common::{same, Tally};
+use common::room::all_taken;
+use common::same;
 use compare::cards::{counts_by_tree, full};
-use compare::listing;
-use reader::build::random::tight;
-use reader::build::tail::{crammed, good};
+use reader::build::tail::crammed;
 use reader::build::{fresh, standard, Layout};
 use reader::card::MOST_CLUSTERS;
 use reader::rng::Rng;
-use reader::tree::Checked;
 use reader::{Counts, Format};
-
-/// Every trap card: the counts that it was built for, and the listing's first lines.
-#[test]
-fn counted() {
-    for card in Format::BOTH.into_iter().flat_map(good) {
-        assert_eq!(same(card.format, &card.image, card.name), Ok(card.counts), "{:?}, {}", card.format, card.name);
-        let Counts { clusters, free, reached, orphaned, held } = card.counts;
-        let head = format!("card {clusters}\nfree {free}\nreached {reached}\norphaned {orphaned}\nheld {held}\n");
-        let text = listing::whole(card.format, &card.image);
-        assert!(text == reader::list(card.format, &card.image) && text.starts_with(&head), "{}", card.name);
-    }
-}
-
-/// Random trees over both sides of the limit, with orphans and free words of every kind there.
-#[test]
-fn random_cards() {
-    for format in Format::BOTH {
-        let (mut tally, mut sums, mut tails) = (Tally::default(), [0; 4], vec![]);
-        for seed in 0..30 {
-            let card = tight(format, seed);
-            let answer = tally.same(format, &card.image, || format!("tight card {seed}"));
-            assert_eq!(answer, Ok(card.counts), "{format:?}, tight card {seed}");
-            let Counts { free, reached, orphaned, held, .. } = card.counts;
-            assert_eq!(free + reached + orphaned + held, card.layout.alloc_end);
-            sums.iter_mut().zip([free, reached, orphaned, held]).for_each(|(sum, count)| *sum += count);
-            tails.push(card.layout.alloc_end - 8000);
-        }
-        tails.sort();
-        println!("{format:?}: free, reached, orphaned, held: {sums:?}; tails {} to {}", tails[0], tails[29]);
-        assert!(sums.iter().all(|&sum| sum >= 100) && tails[0] < 20 && tails[29] > 130, "{sums:?} {tails:?}");
-    }
-}
 
 /// Layouts, the index of the last cluster that is taken, and how many are held back.
 fn borders() -> [(Layout, usize, usize); 9] {
@@ -70,25 +36,8 @@ fn last_clusters() {
         Format::BOTH.into_iter().flat_map(|format| borders().into_iter().map(move |border| (format, border)))
     {
         for free in [1, 3] {
-            let what = format!("{format:?}, N {}, alloc_end {}, {free} free", layout.clusters, layout.alloc_end);
-            let card = crammed(format, layout.clone(), last + 1, free);
-            let mut both = Both::new(format, card.finish());
-            let room = |both: &Both| (both.counts().free, both.counts().held);
-            assert_eq!(room(&both), (free, held), "{what}");
-            // One of them goes to the root's growth.
-            assert_eq!(both.create("/A", &bytes(1024 * (free - 1) + 1)), 12, "{what}");
-            assert_eq!(both.create("/A", &bytes(1024 * (free - 1))), 0, "{what}");
-            assert_eq!(room(&both), (0, held), "{what}");
-            let checked = Checked::of(format, &both.ours).expect("a sound card");
-            let taken = [&checked.root.chain[1..], &checked.root.inside.expect("the root").children[0].chain].concat();
-            assert_eq!(taken, (last + 1 - free..=last).collect::<Vec<usize>>(), "{what}");
-            assert_eq!(
-                (both.make_dir("/B"), both.create("/B", b"x"), both.replace("/A", b"x")),
-                (12, 12, 12),
-                "{what}"
-            );
-            assert_eq!((both.create("/B", b""), both.delete("/A")), (0, 0), "{what}");
-            assert_eq!(room(&both), (free - 1, held), "{what}");
+            let taken: Vec<usize> = (last + 1 - free..=last).collect();
+            all_taken(format, crammed(format, layout.clone(), last + 1, free), &taken, held);
         }
     }
 }

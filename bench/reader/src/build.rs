@@ -18,6 +18,7 @@ mod sketch;
 pub mod tail;
 pub mod vandal;
 mod wear;
+pub mod withheld;
 
 use crate::card::{BAD_BLOCKS, BAD_BLOCK_WORDS, END_MARK, FORMAT, USED};
 use crate::entry::{name_field, Entry};

@@ -1,32 +1,16 @@
-//! The bad block list of document 02's request 5 in both formats: what is counted there, read there, freed there, and
-//! that nothing new is put there. What is refused stands with the other trap cards.
+//! The bad block list of document 02's request 5 in both formats: which words and blocks count, and that a card is
+//! filled beside them. What is refused stands with the other trap cards.
 
+mod common;
+
+use common::{room, TWELVE};
 use reader::build::bad_lists::scattered;
-use reader::build::listed::{counts, fresh_with, good, sample, wide, with_tail, LISTED, SPLIT};
-use reader::build::random::listed;
+use reader::build::listed::{fresh_with, wide};
 use reader::build::usual_time;
 use reader::card::NO_BLOCK;
 use reader::page::put_word;
 use reader::tree::Checked;
-use reader::{check, create, delete, find, make_dir, read, remove_dir, replace, tree, Counts, Format, Refusal};
-
-const TWELVE: Result<(), Refusal> = Err(Refusal::number(12));
-
-/// The free count and the held back one.
-fn room(format: Format, image: &[u8]) -> (usize, usize) {
-    let counts = check(format, image).unwrap();
-    (counts.free, counts.held)
-}
-
-#[test]
-fn good_cards() {
-    for card in Format::BOTH.into_iter().flat_map(|format| [good(format), with_tail(format)].concat()) {
-        assert_eq!(check(card.format, &card.image), Ok(card.counts), "{:?}, {}", card.format, card.name);
-        let Counts { free, reached, orphaned, held, .. } = card.counts;
-        let end = Checked::of(card.format, &card.image).unwrap().card.alloc_end;
-        assert_eq!(free + reached + orphaned + held, end, "{}", card.name);
-    }
-}
+use reader::{check, create, delete, Format, Refusal};
 
 /// Each of the 32 words counts alone, and the words on both sides don't.
 #[test]
@@ -62,73 +46,6 @@ fn every_block() {
                 _ => assert_eq!(answer.unwrap().held, [8, 5, 0][block.saturating_sub(124).min(2) as usize], "{block}"),
             }
         }
-    }
-}
-
-/// The counts and trees that the builder meant, on cards where free, orphaned and reached clusters lie on both sides.
-#[test]
-fn random_cards() {
-    let mut sums = [0; 4];
-    for seed in 0..200 {
-        let format = Format::BOTH[seed as usize % 2];
-        let card = listed(format, seed);
-        assert_eq!(check(format, &card.image), Ok(card.counts), "seed {seed}");
-        assert!(tree(format, &card.image).unwrap() == card.tree, "seed {seed}");
-        let checked = Checked::of(format, &card.image).unwrap();
-        let bad = checked.reached.iter().filter(|&&cluster| checked.card.is_bad(cluster)).count();
-        let sum = [card.counts.free, card.counts.held, bad, checked.reached.len() - bad];
-        sums.iter_mut().zip(sum).for_each(|(all, sum)| *all += sum);
-    }
-    println!("free, held back, reached in bad blocks, reached elsewhere: {sums:?}");
-    assert!(sums.iter().all(|&sum| sum > 500), "{sums:?}");
-}
-
-#[test]
-fn chains_in_bad_blocks() {
-    for format in Format::BOTH {
-        let mut image = sample(format, &[]).finish();
-        let (mut in_list, mut split) = ([0; 3000], [0; 4000]);
-        assert_eq!(read(format, &image, b"/LISTED", 0, &mut in_list), Ok(2500));
-        assert_eq!(read(format, &image, b"/SPLIT", 0, &mut split), Ok(4000));
-        assert_eq!([in_list[0], in_list[1024]], [LISTED[0], LISTED[1]].map(|cluster| (14 * (11 + cluster)) as u8));
-        assert_eq!([split[0], split[2048]], [SPLIT[0], SPLIT[2]].map(|cluster| (14 * (11 + cluster)) as u8));
-
-        // Two clusters of SPLIT are in bad blocks, all of LISTED are.
-        assert_eq!(replace(format, &mut image, b"/LISTED", &usual_time(), b"x"), TWELVE);
-        assert_eq!(delete(format, &mut image, b"/SPLIT"), Ok(()));
-        assert_eq!(room(format, &image), (2, 10));
-        assert_eq!(replace(format, &mut image, b"/LISTED", &usual_time(), &[7; 2049]), TWELVE);
-        assert_eq!(replace(format, &mut image, b"/LISTED", &usual_time(), &[7; 2048]), Ok(()));
-        assert_eq!(room(format, &image), (0, 13));
-        assert_eq!(find(format, &image, b"/LISTED").unwrap().first_cluster, 5);
-        assert_eq!(delete(format, &mut image, b"/FULL/x"), Ok(()));
-        assert_eq!(delete(format, &mut image, b"/FULL/y"), Ok(()));
-        assert_eq!(remove_dir(format, &mut image, b"/FULL"), Ok(()));
-        assert_eq!(room(format, &image), (0, 15));
-    }
-}
-
-/// Slots in bad blocks are used while no cluster is free; one more cluster is taken from elsewhere or not at all.
-#[test]
-fn slots_in_bad_blocks() {
-    let time = usual_time();
-    for format in Format::BOTH {
-        let mut image = sample(format, &[]).finish();
-        for path in [&b"/new"[..], b"/HALF/new", b"/DEAD/new"] {
-            assert_eq!(create(format, &mut image, path, &time, b"x"), TWELVE);
-            assert_eq!(make_dir(format, &mut image, path, &time), TWELVE);
-            assert_eq!(create(format, &mut image, path, &time, b""), Ok(()));
-        }
-        for path in [&b"/more"[..], b"/HALF/more", b"/DEAD/more", b"/FULL/new"] {
-            assert_eq!(create(format, &mut image, path, &time, b""), TWELVE);
-        }
-        assert_eq!(check(format, &image), Ok(counts(0)));
-
-        let mut image = sample(format, &[60]).finish();
-        assert_eq!(make_dir(format, &mut image, b"/FULL/new", &time), TWELVE);
-        assert_eq!(create(format, &mut image, b"/FULL/new", &time, b""), Ok(()));
-        assert_eq!(check(format, &image), Ok(counts(0)));
-        assert_eq!(create(format, &mut image, b"/FULL/more", &time, b""), Ok(()));
     }
 }
 

@@ -17,7 +17,7 @@ use Rattle.layout.proofs.OpenFacts.{open-facts}
 use Rattle.layout.proofs.Stages.{not-ok}
 use Rattle.model.proofs.CheckHolds.{ok-inj}
 use Rattle.model.proofs.ClaimsHold.{change-keeps, demand-3-holds}
-use Rattle.model.specs.Change.{Change, creates, path, standingAfter}
+use Rattle.model.specs.Change.{Change, path, standingAfter}
 use Rattle.model.specs.Check.{Marks, Result, andThen, fault, ok}
 use Rattle.model.specs.Claims as model
 use Rattle.model.specs.Claims.{chainBack}

@@ -9,7 +9,9 @@ use lib.ListN.{length, getD}
 use Rattle.page.specs.declared.Format.{Format}
 use Rattle.page.specs.Page.{pageAt, isSome, orKept}
 use Rattle.model.specs.Check.{Result, fault, ok}
-use Rattle.layout.specs.Table.{unless, withPage, needPages, dataOf}
+use Rattle.layout.specs.declared.Superblock.{Superblock}
+use Rattle.layout.specs.declared.Verdict.{Verdict}
+use Rattle.layout.specs.Table.{unless, withPage, needPages, told, dataOf}
 
 -- a page that is there
 abbrev pub Readable : Format → List ℕ → ℕ → Type 0
@@ -29,6 +31,10 @@ not-ok n p a e = absurd (let z : _≡_ {A = ℕ} 0 1 = cc in omega arith)
 
 pub same-ok : {A : Type 0} (a b : A) → _≡_ {A = Result A} (ok a) (ok b) → a ≡ b
 same-ok a b e = cc
+
+-- what an answer says, where its verdict is known
+pub as-told : (s : Superblock) {v w : Verdict} {card : Result Superblock} → v ≡ w → told v s ≡ card → told w s ≡ card
+as-told s known e = rw (← known) e
 
 module _ {A : Type 0} where
   pub unless-ok : (b : Bool) (n : ℕ) (rest : Result A) (a : A) → unless b n rest ≡ ok a → (b ≡ true) × (rest ≡ ok a)

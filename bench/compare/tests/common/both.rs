@@ -2,6 +2,7 @@
 
 use compare::listing;
 use reader::build::usual_time;
+use reader::tree::Checked;
 use reader::{Change, Counts, Format};
 
 use super::changes::{same_image, Changes};
@@ -61,6 +62,12 @@ impl Both {
 
     pub fn counts(&self) -> Counts {
         super::same(self.format(), &self.ours, &self.about).expect("changes leave a sound card")
+    }
+
+    /// The chain of an entry of the root by the reader.
+    pub fn chain(&self, name: &[u8]) -> Vec<usize> {
+        let root = Checked::of(self.format(), &self.ours).expect("a sound card").root;
+        root.inside.expect("the root").child(name).expect("it is there").chain.clone()
     }
 
     pub fn listed(&self) -> String {

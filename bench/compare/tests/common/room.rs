@@ -1,12 +1,13 @@
-//! Changes that nothing but room can refuse, drawn at random or by hand, and pairs of them in both orders.
+//! Changes that nothing but room can refuse, drawn at random or by hand, pairs of them in both orders, and the longest
+//! file.
 
 use reader::build::requests::random_change;
-use reader::build::usual_time;
+use reader::build::{usual_time, Assembly};
 use reader::rng::Rng;
 use reader::tree::{Checked, Node};
 use reader::{lookup, paths, time, tree, Change, Format, Tree};
 
-use super::both::bytes;
+use super::both::{bytes, Both};
 use super::orders::{are_apart, Run};
 
 /// Whether nothing but room can refuse the change.
@@ -87,4 +88,21 @@ pub fn drawn_pairs_on(format: Format, image: &[u8], cases: &[([Change; 2], usize
         assert_eq!(met(&run), expected, "{format:?}, {pair:?}");
     }
     run
+}
+
+/// On a card with an empty root these clusters are free: the root grows by the first, a file takes all others, but none
+/// more.
+pub fn all_taken(format: Format, card: Assembly, taken: &[usize], held: usize) {
+    let what = format!("{format:?}, {:?}", card.layout);
+    let mut both = Both::new(format, card.finish());
+    let room = |both: &Both| (both.counts().free, both.counts().held);
+    assert_eq!(room(&both), (taken.len(), held), "{what}");
+    let most = 1024 * (taken.len() - 1);
+    assert_eq!((both.create("/A", &bytes(most + 1)), both.create("/A", &bytes(most))), (12, 0), "{what}");
+    let root = Checked::of(format, &both.ours).expect("a sound card").root;
+    let chain = [&root.chain[1..], &root.inside.expect("the root").children[0].chain].concat();
+    assert_eq!((chain, room(&both)), (taken.to_vec(), (0, held)), "{what}");
+    assert_eq!((both.make_dir("/B"), both.create("/B", b"x"), both.replace("/A", b"x")), (12, 12, 12), "{what}");
+    assert_eq!((both.create("/B", b""), both.delete("/A")), (0, 0), "{what}");
+    assert_eq!(room(&both), (taken.len() - 1, held), "{what}");
 }

@@ -15,6 +15,15 @@ pub struct GoodCard {
     pub counts: Counts,
 }
 
+impl GoodCard {
+    /// A card by its counts: N, free, reached, orphaned, held back.
+    pub fn new(name: &'static str, counts: [usize; 5], card: Assembly) -> GoodCard {
+        let [clusters, free, reached, orphaned, held] = counts;
+        let counts = Counts { clusters, free, reached, orphaned, held };
+        GoodCard { name, format: card.format, image: card.finish(), counts }
+    }
+}
+
 /// A small tree on the bench layout, the ground for most trap cards:
 /// `/D/D2/D3/deep`, `/F` of 1,500 bytes, a dead slot 4 named `F`, an empty `/E`, one orphan.
 pub fn sample(format: Format) -> Assembly {

@@ -1,92 +1,10 @@
-//! Cards whose superblock lists bad erase blocks: what is counted, and chains, slots, orphans and free words there.
+//! Cards whose superblock lists bad erase blocks, and what is counted there.
 
 use super::good::GoodCard;
-use super::{directory, file, Assembly, Layout};
-use crate::card::{END_MARK, NO_BLOCK, USED};
-use crate::entry::Entry;
-use crate::page::{put_word, Format, CLUSTER_DATA, DATA};
-use crate::tree::Counts;
-
-/// The sample's list, with gaps, a block twice and a backup block. Its clusters are those with the table indices 0 to 4,
-/// 13 to 20, 45 to 52 and 61 to 65.
-pub const LIST: [u32; 7] = [9, NO_BLOCK, 1, 3, 3, 11, 7];
-/// The chains of the sample. The root lies in listed blocks, and its last cluster is half used.
-pub const ROOT: [usize; 5] = [0, 1, 2, 3, 13];
-pub const LISTED: [usize; 3] = [20, 61, 4];
-pub const SPLIT: [usize; 4] = [12, 14, 5, 65];
-pub const SOUND: [usize; 2] = [6, 7];
-pub const HALF: [usize; 2] = [15, 16];
-pub const DEAD: [usize; 2] = [17, 18];
-pub const FULL: [usize; 2] = [19, 62];
-/// Its orphans, and words of listed blocks that are free though they don't look so.
-pub const ORPHANS: [(usize, u32); 3] = [(8, END_MARK), (63, END_MARK), (45, USED | 5)];
-pub const FREE_WORDS: [(usize, u32); 3] = [(64, 0), (46, 5), (52, 0x7FFF_FFFE)];
-
-/// Twelve blocks; the first allocatable cluster is the fourth of block 1, the last the fifth of block 9.
-pub fn small() -> Layout {
-    Layout {
-        clusters: 96,
-        alloc_offset: 11,
-        alloc_end: 66,
-        indirect: 5,
-        table: vec![6],
-        backups: [11, 10],
-        version: "1.1.0.0",
-    }
-}
-
-/// Files wholly, partly and not in listed blocks, and directories there: `/HALF` of odd length, `/DEAD` with a dead
-/// slot, `/FULL` with no slot left. In the other blocks only the given clusters are free, the file `/REST` has the rest.
-pub fn sample(format: Format, free: &[usize]) -> Assembly {
-    let mut card = Assembly::new(format, small());
-    card.list(&LIST);
-    let own = [&ROOT[..], &SPLIT, &SOUND, &[ORPHANS[0].0]].concat();
-    let is_rest = |cluster: &usize| card.is_open(*cluster) && !own.contains(cluster) && !free.contains(cluster);
-    let rest: Vec<usize> = (0..66).filter(is_rest).collect();
-    let length = CLUSTER_DATA * rest.len() - 1;
-    let entries = [
-        file(b"LISTED", 2500, LISTED[0] as u32),
-        file(b"SPLIT", 4000, SPLIT[0] as u32),
-        file(b"SOUND", 2048, SOUND[0] as u32),
-        directory(b"HALF", 3, HALF[0] as u32),
-        directory(b"DEAD", 4, DEAD[0] as u32),
-        directory(b"FULL", 4, FULL[0] as u32),
-        file(b"REST", length as u32, rest[0] as u32),
-    ];
-    card.directory(&ROOT, 2 + entries.len() as u32);
-    for (slot, entry) in (2..).zip(&entries) {
-        card.put(ROOT[slot / 2], slot % 2, entry);
-    }
-    [&HALF[..], &DEAD, &FULL].iter().for_each(|chain| card.directory(chain, 0));
-    card.put(HALF[1], 0, &file(b"x", 0, END_MARK));
-    card.put(DEAD[1], 0, &Entry { mode: 0x0417, ..file(b"gone", 2048, 61) });
-    card.put(DEAD[1], 1, &file(b"x", 0, END_MARK));
-    card.put(FULL[1], 0, &file(b"x", 0, END_MARK));
-    card.put(FULL[1], 1, &file(b"y", 0, END_MARK));
-    card.chain(&rest);
-    for chain in [&LISTED[..], &SPLIT, &SOUND] {
-        card.chain(chain);
-        put_bytes(&mut card, chain);
-    }
-    ORPHANS.into_iter().chain(FREE_WORDS).for_each(|(cluster, word)| card.table[cluster] = word);
-    // Free words from alloc_end on are nobody's, though their clusters would lie in a listed block.
-    card.table[66..].fill(0);
-    card
-}
-
-/// Bytes that differ from page to page.
-fn put_bytes(card: &mut Assembly, chain: &[usize]) {
-    for index in 0..2 * chain.len() {
-        let page = card.page(chain[index / 2], index % 2);
-        let bytes: Vec<u8> = (0..DATA).map(|at| (7 * page + at) as u8).collect();
-        card.write(page, &bytes.try_into().expect("a page's data"));
-    }
-}
-
-/// The sample's counts: of 26 clusters in listed blocks 16 are reached and 2 orphaned; of the 40 others 1 is orphaned.
-pub const fn counts(free: usize) -> Counts {
-    Counts { clusters: 96, free, reached: 16 + 39 - free, orphaned: 3, held: 8 }
-}
+use super::withheld::LISTED;
+use super::{Assembly, Layout};
+use crate::card::NO_BLOCK;
+use crate::page::{put_word, Format};
 
 /// 64 blocks. Of the allocatable clusters block 1 holds the first three, blocks 2 to 60 eight each, block 61 the last
 /// five.
@@ -109,28 +27,21 @@ pub fn fresh_with(format: Format, layout: Layout, list: &[u32]) -> Assembly {
     card
 }
 
-/// An accepted card by its counts: N, free, reached, orphaned, held back.
-fn good_card(name: &'static str, counts: [usize; 5], card: Assembly) -> GoodCard {
-    let [clusters, free, reached, orphaned, held] = counts;
-    let counts = Counts { clusters, free, reached, orphaned, held };
-    GoodCard { name, format: card.format, image: card.finish(), counts }
-}
-
 /// Accepted cards with a list and their counts.
 pub fn good(format: Format) -> Vec<GoodCard> {
     // A fresh card has 479 free clusters.
     let card =
-        |name, held, list: &[u32]| good_card(name, [512, 479 - held, 1, 0, held], fresh_with(format, wide(), list));
+        |name, held, list: &[u32]| GoodCard::new(name, [512, 479 - held, 1, 0, held], fresh_with(format, wide(), list));
     let edited = |name, held, list: &[u32], edit: fn(&mut Assembly)| {
         let mut card = fresh_with(format, wide(), list);
         edit(&mut card);
-        good_card(name, [512, 479 - held, 1, 0, held], card)
+        GoodCard::new(name, [512, 479 - held, 1, 0, held], card)
     };
     let behind_none = |words: &[u32]| [&vec![NO_BLOCK; 32 - words.len()], words].concat();
     let thirty_two: Vec<u32> = (2..34).collect();
     let with_backups: Vec<u32> = (2..32).chain([63, 62]).collect();
     let bench = |name, free, held, list: &[u32]| {
-        good_card(name, [56, free, 1, 0, held], fresh_with(format, Layout::bench(), list))
+        GoodCard::new(name, [56, free, 1, 0, held], fresh_with(format, Layout::bench(), list))
     };
     vec![
         card("a list of nothing", 0, &[NO_BLOCK; 32]),
@@ -159,13 +70,8 @@ pub fn good(format: Format) -> Vec<GoodCard> {
         }),
         bench("the bench card, its second block of clusters bad", 21, 8, &[3]),
         bench("the bench card, all blocks bad but that of names and root", 5, 24, &[2, 3, 4, 5, 6]),
-        GoodCard { name: "the listed sample", format, image: sample(format, &[]).finish(), counts: counts(0) },
-        GoodCard {
-            name: "the listed sample, 3 free",
-            format,
-            image: sample(format, &[9, 21, 60]).finish(),
-            counts: counts(3),
-        },
+        LISTED.good(format, "the listed sample", 0),
+        LISTED.good(format, "the listed sample, 3 free", 3),
     ]
 }
 
@@ -174,7 +80,7 @@ pub fn good(format: Format) -> Vec<GoodCard> {
 pub fn with_tail(format: Format) -> Vec<GoodCard> {
     let card = |name, layout: Layout, list: &[u32], free, held| {
         let clusters = layout.clusters;
-        good_card(name, [clusters, free, 1, 0, held], fresh_with(format, layout, list))
+        GoodCard::new(name, [clusters, free, 1, 0, held], fresh_with(format, layout, list))
     };
     let standard = Layout::standard;
     // Index 8,000 is the first of block 1,005.

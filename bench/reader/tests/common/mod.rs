@@ -1,8 +1,17 @@
-//! What the models of changes share.
+//! What the tests of changes share.
+#![allow(dead_code)]
 
-use reader::page;
 use reader::tree::Checked;
-use reader::Format;
+use reader::{check, page, Format, Refusal};
+
+/// The answer where room is wanting.
+pub const TWELVE: Result<(), Refusal> = Err(Refusal::number(12));
+
+/// The free count and the held back one.
+pub fn room(format: Format, image: &[u8]) -> (usize, usize) {
+    let counts = check(format, image).unwrap();
+    (counts.free, counts.held)
+}
 
 /// For each allocatable cluster whether it may be taken: it is no part of a tail, which only a card of 8,192 clusters
 /// has, from 8,000 up, and none of the 32 words at 0xD0 of page 0 names its block.

@@ -1,8 +1,6 @@
 -- `list_card` writes the counts, and then the entries of the card that is open; it cannot be refused there.
-use mathlib.Core.Path.{_∙_, ap, sym}
 use native.Mathlib.Omega.{arith}
-use Rattle.layout.specs.declared.Verdict.{Verdict}
-use Rattle.layout.specs.Table.{told}
+use Rattle.layout.proofs.Stages.{as-told}
 use Rattle.lookup.proofs.CardLaws.{accepted, words-fit, words-hold}
 use Rattle.listing.proofs.EmitLaws.{wrote-append, wrote-as}
 use Rattle.listing.proofs.ListingLaws.{listing-card, opens, passes}
@@ -29,7 +27,7 @@ list-words-requires : tie.Need-list-words-requires
 list-words-requires c κs =
     let a = c .before .before .before .before .before .before .before .before .before .before .before .before .before .before .before .args in
     let s = c .before .before .before .before .before .before .before .open-card .result .superblock in
-    let opened = sym (ap (λ (v : Verdict). told v s) (c .before .before .before .before .before .enum-told2 .given .1)) ∙ c .before .before .before .before .before .before .before .open-card .ensures .0 in
+    let opened = as-told s (c .before .before .before .before .before .enum-told2 .given .1) (c .before .before .before .before .before .before .before .open-card .ensures .0) in
     words-fit (a .format) (a .image .now) s (passes (a .format) (a .image .now) (a .counts) (c .before .before .before .before .before .before .before .before .before .before .before .before .before .before .before .pre) s opened) _ _ (c .before .before .before .before .before .before .before .open-card .ensures .1)
 
 same-length : tie.Need-same-length
@@ -38,7 +36,7 @@ same-length c = search needs
 returns : tie.Need-returns
 returns c =
     let a = c .before .before .before .before .before .before .before .before .before .before .args in
-    opens (a .format) (a .image .now) (a .counts) (c .before .before .before .before .before .before .before .before .before .before .pre) _ _ (sym (ap (λ (v : Verdict). told v (c .before .before .open-card .result .superblock)) (c .enum-told .given .1)) ∙ c .before .before .open-card .ensures .0)
+    opens (a .format) (a .image .now) (a .counts) (c .before .before .before .before .before .before .before .before .before .before .pre) _ _ (as-told (c .before .before .open-card .result .superblock) (c .enum-told .given .1) (c .before .before .open-card .ensures .0))
 
 same-length-2 : tie.Need-same-length-2
 same-length-2 c = search needs
@@ -49,7 +47,7 @@ returns-2 c =
     let format = a .format in
     let image = a .image .now in
     let s = c .before .before .before .before .before .before .before .before .before .before .open-card .result .superblock in
-    let opened = sym (ap (λ (v : Verdict). told v s) (c .before .before .before .before .before .before .before .before .enum-told2 .given .1)) ∙ c .before .before .before .before .before .before .before .before .before .before .open-card .ensures .0 in
+    let opened = as-told s (c .before .before .before .before .before .before .before .before .enum-told2 .given .1) (c .before .before .before .before .before .before .before .before .before .before .open-card .ensures .0) in
     let passed = passes format image (a .counts) (c .before .before .before .before .before .before .before .before .before .before .before .before .before .before .before .before .before .before .pre) s opened in
     wrote-as (listing-card format image (a .counts) (c .before .before .before .before .before .before .before .before .before .before .before .before .before .before .before .before .before .before .pre) s opened)
     (wrote-append (omega (arith, c .before .before .before .before .before .before .before .before .before .before .before .before .before .before .before .before .before .before .good .1 .1 .1 .1 .0)) (c .before .before .before .before .before .before .before .before .before .before .before .before .before .before .put-counts .ensures) (c .before .before .list-words .ensures ((accepted format image s passed) .root) (words-hold format image s passed _ _ (c .before .before .before .before .before .before .before .before .before .before .open-card .ensures .1))))

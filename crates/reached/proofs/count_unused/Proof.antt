@@ -1,7 +1,6 @@
 -- The loop keeps the counts of the free clusters passed and of those held back, and of the block looked up last whether it is listed.
-use Prim.Native.Nat.{_+_, _-_, _/_, _<_, _≤_, ℕ}
-use mathlib.Core.Bool.{Bool, _&&_, false, not, true}
-use mathlib.Core.List.{List}
+use Prim.Native.Nat.{_+_, _-_, _<_, _≤_}
+use mathlib.Core.Bool.{_&&_, false, not, true}
 use mathlib.Core.Logic.{⊎-elim}
 use mathlib.Core.Path.{_∙_, _≡_, ap, refl, sym}
 use native.Mathlib.Omega.{arith}

@@ -1,7 +1,6 @@
 -- `tree::check_in` meets its contract: the card that was opened is walked and counted.
-use mathlib.Core.Path.{_∙_, ap, sym}
-use Rattle.layout.specs.declared.Verdict.{Verdict}
-use Rattle.layout.specs.Table.{told}
+use mathlib.Core.Path.{_∙_}
+use Rattle.layout.proofs.Stages.{as-told}
 use Rattle.tree.proofs.CheckLaws.{check-bad, check-card, end-fits, table-loaded, table-room}
 use borrow.Author.Needs.{needs}
 use Rattle.tree.proofs.check_in.Statement.{statement}
@@ -20,18 +19,18 @@ count-card-requires : tie.Need-count-card-requires
 count-card-requires c κs =
     let a = c .before .before .before .before .before .before .before .args in
     let s = c .before .before .before .before .open-card .result .superblock in
-    let e = sym (ap (λ (v : Verdict). told v s) (c .before .before .enum-told .given .1)) ∙ c .before .before .before .before .open-card .ensures .0 in
+    let e = as-told s (c .before .before .enum-told .given .1) (c .before .before .before .before .open-card .ensures .0) in
     (table-room (a .format) (a .image .now) s e _ _ (c .before .before .before .before .open-card .ensures .1), end-fits (a .format) (a .image .now) s e)
 
 returns : tie.Need-returns
 returns c =
-    check-bad (c .before .before .before .before .before .before .args .format) (c .before .before .before .before .before .before .args .image .now) _ _ (sym (ap (λ (v : Verdict). told v (c .before .before .before .open-card .result .superblock)) (c .before .verdict .given .1)) ∙ c .before .before .before .open-card .ensures .0)
+    check-bad (c .before .before .before .before .before .before .args .format) (c .before .before .before .before .before .before .args .image .now) _ _ (as-told (c .before .before .before .open-card .result .superblock) (c .before .verdict .given .1) (c .before .before .before .open-card .ensures .0))
 
 returns-2 : tie.Need-returns-2
 returns-2 c =
     let a = c .before .before .before .before .before .before .before .before .args in
     let s = c .before .before .before .before .before .open-card .result .superblock in
-    let e = sym (ap (λ (v : Verdict). told v s) (c .before .before .before .enum-told .given .1)) ∙ c .before .before .before .before .before .open-card .ensures .0 in
+    let e = as-told s (c .before .before .before .enum-told .given .1) (c .before .before .before .before .before .open-card .ensures .0) in
     c .count-card .ensures ∙ check-card (a .format) (a .image .now) s e _ (table-loaded (a .format) (a .image .now) s e _ _ (c .before .before .before .before .before .open-card .ensures .1))
 
 pub check-in-spec : {M : Type 1} → statement M

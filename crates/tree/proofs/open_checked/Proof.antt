@@ -1,7 +1,5 @@
 -- `tree::open_checked` meets its contract: opened, then walked.
-use mathlib.Core.Path.{_∙_, ap, sym}
-use Rattle.layout.specs.declared.Verdict.{Verdict}
-use Rattle.layout.specs.Table.{told}
+use Rattle.layout.proofs.Stages.{as-told}
 use Rattle.tree.proofs.CheckLaws.{end-fits, table-loaded, table-room, unopened, walked}
 use borrow.Author.Needs.{needs}
 use Rattle.tree.proofs.open_checked.Statement.{statement}
@@ -23,18 +21,18 @@ judge-tree-requires : tie.Need-judge-tree-requires
 judge-tree-requires c κs =
     let a = c .before .before .before .before .before .before .before .before .before .args in
     let s = c .before .before .before .before .before .before .open-card .result .superblock in
-    let e = sym (ap (λ (v : Verdict). told v s) (c .before .before .before .enum-told .given .1)) ∙ c .before .before .before .before .before .before .open-card .ensures .0 in
+    let e = as-told s (c .before .before .before .enum-told .given .1) (c .before .before .before .before .before .before .open-card .ensures .0) in
     (table-room (a .format) (a .image .now) s e _ _ (c .before .before .before .before .before .before .open-card .ensures .1), end-fits (a .format) (a .image .now) s e)
 
 returns : tie.Need-returns
 returns c =
-    (unopened (c .before .before .before .before .before .before .before .args .format) (c .before .before .before .before .before .before .before .args .image .now) _ _ (sym (ap (λ (v : Verdict). told v (c .before .before .before .before .open-card .result .superblock)) (c .before .verdict .given .1)) ∙ c .before .before .before .before .open-card .ensures .0), c .before .before .before .before .open-card .ensures .1)
+    (unopened (c .before .before .before .before .before .before .before .args .format) (c .before .before .before .before .before .before .before .args .image .now) _ _ (as-told (c .before .before .before .before .open-card .result .superblock) (c .before .verdict .given .1) (c .before .before .before .before .open-card .ensures .0)), c .before .before .before .before .open-card .ensures .1)
 
 returns-2 : tie.Need-returns-2
 returns-2 c =
     let a = c .before .before .before .before .before .before .before .before .before .before .args in
     let s = c .before .before .before .before .before .before .before .open-card .result .superblock in
-    let e = sym (ap (λ (v : Verdict). told v s) (c .before .before .before .before .enum-told .given .1)) ∙ c .before .before .before .before .before .before .before .open-card .ensures .0 in
+    let e = as-told s (c .before .before .before .before .enum-told .given .1) (c .before .before .before .before .before .before .before .open-card .ensures .0) in
     (walked (a .format) (a .image .now) s e _ (table-loaded (a .format) (a .image .now) s e _ _ (c .before .before .before .before .before .before .before .open-card .ensures .1)) (c .judge-tree .result) (c .judge-tree .ensures), c .before .before .before .before .before .before .before .open-card .ensures .1)
 
 pub open-checked-spec : {M : Type 1} → statement M

@@ -1,8 +1,7 @@
 -- What the check refuses is refused; any other card is changed, by the words of its own table.
-use mathlib.Core.Path.{_∙_, ap, sym}
+use mathlib.Core.Path.{sym}
 use lib.Seq.{length-take-le}
-use Rattle.layout.specs.declared.Verdict.{Verdict}
-use Rattle.layout.specs.Table.{told}
+use Rattle.layout.proofs.Stages.{as-told}
 use Rattle.lookup.proofs.CardLaws.{words-fit}
 use Rattle.change.specs.Changed.{pathIn}
 use Rattle.change.specs.Kinds.{changeOf}
@@ -28,19 +27,19 @@ array-borrow-prefix-table : tie.Need-array-borrow-prefix-table
 array-borrow-prefix-table c =
     let a = c .before .before .before .before .before .before .before .before .before .before .before .before .args in
     let s = c .before .before .before .before .before .open-checked .result .superblock in
-    words-fit (a .format) (a .image .now) s (sym (ap (λ (v : Verdict). told v s) (c .before .before .before .enum-told .given .1)) ∙ c .before .before .before .before .before .open-checked .ensures .0) _ _ (c .before .before .before .before .before .open-checked .ensures .1)
+    words-fit (a .format) (a .image .now) s (as-told s (c .before .before .before .enum-told .given .1) (c .before .before .before .before .before .open-checked .ensures .0)) _ _ (c .before .before .before .before .before .open-checked .ensures .1)
 
 slice-aggregate-change-card : tie.Need-slice-aggregate-change-card
 slice-aggregate-change-card c =
     let a = c .before .before .before .before .before .before .before .before .before .before .before .before .before .args in
     let s = c .before .before .before .before .before .before .open-checked .result .superblock in
-    sym (length-take-le _ _ (words-fit (a .format) (a .image .now) s (sym (ap (λ (v : Verdict). told v s) (c .before .before .before .before .enum-told .given .1)) ∙ c .before .before .before .before .before .before .open-checked .ensures .0) _ _ (c .before .before .before .before .before .before .open-checked .ensures .1)))
+    sym (length-take-le _ _ (words-fit (a .format) (a .image .now) s (as-told s (c .before .before .before .before .enum-told .given .1) (c .before .before .before .before .before .before .open-checked .ensures .0)) _ _ (c .before .before .before .before .before .before .open-checked .ensures .1)))
 
 change-card-requires : tie.Need-change-card-requires
 change-card-requires c κs =
     let a = c .before .before .before .before .before .before .before .before .before .before .before .before .before .args in
     let s = c .before .before .before .before .before .before .open-checked .result .superblock in
-    words-loaded (a .format) (a .image .now) s (sym (ap (λ (v : Verdict). told v s) (c .before .before .before .before .enum-told .given .1)) ∙ c .before .before .before .before .before .before .open-checked .ensures .0) _ _ (c .before .before .before .before .before .before .open-checked .ensures .1)
+    words-loaded (a .format) (a .image .now) s (as-told s (c .before .before .before .before .enum-told .given .1) (c .before .before .before .before .before .before .open-checked .ensures .0)) _ _ (c .before .before .before .before .before .before .open-checked .ensures .1)
 
 same-length : tie.Need-same-length
 same-length c = search needs
@@ -49,7 +48,7 @@ returns : tie.Need-returns
 returns c =
     let a = c .before .before .before .before .before .before .before .before .before .before .args in
     let s = c .before .before .before .open-checked .result .superblock in
-    leaves (check-refused (a .format) (a .image .now) _ _ (sym (ap (λ (v : Verdict). told v s) (c .before .verdict .given .1)) ∙ c .before .before .before .open-checked .ensures .0) (a .kind) (a .path .now) (a .time .now) (a .bytes .now))
+    leaves (check-refused (a .format) (a .image .now) _ _ (as-told s (c .before .verdict .given .1) (c .before .before .before .open-checked .ensures .0)) (a .kind) (a .path .now) (a .time .now) (a .bytes .now))
 
 same-length-2 : tie.Need-same-length-2
 same-length-2 c = search needs
@@ -58,7 +57,7 @@ returns-2 : tie.Need-returns-2
 returns-2 c =
     let a = c .before .before .before .before .before .before .before .before .before .before .before .before .before .before .before .before .before .args in
     let s = c .before .before .before .before .before .before .before .before .before .before .open-checked .result .superblock in
-    leaves-as (in-own-format (a .format) (a .image .now) s (sym (ap (λ (v : Verdict). told v s) (c .before .before .before .before .before .before .before .before .enum-told .given .1)) ∙ c .before .before .before .before .before .before .before .before .before .before .open-checked .ensures .0) (changeOf (a .kind) (pathIn (a .path .now)) (a .time .now) (a .bytes .now)))
+    leaves-as (in-own-format (a .format) (a .image .now) s (as-told s (c .before .before .before .before .before .before .before .before .enum-told .given .1) (c .before .before .before .before .before .before .before .before .before .before .open-checked .ensures .0)) (changeOf (a .kind) (pathIn (a .path .now)) (a .time .now) (a .bytes .now)))
     (c .before .before .before .change-card .ensures)
 
 pub change-spec : {M : Type 1} → statement M

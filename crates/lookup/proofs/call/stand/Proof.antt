@@ -1,7 +1,5 @@
 -- What the check refuses is refused; on any other card the way goes on.
-use mathlib.Core.Path.{_∙_, ap, sym}
-use Rattle.layout.specs.declared.Verdict.{Verdict}
-use Rattle.layout.specs.Table.{told}
+use Rattle.layout.proofs.Stages.{as-told}
 use Rattle.lookup.proofs.AskLaws.{stand-accepted, stand-refused}
 use Rattle.lookup.proofs.CardLaws.{words-fit}
 use borrow.Author.Needs.{needs}
@@ -24,19 +22,19 @@ stand-words-requires : tie.Need-stand-words-requires
 stand-words-requires c κs =
     let a = c .before .before .before .before .before .before .before .before .args in
     let s = c .before .before .before .before .open-checked .result .superblock in
-    words-fit (a .format) (a .image .now) s (sym (ap (λ (v : Verdict). told v s) (c .before .before .enum-told .given .1)) ∙ c .before .before .before .before .open-checked .ensures .0) _ _ (c .before .before .before .before .open-checked .ensures .1)
+    words-fit (a .format) (a .image .now) s (as-told s (c .before .before .enum-told .given .1) (c .before .before .before .before .open-checked .ensures .0)) _ _ (c .before .before .before .before .open-checked .ensures .1)
 
 returns : tie.Need-returns
 returns c =
     let a = c .before .before .before .before .before .before .before .before .args in
     let s = c .before .before .before .before .open-checked .result .superblock in
-    stand-refused (a .format) (a .image .now) (a .path .now) _ _ (c .before .before .before .before .open-checked .ensures .1) (c .refused .result) (c .before .before .verdict .given .0 .0) (c .refused .ensures) (sym (ap (λ (v : Verdict). told v s) (c .before .before .verdict .given .1)) ∙ c .before .before .before .before .open-checked .ensures .0)
+    stand-refused (a .format) (a .image .now) (a .path .now) _ _ (c .before .before .before .before .open-checked .ensures .1) (c .refused .result) (c .before .before .verdict .given .0 .0) (c .refused .ensures) (as-told s (c .before .before .verdict .given .1) (c .before .before .before .before .open-checked .ensures .0))
 
 returns-2 : tie.Need-returns-2
 returns-2 c =
     let a = c .before .before .before .before .before .before .before .before .before .args in
     let s = c .before .before .before .before .before .open-checked .result .superblock in
-    stand-accepted (a .format) (a .image .now) (a .path .now) _ _ (c .before .before .before .before .before .open-checked .ensures .1) (c .stand-words .result) s (sym (ap (λ (v : Verdict). told v s) (c .before .before .before .enum-told .given .1)) ∙ c .before .before .before .before .before .open-checked .ensures .0) (c .stand-words .ensures)
+    stand-accepted (a .format) (a .image .now) (a .path .now) _ _ (c .before .before .before .before .before .open-checked .ensures .1) (c .stand-words .result) s (as-told s (c .before .before .before .enum-told .given .1) (c .before .before .before .before .before .open-checked .ensures .0)) (c .stand-words .ensures)
 
 pub stand-spec : {M : Type 1} → statement M
 stand-spec =
