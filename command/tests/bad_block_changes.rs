@@ -3,6 +3,7 @@
 mod common;
 
 use common::{Folder, USUAL};
+use reader::build::listed::fresh_with;
 use reader::build::{directory, file, Assembly, Layout};
 use reader::entry::NO_CLUSTER;
 use reader::page::{self, DATA};
@@ -15,14 +16,7 @@ const FREE: u32 = 0x7FFF_FFFF;
 /// The bench card with these blocks listed. Of its allocatable clusters 6 to 13 are block 2, 14 to 21 block 3, 22 to 29
 /// block 4.
 fn listing(format: Format, blocks: &[u32]) -> Assembly {
-    listing_on(format, Layout::bench(), blocks)
-}
-
-fn listing_on(format: Format, layout: Layout, blocks: &[u32]) -> Assembly {
-    let mut card = Assembly::with_root(format, layout);
-    let list = &mut card.superblock[0xD0..0x150];
-    list.chunks_mut(4).zip(blocks).for_each(|(place, block)| place.copy_from_slice(&block.to_le_bytes()));
-    card
+    fresh_with(format, Layout::bench(), blocks)
 }
 
 /// A folder with a card.
@@ -117,7 +111,7 @@ fn over_a_bad_block() {
 #[test]
 fn beside_the_tail() {
     for format in Format::BOTH {
-        let at = At::of(listing_on(format, Layout::standard(), &[200]));
+        let at = At::of(fresh_with(format, Layout::standard(), &[200]));
         // The root grows by a cluster.
         at.folder.write("more", &vec![7; 7_990 * 1024 + 1]);
         at.folder.write("just", &vec![7; 7_990 * 1024]);

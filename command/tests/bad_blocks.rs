@@ -4,19 +4,12 @@ mod common;
 
 use common::{in_wrapper, Folder, USUAL};
 use ps2card::Card;
+use reader::build::listed::fresh_with;
 use reader::build::{directory, file, Assembly, Layout};
 use reader::Format::Raw;
 use reader::{Format, Refusal};
 
 const NONE: u32 = 0xFFFF_FFFF;
-
-/// A card with an empty root whose first words of the list are these.
-fn listing(format: Format, layout: Layout, words: &[u32]) -> Assembly {
-    let mut card = Assembly::with_root(format, layout);
-    let list = &mut card.superblock[0xD0..0x150];
-    list.chunks_mut(4).zip(words).for_each(|(place, word)| place.copy_from_slice(&word.to_le_bytes()));
-    card
-}
 
 /// Indirect cluster, table and root in blocks of their own, 1 to 3. Blocks 4 and 5 have allocatable clusters too, 6 and
 /// 7 are the backups.
@@ -62,7 +55,7 @@ fn counts_of_the_bench_card() {
         let folder = Folder::of(format);
         for (words, counts) in cards {
             for version in ["1.1.0.0", "1.2.0.0"] {
-                have(&folder, format, listing(format, Layout { version, ..Layout::bench() }, words), counts);
+                have(&folder, format, fresh_with(format, Layout { version, ..Layout::bench() }, words), counts);
             }
         }
     }
@@ -73,7 +66,7 @@ fn counts_of_the_bench_card() {
 fn chains_in_a_bad_block() {
     for format in Format::BOTH {
         let folder = Folder::of(format);
-        let mut card = listing(format, Layout::bench(), &[2]);
+        let mut card = fresh_with(format, Layout::bench(), &[2]);
         card.directory(&[0, 6], 4);
         card.put(6, 0, &file(b"F", 3_000, 5));
         card.put(6, 1, &directory(b"D", 2, 13));
@@ -106,13 +99,13 @@ fn beside_the_tail() {
     for format in Format::BOTH {
         let folder = Folder::of(format);
         for (words, counts) in blocks {
-            have(&folder, format, listing(format, Layout::standard(), words), counts);
+            have(&folder, format, fresh_with(format, Layout::standard(), words), counts);
         }
         // As many blocks as the list has words.
         let words: Vec<u32> = (6..38).collect();
-        have(&folder, format, listing(format, Layout::standard(), &words), [7_743, 1, 391]);
+        have(&folder, format, fresh_with(format, Layout::standard(), &words), [7_743, 1, 391]);
         // The largest card, and its last block before the backups.
-        have(&folder, format, listing(format, common::largest(), &[8_189]), [65_247, 1, 8]);
+        have(&folder, format, fresh_with(format, common::largest(), &[8_189]), [65_247, 1, 8]);
     }
 }
 
@@ -153,12 +146,12 @@ fn blocks_that_cannot_be() {
         let folder = Folder::of(format);
         for words in words {
             for version in ["1.1.0.0", "1.2.0.0"] {
-                refused(&folder, listing(format, Layout { version, ..Layout::bench() }, words), FOUR);
+                refused(&folder, fresh_with(format, Layout { version, ..Layout::bench() }, words), FOUR);
             }
         }
-        refused(&folder, listing(format, Layout::bench(), &[0; 32]), FOUR);
-        refused(&folder, listing(format, Layout::standard(), &[1_024]), FOUR);
-        refused(&folder, listing(format, common::largest(), &[8_192]), FOUR);
+        refused(&folder, fresh_with(format, Layout::bench(), &[0; 32]), FOUR);
+        refused(&folder, fresh_with(format, Layout::standard(), &[1_024]), FOUR);
+        refused(&folder, fresh_with(format, common::largest(), &[8_192]), FOUR);
     }
 }
 
@@ -168,22 +161,22 @@ fn blocks_of_the_table() {
     let last = [vec![NONE; 31], vec![2]].concat();
     for format in Format::BOTH {
         let folder = Folder::of(format);
-        refused(&folder, listing(format, Layout::bench(), &[1]), FIVE);
+        refused(&folder, fresh_with(format, Layout::bench(), &[1]), FIVE);
         for words in [&[1][..], &[2], &[5, 2], &last] {
-            refused(&folder, listing(format, apart(), words), FIVE);
+            refused(&folder, fresh_with(format, apart(), words), FIVE);
         }
         // The last of the standard card's 32 table clusters, 40, is alone in block 5 with the root; the largest card's
         // last one, 263, is in 32.
-        refused(&folder, listing(format, Layout::standard(), &[5]), FIVE);
-        refused(&folder, listing(format, common::largest(), &[32]), FIVE);
+        refused(&folder, fresh_with(format, Layout::standard(), &[5]), FIVE);
+        refused(&folder, fresh_with(format, common::largest(), &[32]), FIVE);
         // The root's block is none of these.
-        have(&folder, format, listing(format, apart(), &[3]), [16, 1, 7]);
-        have(&folder, format, listing(format, apart(), &[3, 4, 5, 6, 7]), [0, 1, 23]);
+        have(&folder, format, fresh_with(format, apart(), &[3]), [16, 1, 7]);
+        have(&folder, format, fresh_with(format, apart(), &[3, 4, 5, 6, 7]), [0, 1, 23]);
         // 4 comes first, wherever its word stands.
-        refused(&folder, listing(format, apart(), &[1, 2, 8]), FOUR);
+        refused(&folder, fresh_with(format, apart(), &[1, 2, 8]), FOUR);
         // Blocks 1 and 2 where indirect cluster and table are 1 and 2: only the words that name table clusters count.
         let near = Layout { indirect: 1, table: vec![2], ..apart() };
-        let mut card = listing(format, near, &[1, 2]);
+        let mut card = fresh_with(format, near, &[1, 2]);
         card.indirect[1] = 8;
         have(&folder, format, card, [23, 1, 0]);
     }
@@ -195,7 +188,7 @@ fn blocks_of_the_table() {
 fn before_and_after_pages() {
     let folder = Folder::new();
     let with = |block: u32, page: usize| {
-        let mut image = listing(Raw, apart(), &[block]).finish();
+        let mut image = fresh_with(Raw, apart(), &[block]).finish();
         image[528 * page..][..528].fill(0);
         folder.write("card", &image);
         folder.run(&["check", "card"])
@@ -211,7 +204,7 @@ fn before_and_after_pages() {
     // The second table cluster is in the bad block, and a page of the first is unreadable: all names come first.
     let two = Layout { clusters: 312, alloc_end: 257, table: vec![16, 24], backups: [38, 37], ..apart() };
     for (block, refusal) in [(3, Refusal::number(5)), (4, Refusal::unreadable(32))] {
-        let mut image = listing(Raw, Layout { alloc_offset: 32, ..two.clone() }, &[block]).finish();
+        let mut image = fresh_with(Raw, Layout { alloc_offset: 32, ..two.clone() }, &[block]).finish();
         image[528 * 32..][..528].fill(0);
         folder.write("card", &image);
         folder.run(&["check", "card"]).refused(refusal);

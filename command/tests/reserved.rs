@@ -5,6 +5,7 @@ mod common;
 
 use common::{in_wrapper, Folder, USUAL};
 use ps2card::{Card, Counts};
+use reader::build::listed::fresh_with;
 use reader::build::{self, directory, file, Assembly, Layout};
 use reader::entry::NO_CLUSTER;
 use reader::page::DATA;
@@ -141,9 +142,7 @@ fn chains_in_the_tail() {
 #[test]
 fn which_cards() {
     let fresh = |format: Format, layout: Layout, bad_block: u32| {
-        let mut card = Assembly::with_root(format, layout);
-        card.superblock[0xD0..0xD4].copy_from_slice(&bad_block.to_le_bytes());
-        Card::new(in_wrapper(format), card.finish()).check()
+        Card::new(in_wrapper(format), fresh_with(format, layout, &[bad_block]).finish()).check()
     };
     for format in Format::BOTH {
         let ends = [(1_usize, 0, 0), (7_999, 0, 8), (8_000, 0, 8), (8_001, 1, 9), (8_002, 2, 10), (8_135, 135, 143)];
