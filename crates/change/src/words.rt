@@ -1,7 +1,6 @@
 // The allocation table in memory: its free clusters, chains linked and freed.
 use layout::Superblock;
-use model::BLOCK_CLUSTERS;
-use reached::is_listed;
+use reached::Looked;
 use reached::take_limit;
 use tree::slots::next_of;
 ghost use mathlib.Core.Path.{_≡_};
@@ -12,7 +11,6 @@ ghost use Rattle.model.specs.View.{mostClusters, topBit};
 ghost use Rattle.change.specs.Words.{chained, clearedFrom, freeList};
 
 // The free clusters of a card's table that may be taken, ascending, into a list with room for all; how many there are.
-// The bad block list is gone over once for each block.
 pub(crate) fn collect_free(table: &[u32], s: Superblock, list: &mut [u32]) -> usize
     requires { ⌜ (length (now table) ≤ length (now list)) × (length (now table) ≤ mostClusters) ⌝ }
     ensures { λ r. ⌜ (r ≡ length (freeList s (now (table .entry)))) × (take r (now (list .exit)) ≡ freeList s (now (table .entry))) ⌝ }
@@ -21,17 +19,12 @@ pub(crate) fn collect_free(table: &[u32], s: Superblock, list: &mut [u32]) -> us
     let offset = geometry.offset as usize;
     let bad = s.bad;
     let limit = take_limit(s.clusters, s.end as usize);
-    let mut block = offset / BLOCK_CLUSTERS;
-    let mut listed = is_listed(&bad, block);
+    let mut last = Looked::new(&bad);
     let mut count: usize = 0;
     let mut c: usize = 0;
     while c < table.len() {
-        let here = (offset + c) / BLOCK_CLUSTERS;
-        if here != block {
-            block = here;
-            listed = is_listed(&bad, here);
-        }
-        if ((c < limit) & !listed) & (table[c] < 0x8000_0000) {
+        last = last.at(&bad, offset + c);
+        if ((c < limit) & !last.listed) & (table[c] < 0x8000_0000) {
             list[count] = c as u32;
             count += 1;
         }

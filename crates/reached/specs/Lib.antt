@@ -2,4 +2,5 @@
 pub mod Marks
 pub mod Table
 pub mod Chain
+pub mod Blocks
 pub mod Totals

@@ -7,9 +7,10 @@ use model::TAIL_START;
 ghost use mathlib.Core.Path.{_≡_};
 ghost use lib.Dec.{eqb};
 ghost use lib.ListN.{length};
-ghost use Rattle.model.specs.Counts.{isListed, mayTakeOn, takeLimit};
+ghost use Rattle.model.specs.Counts.{blockOf, isListed, mayTakeOn, takeLimit};
 ghost use Rattle.reached.specs.Marks.{noMarks, markedIn, marked, withMark};
 ghost use Rattle.reached.specs.Chain.{chainBehind};
+ghost use Rattle.reached.specs.Blocks.{Knows};
 ghost use Rattle.reached.specs.Totals.{freeWords, heldWords, orphansIn};
 
 // A table word below this is free.
@@ -162,6 +163,39 @@ pub fn is_listed(bad: &[u32], block: usize) -> bool
     listed
 }
 
+// The erase block that was looked up last, and whether it is listed: the passes over the table go over the list once for
+// each block.
+pub struct Looked {
+    pub block: usize,
+    pub listed: bool,
+}
+
+impl Looked {
+    // block 0, at the start of a pass
+    pub fn new(bad: &[u32]) -> Looked
+        ensures { λ r. ⌜ Knows (now (bad .entry)) r ⌝ }
+    {
+        Looked {
+            block: 0,
+            listed: is_listed(bad, 0),
+        }
+    }
+
+    // The block that a cluster of the card lies in.
+    pub fn at(self, bad: &[u32], cluster: usize) -> Looked
+        ensures { λ r. ⌜ (r .block ≡ blockOf cluster) × (Knows (now (bad .entry)) self → Knows (now (bad .entry)) r) ⌝ }
+    {
+        let block = cluster / BLOCK_CLUSTERS;
+        if block == self.block {
+            return self;
+        }
+        Looked {
+            block,
+            listed: is_listed(bad, block),
+        }
+    }
+}
+
 // How many table words have their top bit clear, in two counts.
 pub struct Unused {
     pub free: usize,
@@ -169,23 +203,18 @@ pub struct Unused {
 }
 
 // Free: the top bit of the table word is clear, and the cluster may be taken: it lies below the limit, in no listed block.
-// Held back: it is clear, and the cluster may not be taken. Neither is a remainder. The list is gone over once for each block.
+// Held back: it is clear, and the cluster may not be taken. Neither is a remainder.
 pub fn count_unused(table: &[u32], clusters: u32, offset: u32, bad: &[u32]) -> Unused
     ensures { λ r. ⌜ (r .free ≡ freeWords (mayTakeOn clusters (length (now (table .entry))) offset (now (bad .entry))) (now (table .entry))) × (r .held ≡ heldWords (mayTakeOn clusters (length (now (table .entry))) offset (now (bad .entry))) (now (table .entry))) ⌝ }
 {
     let limit = take_limit(clusters, table.len());
-    let mut block = offset as usize / BLOCK_CLUSTERS;
-    let mut listed = is_listed(bad, block);
+    let mut last = Looked::new(bad);
     let mut free: usize = 0;
     let mut held: usize = 0;
     let mut i: usize = 0;
     while i < table.len() {
-        let here = (offset as usize + i) / BLOCK_CLUSTERS;
-        if here != block {
-            block = here;
-            listed = is_listed(bad, here);
-        }
-        let takeable = (i < limit) & !listed;
+        last = last.at(bad, offset as usize + i);
+        let takeable = (i < limit) & !last.listed;
         if takeable & (table[i] < TOP_BIT) {
             free += 1;
         }

@@ -11,6 +11,7 @@ use lib.Dec.{ltb}
 use lib.ListN.{length, length-set, take}
 use lib.Seq.{length-take-le}
 use Rattle.model.specs.Counts.{blockOf, isListed}
+use Rattle.reached.specs.Blocks.{Knows}
 use Rattle.change.specs.Words.{freeList}
 use Rattle.change.proofs.WordSteps.{freeUpTo, none-yet, not-one, one-more}
 use Rattle.change.proofs.words.collect_free.Statement.{statement}
@@ -20,11 +21,11 @@ abbrev mayTake : ℕ → ℕ → List ℕ → ℕ → Bool
 mayTake limit offset bad c = ltb c limit && not (isListed bad (blockOf (offset + c)))
 
 abbrev Inv-loop : tie.InvT-loop
-Inv-loop table list₀ offset bad limit block₀ listed₀ count₀ c₀ list block listed count c =
-    (c ≤ length table) × (count ≤ c) × (length list ≡ length list₀) × (take count list ≡ freeUpTo (mayTake limit offset bad) table c) × (listed ≡ isListed bad block)
+Inv-loop table list₀ offset bad limit last₀ count₀ c₀ list last count c =
+    (c ≤ length table) × (count ≤ c) × (length list ≡ length list₀) × (take count list ≡ freeUpTo (mayTake limit offset bad) table c) × Knows bad last
 
 abbrev μ-loop : tie.MeasureT-loop
-μ-loop table list₀ offset bad limit block₀ listed₀ count₀ c₀ list block listed count c = length table - c
+μ-loop table list₀ offset bad limit last₀ count₀ c₀ list last count c = length table - c
 
 cast-offset : tie.Need-cast-offset Inv-loop μ-loop
 cast-offset c = search needs
@@ -35,31 +36,31 @@ cast-take-limit c = search needs
 take-limit-requires : tie.Need-take-limit-requires Inv-loop μ-loop
 take-limit-requires c κs = search needs
 
-slice-aggregate-is-listed : tie.Need-slice-aggregate-is-listed Inv-loop μ-loop
-slice-aggregate-is-listed c = search needs
+slice-aggregate-new : tie.Need-slice-aggregate-new Inv-loop μ-loop
+slice-aggregate-new c = search needs
 
-is-listed-requires : tie.Need-is-listed-requires Inv-loop μ-loop
-is-listed-requires c κs = search needs
+new-requires : tie.Need-new-requires Inv-loop μ-loop
+new-requires c κs = search needs
 
 loop-holds : tie.Need-loop-holds Inv-loop μ-loop
 loop-holds c =
     let a = c .before .before .before .before .before .before .before .before .before .args in
-    (omega arith, omega arith, refl, none-yet (mayTake (c .before .before .take-limit .result) (a .s .geometry .offset) (a .s .bad)) (a .table .now), c .is-listed .ensures)
+    (omega arith, omega arith, refl, none-yet (mayTake (c .before .before .take-limit .result) (a .s .geometry .offset) (a .s .bad)) (a .table .now), c .new .ensures)
 
-add-here : tie.Need-add-here Inv-loop μ-loop
-add-here c = search needs
+slice-aggregate-at : tie.Need-slice-aggregate-at Inv-loop μ-loop
+slice-aggregate-at c = search needs
 
-slice-aggregate-is-listed-2 : tie.Need-slice-aggregate-is-listed-2 Inv-loop μ-loop
-slice-aggregate-is-listed-2 c = search needs
+add-at : tie.Need-add-at Inv-loop μ-loop
+add-at c = search needs
 
-is-listed-requires-2 : tie.Need-is-listed-requires-2 Inv-loop μ-loop
-is-listed-requires-2 c κs = search needs
+at-requires : tie.Need-at-requires Inv-loop μ-loop
+at-requires c κs = search needs
 
-mul-if2 : tie.Need-mul-if2 Inv-loop μ-loop
-mul-if2 c = search needs
+mul-if1 : tie.Need-mul-if1 Inv-loop μ-loop
+mul-if1 c = search needs
 
-shared-slice-read-if2 : tie.Need-shared-slice-read-if2 Inv-loop μ-loop
-shared-slice-read-if2 c = search needs
+shared-slice-read-if1 : tie.Need-shared-slice-read-if1 Inv-loop μ-loop
+shared-slice-read-if1 c = search needs
 
 cast-list : tie.Need-cast-list Inv-loop μ-loop
 cast-list c = search needs
@@ -81,20 +82,16 @@ loop-less c = search needs
 
 loop-again : tie.Need-loop-again Inv-loop μ-loop
 loop-again c =
-    let a = c .before .before .before .before .before .before .before .before .before .before .before .before .before .before .args in
+    let a = c .before .before .before .before .before .before .before .before .before .before .before .before .before .before .before .before .args in
     let t = a .table .now in
-    let bad = a .s .bad in
-    let pool = mayTake (c .before .before .before .before .before .before .before .take-limit .result) (a .s .geometry .offset) bad in
-    let l = c .before .before .before .before .loop in
-    let known : c .before .before .if1 .listed ≡ isListed bad (c .before .before .if1 .block) =
-    ⊎-elim (λ w. w .4 ∙ w .2 .ensures ∙ ap (isListed bad) (sym (w .3))) (λ w. w .2 ∙ l .inv .4 ∙ ap (isListed bad) (sym (w .1))) (c .before .before .if1 .came) in
-    let here : c .before .before .if1 .block ≡ blockOf (a .s .geometry .offset + l .c) =
-    ⊎-elim (λ w. w .3) (λ w. omega (arith, w .0 .left, w .1)) (c .before .before .if1 .came) in
-    let may : (ltb (l .c) (c .before .before .before .before .before .before .before .take-limit .result) && not (c .before .before .if1 .listed)) ≡ pool (l .c) = rw (known, here) in
+    let pool = mayTake (c .before .before .before .before .before .before .before .before .before .take-limit .result) (a .s .geometry .offset) (a .s .bad) in
+    let l = c .before .before .before .before .before .before .loop in
+    let known = c .before .before .before .at .ensures .1 (l .inv .4) in
+    let may : (ltb (l .c) (c .before .before .before .before .before .before .before .before .before .take-limit .result) && not (c .before .before .before .at .result .listed)) ≡ pool (l .c) = rw (known, c .before .before .before .at .ensures .0) in
     ⊎-elim
     (λ w. (omega arith, omega (arith, w .2), ap length (w .1) ∙ length-set (l .list) _ _ ∙ l .inv .2, rw (w .1, w .2) (one-more pool t (l .list) (l .count) (l .c) (l .inv .3) _ may (omega arith) (w .0 .taken)), known))
     (λ w. (omega arith, omega (arith, w .2), ap length (w .1) ∙ l .inv .2, rw (w .1, w .2) (not-one pool t (l .list) (l .count) (l .c) (l .inv .3) _ may (w .0 .left)), known))
-    (c .if2 .came)
+    (c .if1 .came)
 
 same-length : tie.Need-same-length Inv-loop μ-loop
 same-length c = search needs
@@ -118,14 +115,14 @@ collect-free-spec =
     cast-offset
     cast-take-limit
     take-limit-requires
-    slice-aggregate-is-listed
-    is-listed-requires
+    slice-aggregate-new
+    new-requires
     loop-holds
-    add-here
-    slice-aggregate-is-listed-2
-    is-listed-requires-2
-    mul-if2
-    shared-slice-read-if2
+    slice-aggregate-at
+    add-at
+    at-requires
+    mul-if1
+    shared-slice-read-if1
     cast-list
     mul-list
     slice-write-list
