@@ -51,7 +51,7 @@ fn store_page(format: Format, image: &mut [u8], p: usize, table: &[u32], t: usiz
     ensures { λ _. ⌜ now (image .exit) ≡ alterPage format p (tableIn (now (table .entry)) t) (now (image .entry)) ⌝ }
 {
     let mut page = [0u8; 512];
-    if read_page(format, image, p, &mut page) {
+    if read_page(format, image, p, &mut page).readable {
         put_words(&mut page, table, t);
         rewrite_page(format, image, p, &page);
     }

@@ -46,13 +46,13 @@ unfolding checkOf andThen
 card-of format image counts e = go (checkImage format image) refl e
   where
     go : (r : Result (Superblock × Root × Marks)) → checkImage format image ≡ r
-        → andThen {A = Superblock × Root × Marks} {B = Counts} r (λ x. ok (countsIn (x .0) (see (x .0) image) (x .1))) ≡ ok counts → Card format image
+        → andThen {A = Superblock × Root × Marks} {B = Counts} r (λ x. ok (countsIn image (x .0) (x .1))) ≡ ok counts → Card format image
     go (fault n p) f k = not-ok n p counts k
     go (ok x) f k = record { superblock = x .0; root = x .1; marks = x .2; checked = f }
 
 -- what is told of it, by its view
 module _ (format : Format) (image : List ℕ) (s : Superblock) (root : Root) (m : Marks) (checked : checkImage format image ≡ ok (s, root, m)) where
-  pub counted : checkOf format image ≡ ok (countsIn s (see s image) root)
+  pub counted : checkOf format image ≡ ok (countsIn image s root)
   unfolding checkOf andThen
   counted = rw checked
 
@@ -107,7 +107,7 @@ module _ (format : Format) (image : List ℕ) (s : Superblock) (root : Root) (m 
       let card : model.Accepted (rulesOf s) (see s image) = record { root = root; marks = m; checked = parts .1; noWords = no-words format image s (parts .0) } in
       let k = change-keeps (rulesOf s) (see s image) card c (see s (d .after)) (d .performed) in
       record {
-        counts = countsIn s (see s (d .after)) (d .newRoot);
+        counts = countsIn (d .after) s (d .newRoot);
         again = ap (checkOf format) left ∙ counted format (d .after) s (d .newRoot) (d .newMarks) (d .again);
         long = ap length left ∙ long-is format (d .after) s (d .newRoot) (d .newMarks) (d .again) ∙ sym (long-is format image s root m checked);
         paths = λ q.

@@ -3,6 +3,8 @@ pub mod MarkedNumbers
 pub mod PathFinds
 pub mod PathNames
 pub mod ImageClaims
+pub mod PagesOnce
+pub mod NoneMended
 pub mod Witness
 pub mod FilePages
 pub mod ReadsTree

@@ -27,14 +27,21 @@ use Rattle.model.specs.Time.{validTime}
 use Rattle.model.specs.Tree.{Root, end, reached}
 use Rattle.model.specs.View.{View}
 use Rattle.layout.specs.See.{checkImage, pageIn, see, viewBy}
-use Rattle.tree.specs.Counted.{countsIn}
+use Rattle.tree.specs.Counted.{countsWith}
+use Rattle.layout.specs.Mended.{mendedIn}
 use Rattle.model.specs.Names.{dotDotName, dotName}
 use Rattle.model.specs.Pages.{decoded, newPage, zeroPage}
+use Rattle.page.proofs.Erased.{ones-codes}
 use Rattle.page.proofs.Laws.{cluster-pages, length-put, page-put}
+use Rattle.page.proofs.Mending.{codes-mended, plain-mended}
+use Rattle.page.proofs.Twins.{put-codes}
+use Rattle.page.specs.Mended.{mendedChunks}
+use Rattle.page.specs.Twins.{CodesMatch}
 use Rattle.page.specs.declared.Format.the-variants.{Plain, Raw}
 use Rattle.page.specs.Page.{clusterBytes, pageAt, pagesIn, written}
 use Rattle.page.specs.PageLaws.{Inside}
 use Rattle.claims.proofs.ImageClaims.{counted, told}
+use Rattle.claims.proofs.NoneMended.{none-in}
 use Rattle.claims.specs.Witness.{AcceptedIn, BenchAccepted, benchDot, benchImage, benchNames, benchPages, benchSuperblock, benchTable, erased, onesPage, writeAll}
 
 -- ---- pages written in turn
@@ -79,6 +86,18 @@ bench-long Plain = refl
 bench-clusters : (format : Format) → clustersIn format (clusterBytes format * 56) ≡ 56
 bench-clusters Raw = refl
 bench-clusters Plain = refl
+
+written-codes : (ws : List (ℕ × List ℕ)) (image : List ℕ) → Fit ws → CodesMatch image → CodesMatch (writeAll Raw ws image)
+written-codes [] image f h = h
+written-codes (w ∷ ws) image f h = written-codes ws (written Raw image (w .0) (w .1)) (f .2) (put-codes true (w .0) (w .1) image (f .1) h)
+
+bench-codes : CodesMatch (benchImage Raw)
+unfolding benchImage erased
+bench-codes = written-codes benchPages (erased Raw 56) bench-fit (ones-codes (clusterBytes Raw * 56))
+
+bench-none : (format : Format) (p : ℕ) → mendedChunks format (benchImage format) p ≡ 0
+bench-none Raw p = codes-mended (benchImage Raw) p bench-codes
+bench-none Plain p = plain-mended (benchImage Plain) p
 
 module _ (format : Format) where
   erased-sized : Sized format (erased format 56)
@@ -205,10 +224,14 @@ module _ (format : Format) where
   unfolding refusal validTime
   too-much = refl
 
+  -- all its codes match, so that no chunk is corrected
+  none-corrected : mendedIn (benchImage format) card root ≡ 0
+  none-corrected = none-in format (benchImage format) (bench-none format) card root (reached root) checked
+
   accepted-in : AcceptedIn format
   accepted-in =
       record {
-        counts = counted format (benchImage format) card root (reached root) checked ∙ ap (λ (v : View). ok (countsIn card v root)) view-is;
+        counts = counted format (benchImage format) card root (reached root) checked ∙ ap₂ (λ (v : View) (n : ℕ). ok (countsWith card v root n)) view-is none-corrected;
         full = told format (benchImage format) card root (reached root) checked (file 28672) (accepts format (benchImage format) card root (reached root) checked (file 28672) (refused-by (file 28672) ∙ full));
         tooMuch = ap (λ (o : Outcome). o .answer) ((refuses format (benchImage format) card root (reached root) checked (file 28673) 11 (refused-by (file 28673) ∙ too-much)) .0);
       }

@@ -5,4 +5,5 @@ pub mod Numbers
 pub mod ReadsTree
 pub mod Claims
 pub mod Formats
+pub mod Pages
 pub mod Conversions

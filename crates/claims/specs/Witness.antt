@@ -90,7 +90,7 @@ benchImage format = writeAll format benchPages (erased format 56)
 
 -- In both formats the check accepts it, with the counts to meet; a file that fills the card is accepted, and one byte more is 12.
 pub record AcceptedIn (format : Format) : Type 0 where
-  pub counts : checkOf format (benchImage format) ≡ ok (record { clusters = 56; free = 29; reached = 1; orphaned = 0; held = 0 })
+  pub counts : checkOf format (benchImage format) ≡ ok (record { clusters = 56; free = 29; reached = 1; orphaned = 0; held = 0; mended = 0 })
   pub full : (changed format (create pathA benchTime (bytes 28672)) (benchImage format)) .answer ≡ ok tt
   pub tooMuch : (changed format (create pathA benchTime (bytes 28673)) (benchImage format)) .answer ≡ fault 12 0
 

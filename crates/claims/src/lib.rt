@@ -4,6 +4,7 @@ ghost use Rattle.tree.specs.Counted.{CountsAddUp};
 ghost use Rattle.claims.specs.Conversions.{ConversionExact, ConversionKeeps, ConversionReturns};
 ghost use Rattle.claims.specs.Formats.{FormatsAlike};
 ghost use Rattle.claims.specs.Numbers.{MarkedNumbers};
+ghost use Rattle.claims.specs.Pages.{CountedOnce};
 ghost use Rattle.claims.specs.ReadsTree.{TreeIsReading};
 ghost use Rattle.claims.specs.Witness.{BenchAccepted};
 ghost use Rattle.claims.specs.Claims.{ChangeKeeps, Demand3, RefusalLeaves};
@@ -46,6 +47,11 @@ pub fn bench_accepted()
 // The tree of an accepted image is what find and reads answer at every path.
 pub fn tree_is_reading()
     ensures { λ _. ⌜ TreeIsReading ⌝ }
+{}
+
+// The pages in which corrected chunks are counted: each once, and a read's own apart from the check's.
+pub fn counted_once()
+    ensures { λ _. ⌜ CountedOnce ⌝ }
 {}
 
 // Every call answers the same on a raw image and on a plain one with the same data, and leaves the same data.

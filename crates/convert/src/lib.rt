@@ -33,7 +33,7 @@ fn judge_pages(format: Format, image: &[u8]) -> Conversion
     let mut page = [0u8; 512];
     let mut p = 0;
     while p < pages {
-        if !read_page(format, image, p, &mut page) {
+        if !read_page(format, image, p, &mut page).readable {
             return Conversion::Refused(Refusal::UnreadablePage(p));
         }
         p += 1;

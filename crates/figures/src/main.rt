@@ -42,7 +42,8 @@ fn tell_listing(image: &[u8; BYTES]) {
 
 fn tell_read(image: &[u8; BYTES], path: &[u8], from: usize) {
     let mut out = [0u8; 16];
-    match lookup::reading::read(Format::Raw, image, path, from, &mut out) {
+    let mut mended: usize = 0;
+    match lookup::reading::read(Format::Raw, image, path, from, &mut out, &mut mended) {
         ReadOutcome::Bytes(count) => say_number(b"read ", count),
         ReadOutcome::Refused(refusal) => say_number(b"read refused ", refusal.number() as usize),
     }

@@ -7,3 +7,5 @@ pub mod Stages
 pub mod TablePages
 pub mod TableLaws
 pub mod OpenFacts
+pub mod NeededOnce
+pub mod MendedLaws

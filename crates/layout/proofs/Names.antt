@@ -3,6 +3,7 @@ use Prim.Native.Nat.{ℕ, zero, suc, _+_, _-_, _≤_, _<_}
 use mathlib.Core.Bool.{Bool, true, false, cond, not, _&&_}
 use mathlib.Core.List.{List, [], _∷_}
 use mathlib.Core.Path.{_≡_, refl, sym, ap, _∙_}
+use native.Mathlib.Decide.{ℕ-discrete}
 use native.Mathlib.Numerals.{add-one, sub-one}
 use native.Mathlib.Omega.{arith}
 use borrow.Author.Tests.{ne-eqb, eqb-true, ltb-true, leb-true}
@@ -115,3 +116,21 @@ name-once offset bad before (n ∷ ns) e zero (suc j) h k q = absurd (later offs
 name-once offset bad before (n ∷ ns) e (suc i) zero h k q = absurd (later offset n bad before ns e i (omega arith) (sym q))
 name-once offset bad before (n ∷ ns) e (suc i) (suc j) h k q =
     ap suc (name-once offset bad (n ∷ before) ns (rest offset n bad before ns e) i j (omega arith) (omega arith) q)
+
+-- what is out of range is none of them
+pub names-out : (offset : ℕ) (bad before ns : List ℕ) → goodTableNames offset bad before ns ≡ true → (x : ℕ) → (1 ≤ x → x < offset → ⊥) → times ns x ≡ 0
+names-out offset bad before [] e x out = refl
+names-out offset bad before (n ∷ ns) e x out =
+    let z = name-good offset bad before (n ∷ ns) e 0 (omega arith) in
+    omega (arith, names-out offset bad (n ∷ before) ns (rest offset n bad before ns e) x out, hit-0 n x (λ q. out (omega arith) (omega arith)))
+
+-- each stands there once, and not among those before
+pub names-times : (offset : ℕ) (bad before ns : List ℕ) → goodTableNames offset bad before ns ≡ true → ((x : ℕ) → times before x ≤ 1) → (x : ℕ)
+    → times before x + times ns x ≤ 1
+names-times offset bad before [] e u x = omega (arith, u x)
+names-times offset bad before (n ∷ ns) e u x =
+    omega (arith, names-times offset bad (n ∷ before) ns (rest offset n bad before ns e) (λ y. new y (ℕ-discrete n y)) x)
+  where
+    new : (y : ℕ) → Dec (n ≡ y) → times (n ∷ before) y ≤ 1
+    new y (yes q) = let z = name-good offset bad before (n ∷ ns) e 0 (omega arith) in rw (← q) (omega (arith, hit-self n))
+    new y (no q) = omega (arith, hit-0 n y q, u y)

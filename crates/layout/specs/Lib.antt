@@ -3,3 +3,5 @@ pub mod Refusal
 pub mod Superblock
 pub mod Table
 pub mod See
+pub mod Needed
+pub mod Mended

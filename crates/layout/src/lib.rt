@@ -5,7 +5,8 @@ pub mod table;
 use model::LIST_WORDS;
 use model::MOST_CLUSTERS;
 use page::Format;
-use page::read_page;
+use page::read_counted;
+use page::settled;
 use page0::clusters_in;
 use page0::good_length;
 use page0::good_superblock;
@@ -15,6 +16,8 @@ use table::judge_table;
 use table::load_table;
 ghost use mathlib.Core.Path.{_≡_};
 ghost use Prim.Native.Nat.{_%_, _^_};
+ghost use Rattle.layout.specs.Mended.{Adds, mendedOver, openingMended};
+ghost use Rattle.layout.specs.Needed.{openingPages};
 ghost use Rattle.layout.specs.Refusal.{numberOf, pageOf};
 ghost use Rattle.layout.specs.See.{imagePage};
 ghost use Rattle.layout.specs.Superblock.{superblockOf};
@@ -114,10 +117,12 @@ pub enum Verdict {
     Refused(Refusal),
 }
 
-// A card that is open, or why it is refused: then the superblock says nothing.
+// A card that is open, with how many chunks were corrected in the pages that were needed; or why it is refused: then the
+// superblock says nothing, and no chunk is counted.
 pub struct Opened {
     pub verdict: Verdict,
     pub superblock: Superblock,
+    pub mended: usize,
 }
 
 // The image's page that is a page of the allocatable clusters, which are counted from 0. A sum past 64 bits wraps.
@@ -128,13 +133,14 @@ pub fn image_page(geometry: Geometry, page: usize) -> usize
 }
 
 // The check up to the table: length, page 0, format text, the other superblock rules, the table. The lent page gets page 0.
-fn judge_card(format: Format, image: &[u8], page: &mut [u8; 512]) -> Verdict
-    ensures { λ r. ⌜ told r (superblockOf format (now (page .exit))) ≡ openCard format (now (image .entry)) ⌝ }
+fn judge_card(format: Format, image: &[u8], page: &mut [u8; 512], mended: &mut usize) -> Verdict
+    ensures judged { λ r. ⌜ told r (superblockOf format (now (page .exit))) ≡ openCard format (now (image .entry)) ⌝ }
+    ensures counted { λ r. ⌜ Adds r (now (mended .entry)) (mendedOver format (now (image .entry)) (openingPages (now (image .entry)) (superblockOf format (now (page .exit))))) (now (mended .exit)) ⌝ }
 {
     if !good_length(format, image.len()) {
         return Verdict::Refused(Refusal::BadLength);
     }
-    if !read_page(format, image, 0, page) {
+    if !read_counted(format, image, 0, page, mended) {
         return Verdict::Refused(Refusal::UnreadablePage(0));
     }
     if !good_text(page) {
@@ -143,16 +149,18 @@ fn judge_card(format: Format, image: &[u8], page: &mut [u8; 512]) -> Verdict
     if !good_superblock(format, clusters_in(format, image.len()), page) {
         return Verdict::Refused(Refusal::BadSuperblock);
     }
-    judge_table(image, superblock_of(format, page))
+    judge_table(image, superblock_of(format, page), mended)
 }
 
 // Checks the card up to its table, and loads the table's words. A refusal leaves the lent table as it was.
 pub fn open_card(format: Format, image: &[u8], table: &mut [u32; MOST_CLUSTERS]) -> Opened
     ensures opened { λ r. ⌜ toldOpened r ≡ openCard format (now (image .entry)) ⌝ }
     ensures loaded { λ _. ⌜ now (table .exit) ≡ tableAfter (now (image .entry)) (openCard format (now (image .entry))) (now (table .entry)) ⌝ }
+    ensures mended { λ r. ⌜ r .mended ≡ openingMended format (now (image .entry)) (openCard format (now (image .entry))) ⌝ }
 {
     let mut page = [0u8; 512];
-    let verdict = judge_card(format, image, &mut page);
+    let mut mended: usize = 0;
+    let verdict = judge_card(format, image, &mut page, &mut mended);
     let s = superblock_of(format, &page);
     match verdict {
         Verdict::Sound => {
@@ -160,11 +168,13 @@ pub fn open_card(format: Format, image: &[u8], table: &mut [u32; MOST_CLUSTERS])
             Opened {
                 verdict: Verdict::Sound,
                 superblock: s,
+                mended: settled(mended),
             }
         }
         Verdict::Refused(refusal) => Opened {
             verdict: Verdict::Refused(refusal),
             superblock: s,
+            mended: 0,
         },
     }
 }

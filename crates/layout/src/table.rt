@@ -6,6 +6,7 @@ use fields::numbers::word_at;
 use fields::numbers::word_in;
 use model::BLOCK_CLUSTERS;
 use page::Format;
+use page::read_counted;
 use page::read_page;
 use reached::is_listed;
 ghost use mathlib.Core.Path.{_≡_};
@@ -20,8 +21,9 @@ ghost use Rattle.model.specs.Check.{ok};
 ghost use Rattle.model.specs.Tree.{times};
 ghost use Rattle.model.specs.View.{mostClusters, pagesOf};
 ghost use Rattle.layout.specs.declared.Superblock.{Superblock};
+ghost use Rattle.layout.specs.Mended.{Adds, mendedOver};
 ghost use Rattle.layout.specs.Superblock.{upTo};
-ghost use Rattle.layout.specs.Table.{tableClusters, tableNames, inRange, goodName, goodTableNames, needPages, openTable, openCard, told, tablePage, tableWord, tableOf};
+ghost use Rattle.layout.specs.Table.{namesOf, tableClusters, tableNames, inRange, goodName, goodTableNames, needPages, openTable, openCard, told, tablePage, tableWord, tableOf};
 
 fn in_range(offset: u32, name: u32) -> bool
     ensures { λ r. ⌜ r ≡ inRange offset name ⌝ }
@@ -113,15 +115,17 @@ fn judge_pages(
     first: &[u8; 512],
     second: &[u8; 512],
     count: usize,
+    mended: &mut usize,
 ) -> Verdict
     requires { ⌜ count ≤ 256 ⌝ }
-    ensures { λ r. ⌜ ((s : Superblock) → told r s ≡ needPages format (now (image .entry)) (pagesOf (tableNames (now (first .entry) ++ now (second .entry)) count)) (ok s)) ⌝ }
+    ensures judged { λ r. ⌜ ((s : Superblock) → told r s ≡ needPages format (now (image .entry)) (pagesOf (tableNames (now (first .entry) ++ now (second .entry)) count)) (ok s)) ⌝ }
+    ensures counted { λ r. ⌜ Adds r (now (mended .entry)) (mendedOver format (now (image .entry)) (pagesOf (tableNames (now (first .entry) ++ now (second .entry)) count))) (now (mended .exit)) ⌝ }
 {
     let mut page = [0u8; 512];
     let mut t = 0;
     while t < 2 * count {
         let p = table_page(first, second, count, t);
-        if !read_page(format, image, p, &mut page) {
+        if !read_counted(format, image, p, &mut page, mended) {
             return Verdict::Refused(Refusal::UnreadablePage(p));
         }
         t += 1;
@@ -130,9 +134,10 @@ fn judge_pages(
 }
 
 // The check of the table. Its clusters' names are in the indirect cluster, whose own name is judged first.
-pub(crate) fn judge_table(image: &[u8], s: Superblock) -> Verdict
+pub(crate) fn judge_table(image: &[u8], s: Superblock, mended: &mut usize) -> Verdict
     requires { ⌜ s .end ≤ mostClusters ⌝ }
-    ensures { λ r. ⌜ told r s ≡ openTable (now (image .entry)) s ⌝ }
+    ensures judged { λ r. ⌜ told r s ≡ openTable (now (image .entry)) s ⌝ }
+    ensures counted { λ r. ⌜ Adds r (now (mended .entry)) (mendedOver (s .geometry .format) (now (image .entry)) (pagesOf (s .indirect ∷ namesOf (now (image .entry)) s))) (now (mended .exit)) ⌝ }
 {
     let geometry = s.geometry;
     let format = geometry.format;
@@ -145,16 +150,16 @@ pub(crate) fn judge_table(image: &[u8], s: Superblock) -> Verdict
     }
     let p = 2 * (indirect as usize);
     let mut first = [0u8; 512];
-    if !read_page(format, image, p, &mut first) {
+    if !read_counted(format, image, p, &mut first, mended) {
         return Verdict::Refused(Refusal::UnreadablePage(p));
     }
     let mut second = [0u8; 512];
-    if !read_page(format, image, p + 1, &mut second) {
+    if !read_counted(format, image, p + 1, &mut second, mended) {
         return Verdict::Refused(Refusal::UnreadablePage(p + 1));
     }
     let count = (end + 255) / 256;
     if good_names(&first, &second, offset, &bad, indirect, count) {
-        return judge_pages(format, image, &first, &second, count);
+        return judge_pages(format, image, &first, &second, count, mended);
     }
     Verdict::Refused(Refusal::BadTableName)
 }

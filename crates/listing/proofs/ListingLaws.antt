@@ -18,7 +18,7 @@ use Rattle.listing.specs.Text.{countsText, listingOf, refusalText, textO
 
 module _ (format : Format) (image : List ℕ) where
   abbrev told-all : Superblock × Root × Marks → Result Counts
-  told-all x = ok (countsIn (x .0) (see (x .0) image) (x .1))
+  told-all x = ok (countsIn image (x .0) (x .1))
 
   pub listing-refused : (n p : ℕ) → fault n p ≡ checkOf format image → refusalText n p ≡ listingOf format image
   unfolding checkOf listingOf andThen
@@ -26,7 +26,7 @@ module _ (format : Format) (image : List ℕ) where
     where
       go : (r : Result (Superblock × Root × Marks)) → fault n p ≡ andThen r told-all → refusalText n p ≡ textOf image r
       go (fault m q) e = let a : _≡_ {A = ℕ} n m = cc in let b : _≡_ {A = ℕ} p q = cc in rw (a, b)
-      go (ok x) e = fault-ok n p (countsIn (x .0) (see (x .0) image) (x .1)) e
+      go (ok x) e = fault-ok n p (countsIn image (x .0) (x .1)) e
 
   module _ (counts : Counts) (passed : ok counts ≡ checkOf format image) where
     -- a card that passed the check opens
@@ -47,5 +47,5 @@ module _ (format : Format) (image : List ℕ) where
       unfolding checkOf listingOf andThen
       listing-card =
           let y = accepted format image s passes in
-          let same : counts ≡ countsIn s (see s image) (y .root) = ok-inj _ _ (rw (y .checked) at passed) in
+          let same : counts ≡ countsIn image s (y .root) = ok-inj _ _ (rw (y .checked) at passed) in
           rw (y .checked, ← same)

@@ -34,7 +34,7 @@ use Rattle.tree.specs.Counted.{countsIn, superblockIn}
 use Rattle.tree.specs.declared.Counts.{Counts}
 use Rattle.listing.specs.Emit.{most}
 use Rattle.listing.specs.Room.{Fits}
-use Rattle.listing.specs.Text.{cardWord, countLine, countsText, decimalOf, digitsOf, entryLine, freeWord, heldWord, listingOf, orphanedWord, pageText, reachedWord, refusalText, textOf, treeText, within}
+use Rattle.listing.specs.Text.{cardWord, countLine, countsText, decimalOf, digitsOf, entryLine, freeWord, heldWord, listingOf, mendedWord, orphanedWord, pageText, reachedWord, refusalText, textOf, treeText, within}
 
 -- ---- lines
 
@@ -82,10 +82,10 @@ refusal-short : (number page : ℕ) → length (refusalText number page) ≤ 50
 unfolding refusalText
 refusal-short number page = simp length-append (omega (arith, digits-short 20 number, page-short number page))
 
-counts-short : (c : Counts) → length (countsText c) ≤ 137
+counts-short : (c : Counts) → length (countsText c) ≤ 165
 unfolding countsText
 counts-short c =
-    simp length-append (omega (arith, count-short cardWord (c .clusters), count-short freeWord (c .free), count-short reachedWord (c .reached), count-short orphanedWord (c .orphaned), count-short heldWord (c .held)))
+    simp length-append (omega (arith, count-short cardWord (c .clusters), count-short freeWord (c .free), count-short reachedWord (c .reached), count-short orphanedWord (c .orphaned), count-short heldWord (c .held), count-short mendedWord (c .mended)))
 
 -- ---- the tree
 
@@ -174,13 +174,13 @@ card-short v r n x high fits =
 
 -- ---- the listing
 
--- five lines of counts, and two entries for each allocatable cluster
+-- six lines of counts, and two entries for each allocatable cluster
 listing-lines : (format : Format) (image : List ℕ) (n : ℕ) → ((s : Superblock) → ok s ≡ openCard format image → s .end ≤ n)
-    → length (listingOf format image) ≤ lineRoom * (5 + 2 * n)
+    → length (listingOf format image) ≤ lineRoom * (6 + 2 * n)
 unfolding listingOf
 listing-lines format image n few = go (checkImage format image) refl
   where
-    go : (c : Result (Superblock × Root × Marks)) → checkImage format image ≡ c → length (textOf image c) ≤ lineRoom * (5 + 2 * n)
+    go : (c : Result (Superblock × Root × Marks)) → checkImage format image ≡ c → length (textOf image c) ≤ lineRoom * (6 + 2 * n)
     go (fault m p) e = omega (arith, refusal-short m p)
     go (ok x) e =
         let y = accepted format image (x .0) (sym (ap superblockIn e)) in
@@ -188,14 +188,14 @@ listing-lines format image n few = go (checkImage format image) refl
         let high : (c : ℕ) → x .0 .end ≤ c → (see (x .0) image) .link c ≡ Link.free =
         λ c l. rw (le-ltb c (length (tableOf image (x .0))) (omega (arith, length-table image (x .0)))) in
         let tree = card-short (see (x .0) image) (x .1) (x .0 .end) (rw same (y .holds)) high (end-fits format image (x .0) (y .opened)) in
-        let all = countsIn (x .0) (see (x .0) image) (x .1) in
+        let all = countsIn image (x .0) (x .1) in
         omega (arith, length-append (countsText all) (treeText [] (x .1 .slots)), counts-short all, tree, few (x .0) (y .opened))
 
 pub listing-short : (format : Format) (image : List ℕ) → length (listingOf format image) ≤ most
 listing-short format image = omega (arith, listing-lines format image mostClusters (end-fits format image))
 
 -- An image too short for n + 2 clusters has at most n allocatable ones: cluster 0 is none of them.
-pub listing-fits : (n bytes : ℕ) → bytes < 1024 * (n + 2) → Fits bytes (lineRoom * (5 + 2 * n))
+pub listing-fits : (n bytes : ℕ) → bytes < 1024 * (n + 2) → Fits bytes (lineRoom * (6 + 2 * n))
 listing-fits n bytes h format image short = listing-lines format image n few
   where
     few : (s : Superblock) → ok s ≡ openCard format image → s .end ≤ n

@@ -5,7 +5,7 @@ use mathlib.Core.List.{List, [], _++_, _∷_}
 use lib.Dec.{eqb, ltb}
 use lib.ListN.{drop, length, take}
 use Rattle.page.specs.declared.Format.{Format}
-use Rattle.layout.specs.See.{checkImage, see}
+use Rattle.layout.specs.See.{checkImage}
 use Rattle.layout.specs.declared.Superblock.{Superblock}
 use Rattle.model.specs.Check.{Marks, Result, fault, ok}
 use Rattle.model.specs.Names.{Name}
@@ -31,7 +31,7 @@ space = 0x20 ∷ []
 abbrev pub newline : List ℕ
 newline = 0x0A ∷ []
 
--- `card `, `free `, `reached `, `orphaned `, `held `, `refused `
+-- `card `, `free `, `reached `, `orphaned `, `held `, `mended `, `refused `
 abbrev pub cardWord : List ℕ
 cardWord = 0x63 ∷ 0x61 ∷ 0x72 ∷ 0x64 ∷ 0x20 ∷ []
 
@@ -46,6 +46,9 @@ orphanedWord = 0x6F ∷ 0x72 ∷ 0x70 ∷ 0x68 ∷ 0x61 ∷ 0x6E ∷ 0x65 ∷ 0x
 
 abbrev pub heldWord : List ℕ
 heldWord = 0x68 ∷ 0x65 ∷ 0x6C ∷ 0x64 ∷ 0x20 ∷ []
+
+abbrev pub mendedWord : List ℕ
+mendedWord = 0x6D ∷ 0x65 ∷ 0x6E ∷ 0x64 ∷ 0x65 ∷ 0x64 ∷ 0x20 ∷ []
 
 abbrev pub refusedWord : List ℕ
 refusedWord = 0x72 ∷ 0x65 ∷ 0x66 ∷ 0x75 ∷ 0x73 ∷ 0x65 ∷ 0x64 ∷ 0x20 ∷ []
@@ -86,6 +89,7 @@ countsText c =
     ++ countLine reachedWord (c .reached)
     ++ countLine orphanedWord (c .orphaned)
     ++ countLine heldWord (c .held)
+    ++ countLine mendedWord (c .mended)
 
 -- the root has no line of its own
 abbrev pub cardText : Counts → Root → List ℕ
@@ -102,7 +106,7 @@ refusalText number page = refusedWord ++ decimalOf number ++ pageText number pag
 
 abbrev pub textOf : List ℕ → Result (Superblock × Root × Marks) → List ℕ
 textOf image (fault number page) = refusalText number page
-textOf image (ok x) = cardText (countsIn (x .0) (see (x .0) image) (x .1)) (x .1)
+textOf image (ok x) = cardText (countsIn image (x .0) (x .1)) (x .1)
 
 unfoldable pub listingOf : Format → List ℕ → List ℕ
 listingOf format image = textOf image (checkImage format image)

@@ -33,8 +33,8 @@ pub const SMALL_IMAGE: usize = 59136;
 const LINE_ROOM: usize = 270;
 
 // The most bytes of the listing of so small an image. It has at most 57 clusters, and cluster 0 is not allocatable: the other 56
-// hold at most 112 entries, and five lines have the counts.
-pub const SMALL_ROOM: usize = (5 + 112) * LINE_ROOM;
+// hold at most 112 entries, and six lines have the counts.
+pub const SMALL_ROOM: usize = (6 + 112) * LINE_ROOM;
 
 // The lines of all entries by the first `end` words of a table.
 fn list_words(

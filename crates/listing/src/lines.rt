@@ -21,7 +21,7 @@ fn put_count(out: &mut [u8], at: usize, word: &[u8], number: u64) -> usize
     put_byte(out, b, b'\n')
 }
 
-// N, free, reached, orphaned and held back.
+// N, free, reached, orphaned, held back, and the corrected chunks.
 pub(crate) fn put_counts(out: &mut [u8], at: usize, counts: Counts) -> usize
     ensures { λ r. ⌜ Wrote (now (out .entry)) at (countsText counts) (now (out .exit)) r ⌝ }
 {
@@ -29,7 +29,8 @@ pub(crate) fn put_counts(out: &mut [u8], at: usize, counts: Counts) -> usize
     let b = put_count(out, a, b"free ", counts.free as u64);
     let c = put_count(out, b, b"reached ", counts.reached as u64);
     let d = put_count(out, c, b"orphaned ", counts.orphaned as u64);
-    put_count(out, d, b"held ", counts.held as u64)
+    let e = put_count(out, d, b"held ", counts.held as u64);
+    put_count(out, e, b"mended ", counts.mended as u64)
 }
 
 // A letter, the length and the path of an entry.

@@ -85,9 +85,19 @@ room-length format image before words l e = go (openCard format image) refl l
         let facts = open-facts format image s f in
         ap length h ∙ length-append (tableOf image s) (drop (s .end) before) ∙ omega (arith, length-table image s, length-drop (s .end) before, facts .room, facts .most)
 
+-- what stands there, and on which card
+pub stood-at : (format : Format) (words image bytes : List ℕ) (r : Stood) → TellsStood format words image bytes r → (end : ℕ) (geometry : Geometry) (first : ℕ) → r .standing ≡ stood.At end geometry first
+    → (s : Superblock) × (h : Slot) × (t : Tree) × (standingOf format image bytes ≡ ok (s, h, t)) × (s .geometry ≡ geometry) × Stands (viewBy geometry (take end words) image) first (entryOf (r .page)) h t
+stood-at format words image bytes r told end geometry first e = go (standingOf format image bytes) refl (rw e at told)
+  where
+    go : (x : Result (Superblock × Slot × Tree)) → standingOf format image bytes ≡ x → TellsAs (viewBy geometry (take end words) image) x (stood.At end geometry first) (r .page)
+        → (s : Superblock) × (h : Slot) × (t : Tree) × (standingOf format image bytes ≡ ok (s, h, t)) × (s .geometry ≡ geometry) × Stands (viewBy geometry (take end words) image) first (entryOf (r .page)) h t
+    go (fault n p) q y = absurd y
+    go (ok x) q y = (x .0, x .1, x .2, q, y .0, y .1)
+
 -- ---- what is asked
 module _ {A : Type 0} (ask : Geometry → Slot → Tree → Result A) where
-  abbrev onward : Superblock × Slot × Tree → Result A
+  abbrev pub onward : Superblock × Slot × Tree → Result A
   onward x = ask (x .0 .geometry) (x .1) (x .2)
 
   at-tree : (s : Superblock) (w : ℕ) (f : Found) → refusing w (tell (ask (s .geometry)) (fault 9 0) f) ≡ andThen (refusing w (tell (standsThere s) (fault 9 0) f)) onward
@@ -101,7 +111,7 @@ module _ {A : Type 0} (ask : Geometry → Slot → Tree → Result A) where
   at-bytes s root none = refl
   at-bytes s root (some q) = at-tree s (way (lookUp root) q) (lookUp root q)
 
-  asked : (format : Format) (image bytes : List ℕ) → onCard format image bytes (λ s root q. atPath root q (ask (s .geometry))) ≡ andThen (standingOf format image bytes) onward
+  pub asked : (format : Format) (image bytes : List ℕ) → onCard format image bytes (λ s root q. atPath root q (ask (s .geometry))) ≡ andThen (standingOf format image bytes) onward
   unfolding andThen onCard
   asked format image bytes = go (checkImage format image)
     where

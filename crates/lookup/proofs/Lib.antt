@@ -14,7 +14,9 @@ pub mod AnswerLaws
 pub mod StepLaws
 pub mod CopyLaws
 pub mod PagesLaws
+pub mod MendedLaws
 pub mod ReadLaws
 pub mod ReadSteps
 pub mod CardLaws
 pub mod AskLaws
+pub mod ReadCounts

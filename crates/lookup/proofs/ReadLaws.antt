@@ -24,6 +24,7 @@ use Rattle.reached.specs.Table.{firstLinkOf, tableLinks}
 use Rattle.lookup.specs.Answers.{TellsRead}
 use Rattle.lookup.specs.Descend.{Stands, dataAlong, pagesFor}
 use Rattle.tree.specs.Scan.{scan, unread}
+use Rattle.lookup.specs.Mended.{readPages}
 use Rattle.lookup.specs.Read.{bytesFrom, bytesToCopy, dataOfPages, pagesWith, readFrom}
 use Rattle.tree.specs.Slots.{clusterAt, slotPages}
 use Rattle.tree.specs.declared.along.Place.the-variants as place
@@ -133,6 +134,24 @@ module _ (v : View) (t : List ℕ) (links : (c : ℕ) → v .link c ≡ tableLin
     pub read-bytes : 0 < toCopy → scan (unread v) dataPages (from / 512) ≡ place.Nowhere → readFrom from room h s ≡ ok (slice (dataAlong v dataPages) (from % 512) toCopy)
     unfolding andThen
     read-bytes b q = let g : dataOfPages dataPages (map (v .page) dataPages) ≡ ok (dataAlong v dataPages) = rw q at (scan-gives v dataPages (from / 512)) in through b ∙ rw g
+
+    -- the pages that are copied from
+    pub pages-none : toCopy ≡ 0 → readPages from room h s ≡ []
+    unfolding pagesWith
+    pages-none z = go h x
+      where
+        go : (h : Slot) → Stands v first e h s → readPages from room h s ≡ []
+        go Slot.dead x = absurd x
+        go (Slot.file d cs ds) x = rw (x .0, z)
+        go (Slot.directory d cs) x = tf (x .1) f
+
+    pub pages-read : 0 < toCopy → readPages from room h s ≡ dataPages
+    pages-read b = go h x
+      where
+        go : (h : Slot) → Stands v first e h s → readPages from room h s ≡ dataPages
+        go Slot.dead x = absurd x
+        go (Slot.file d cs ds) x = rw (x .0) (chain-part cs (x .2) (x .3) a b)
+        go (Slot.directory d cs) x = tf (x .1) f
 
 -- ---- the answers
 

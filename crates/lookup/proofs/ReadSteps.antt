@@ -1,6 +1,6 @@
 -- What the code computes on the way of a read, as the definitions have it.
 use Rattle.layout.specs.declared.Geometry.{Geometry}
-use Prim.Native.Nat.{_%_, _*_, _+_, _-_, _/_, _≤_, ℕ}
+use Prim.Native.Nat.{_%_, _*_, _+_, _-_, _/_, _<_, _≤_, ℕ}
 use mathlib.Core.Bool.{Bool, cond, false, true}
 use mathlib.Core.List.{List, []}
 use mathlib.Core.Option.{some}
@@ -10,17 +10,21 @@ use borrow.Author.Tests.{leb-false, leb-true}
 use lib.Dec.{leb}
 use lib.ListN.{length}
 use lib.Seq.{sets}
+use Rattle.page.specs.Mended.{wrapped}
 use Rattle.layout.specs.See.{imagePage, onImage}
 use Rattle.layout.specs.declared.Refusal.the-variants.{UnreadablePage}
 use Rattle.model.specs.Bytes.{slice}
 use Rattle.model.specs.Check.{Result, fault, ok}
 use Rattle.model.specs.Entry.{Entry, isDirectory}
+use Rattle.model.specs.Needed.{totalOver}
 use Rattle.model.specs.Tree.{Slot, Tree}
+use Rattle.model.proofs.NeededPages.{total-most}
 use Rattle.model.specs.View.{View}
 use Rattle.reached.specs.Table.{tableLinks}
 use Rattle.lookup.specs.Answers.{TellsRead}
 use Rattle.lookup.specs.Descend.{Stands, dataAlong, pagesFor}
 use Rattle.tree.specs.Scan.{scan, unread}
+use Rattle.lookup.specs.Mended.{ReadAdds, readPages}
 use Rattle.lookup.specs.Read.{bytesToCopy, readFrom}
 use Rattle.tree.specs.Slots.{clusterAt, slotPages}
 use Rattle.tree.specs.declared.along.Place.{Place}
@@ -29,7 +33,7 @@ use Rattle.lookup.specs.declared.reading.ReadOutcome.{ReadOutcome}
 use Rattle.lookup.specs.declared.reading.ReadOutcome.the-variants as reading
 use Rattle.lookup.proofs.CopyLaws.{slice-length}
 use Rattle.lookup.proofs.PagesLaws.{joined-length, pages-count}
-use Rattle.lookup.proofs.ReadLaws.{dataPages, read-bytes, read-none, read-refused, read-told, read-unreadable}
+use Rattle.lookup.proofs.ReadLaws.{dataPages, pages-none, pages-read, read-bytes, read-none, read-refused, read-told, read-unreadable}
 
 pub least-within : (n a b : ℕ) → n ≡ cond (leb a b) a b → (n ≤ a) × (n ≤ b)
 least-within n a b e = go (leb a b) refl e
@@ -46,6 +50,14 @@ module _ (v : View) (t : List ℕ) (links : (c : ℕ) → v .link c ≡ tableLin
   pub tells-none : (h : Slot) (s : Tree) → Stands v first e h s → isDirectory e ≡ false → from ≤ size → n ≡ 0 → (before : List ℕ)
       → TellsRead (onImage geometry (readFrom from room h s)) (reading.Bytes 0) before before
   tells-none h s x f a z before = read-told geometry (readFrom from room h s) [] before before 0 (read-none v t links first from room e h s x f (omega arith) (sym count-is ∙ z)) refl (omega arith) refl
+
+  -- nothing to copy adds nothing
+  pub counted-none : (mend : ℕ → ℕ) (h : Slot) (s : Tree) → Stands v first e h s → isDirectory e ≡ false → from ≤ size → n ≡ 0 → (count : ℕ)
+      → ReadAdds (reading.Bytes 0) count (totalOver mend (readPages from room h s)) count
+  counted-none mend h s x f a z count =
+      let none : totalOver mend (readPages from room h s) ≡ 0 = ap (totalOver mend) (pages-none v t links first from room e h s x f (omega arith) (sym count-is ∙ z)) in
+      let same : count ≡ count + totalOver mend (readPages from room h s) = omega arith in
+      (ap wrapped same, omega arith)
 
   module _ (start : ℕ) (at : start ≡ clusterAt t first (from / 512)) (r : Place)
       (scanned : r ≡ scan (unread v) (slotPages t start (from / 512) ((from + n + 511) / 512 - from / 512)) (from / 512)) where
@@ -77,6 +89,15 @@ module _ (v : View) (t : List ℕ) (links : (c : ℕ) → v .link c ≡ tableLin
           read-told geometry (readFrom from room h s) (slice (dataAlong v (slotPages t start (from / 512) (pagesFor (from % 512) n))) (from % 512) n) before after n
           (rw (at, count-is) g) (slice-length (dataAlong v (slotPages t start (from / 512) (pagesFor (from % 512) n))) (from % 512) n (omega arith))
           (omega (arith, (least-within n room (size - from) isLeast) .0)) c
+
+      pub counted-bytes : (mend : ℕ → ℕ) → ((p : ℕ) → mend p ≤ 4) → (before after : ℕ) → pagesFor (from % 512) n < 4294967296
+          → wrapped after ≡ wrapped (before + totalOver mend (slotPages t start (from / 512) (pagesFor (from % 512) n)))
+          → ReadAdds (reading.Bytes n) before (totalOver mend (readPages from room h s)) after
+      counted-bytes mend few before after small c =
+          let pages : readPages from room h s ≡ slotPages t start (from / 512) (pagesFor (from % 512) n) = rw (at, count-is) (pages-read v t links first from room e h s x f (omega arith) (omega (arith, count-is, b))) in (
+            rw pages c,
+            rw pages (omega (arith, total-most mend 4 few (slotPages t start (from / 512) (pagesFor (from % 512) n)), pages-count v sized t start (from / 512) (pagesFor (from % 512) n))),
+          )
 
 -- the read at a path is the one from the slot there
 pub read-at : (x y : Result (List ℕ)) (r : ReadOutcome) (before after : List ℕ) → x ≡ y → TellsRead y r before after → TellsRead x r before after

@@ -14,10 +14,12 @@ use Rattle.layout.specs.declared.Superblock.{Superblock}
 use Rattle.model.specs.Check.{Result, fault, ok}
 use Rattle.model.specs.Entry.{entryOf}
 use Rattle.model.specs.Holds.{HoldsCard}
+use Rattle.model.specs.Needed.{totalOver}
 use Rattle.model.specs.Tree.{Root, Slot, Tree}
 use Rattle.model.specs.View.{View, mostClusters}
 use Rattle.lookup.specs.Answers.{TellsRead, TellsStep}
 use Rattle.lookup.specs.Descend.{Stands}
+use Rattle.lookup.specs.Mended.{ReadAdds, readPages}
 use Rattle.lookup.specs.Paths.{foundAt, standingOf, withPath}
 use Rattle.lookup.specs.Read.{readFrom}
 use Rattle.lookup.specs.Step.{stepFrom}
@@ -68,3 +70,8 @@ StepsAt v first page slot r = (h : Slot) (s : Tree) → Stands v first (entryOf 
 abbrev pub ReadsAt : View → Geometry → ℕ → List ℕ → ℕ → ReadOutcome → List ℕ → List ℕ → Type 0
 ReadsAt v geometry first page from r before after =
     (h : Slot) (s : Tree) → Stands v first (entryOf page) h s → TellsRead (onImage geometry (readFrom from (length before) h s)) r before after
+
+-- with the count: of a read that is accepted the chunks of the file's pages are added
+abbrev pub CountsAt : View → (ℕ → ℕ) → ℕ → List ℕ → ℕ → ReadOutcome → ℕ → ℕ → ℕ → Type 0
+CountsAt v mend first page from r room before after =
+    (h : Slot) (s : Tree) → Stands v first (entryOf page) h s → ReadAdds r before (totalOver mend (readPages from room h s)) after

@@ -38,10 +38,11 @@ pagesFor skip count = (skip + count + 511) / 512
 abbrev pub pagesFrom : List ℕ → ℕ → ℕ → ℕ → ℕ → List ℕ
 pagesFrom table start low skip count = slotPages table start low (pagesFor skip count)
 
--- what a copy of them knows: they are readable, words can count them, and the buffer has room
+-- what a copy of them knows: they are readable, words can count them, the buffer has room, and there is a byte to copy
 abbrev pub CanCopy : View → List ℕ → ℕ → ℕ → ℕ → ℕ → ℕ → Type 0
 CanCopy v table start low skip count room =
     (skip < 512) × (count ≤ room) × (low + pagesFor skip count < wordLimit) × (scan (unread v) (pagesFrom table start low skip count) low ≡ place.Nowhere)
+    × (0 < count)
 
 -- a piece of a page from byte `skip` on: all that is left, or all that the page has
 pub record Piece (skip left n : ℕ) : Type 0 where

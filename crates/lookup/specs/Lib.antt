@@ -3,6 +3,7 @@ pub mod Paths
 pub mod Find
 pub mod Step
 pub mod Read
+pub mod Mended
 pub mod Answers
 pub mod Descend
 pub mod Called

@@ -11,8 +11,9 @@ use model::MOST_CLUSTERS;
 use page::Format;
 use tree::open_checked;
 ghost use mathlib.Core.Path.{_≡_};
-ghost use Prim.Native.Nat.{_≤_};
+ghost use Prim.Native.Nat.{_<_, _≤_, _^_};
 ghost use lib.ListN.{length, take};
+ghost use Rattle.layout.specs.Mended.{mendedOf};
 ghost use Rattle.layout.specs.See.{viewBy};
 ghost use Rattle.layout.specs.Table.{openCard, tableAfter};
 ghost use Rattle.lookup.specs.Called.{Fits, TellsStood, TellsWay, refusedAs};
@@ -84,18 +85,22 @@ fn stand_words(image: &[u8], table: &[u32], card: Superblock, path: &[u8]) -> St
     stand_card(image, &table[..end], card, path)
 }
 
-// The check, then 8, 9 and 10. The lent room has the table's words for the questions that go on from here.
+// The check, then 8, 9 and 10. The lent room has the table's words for the questions that go on from here, and the lent count
+// becomes that of the check.
 pub(crate) fn stand(
     format: Format,
     image: &[u8],
     path: &[u8],
     room: &mut [u32; MOST_CLUSTERS],
+    mended: &mut usize,
 ) -> Stood
     ensures told { λ r. ⌜ TellsStood format (now (room .exit)) (now (image .entry)) (now (path .entry)) r ⌝ }
     ensures working_room { λ _. ⌜ now (room .exit) ≡ tableAfter (now (image .entry)) (openCard format (now (image .entry))) (now (room .entry)) ⌝ }
     ensures fits { λ r. ⌜ Fits (r .standing) ⌝ }
+    ensures counted { λ _. ⌜ (now (mended .exit) ≡ mendedOf format (now (image .entry))) × (now (mended .exit) < 2 ^ 32) ⌝ }
 {
     let opened = open_checked(format, image, room);
+    *mended = opened.mended;
     let verdict = opened.verdict;
     match verdict {
         Verdict::Refused(refusal) => refused(refusal),

@@ -8,7 +8,9 @@ use model::MOST_CLUSTERS;
 use page::Format;
 ghost use mathlib.Core.Path.{_≡_};
 ghost use Rattle.lookup.specs.Answers.{TellsEntry, blankEntry};
+ghost use Rattle.layout.specs.Mended.{mendedOf};
 ghost use Rattle.lookup.specs.Find.{findOf};
+ghost use Rattle.lookup.specs.Mended.{reported};
 
 // Whether an entry was found.
 pub enum Outcome {
@@ -41,12 +43,15 @@ pub(crate) fn no_entry() -> Entry
     }
 }
 
-// The entry at a path, for `/` the root's first one: the check first, then 8, 9 and 10.
-pub fn find(format: Format, image: &[u8], path: &[u8]) -> FoundEntry
-    ensures { λ r. ⌜ TellsEntry (findOf format (now (image .entry)) (now (path .entry))) r ⌝ }
+// The entry at a path, for `/` the root's first one: the check first, then 8, 9 and 10. The lent count becomes that of the
+// corrected chunks; a refusal leaves it.
+pub fn find(format: Format, image: &[u8], path: &[u8], mended: &mut usize) -> FoundEntry
+    ensures told { λ r. ⌜ TellsEntry (findOf format (now (image .entry)) (now (path .entry))) r ⌝ }
+    ensures counted { λ _. ⌜ now (mended .exit) ≡ reported (findOf format (now (image .entry)) (now (path .entry))) (mendedOf format (now (image .entry))) (now (mended .entry)) ⌝ }
 {
     let mut room = [0u32; MOST_CLUSTERS];
-    let stood = stand(format, image, path, &mut room);
+    let mut total: usize = 0;
+    let stood = stand(format, image, path, &mut room, &mut total);
     let standing = stood.standing;
     match standing {
         Standing::Refused(refusal) => FoundEntry {
@@ -58,6 +63,7 @@ pub fn find(format: Format, image: &[u8], path: &[u8]) -> FoundEntry
             geometry: _,
             first: _,
         } => {
+            *mended = total;
             let page = stood.page;
             FoundEntry {
                 outcome: Outcome::Found,

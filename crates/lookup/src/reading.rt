@@ -8,23 +8,28 @@ use layout::Refusal;
 use layout::image_page;
 use model::MOST_CLUSTERS;
 use page::Format;
+use page::settled;
 use tree::along::Place;
 use tree::along::cluster_at;
 use tree::along::first_unreadable;
 use tree::slots::next_of;
-use tree::slots::read_slot;
+use tree::slots::read_needed;
 use tree::slots::slot_page;
 ghost use mathlib.Core.Path.{_≡_};
 ghost use Prim.Native.Nat.{_+_, _-_, _<_, _≤_};
 ghost use lib.ListN.{length, take};
 ghost use lib.Seq.{sets};
+ghost use Rattle.page.specs.Mended.{wrapped};
 ghost use Rattle.model.specs.Bytes.{slice};
+ghost use Rattle.model.specs.Needed.{totalOver};
+ghost use Rattle.tree.specs.Mended.{mendedPage};
 ghost use Rattle.tree.specs.declared.along.Place.the-variants.{Nowhere};
 ghost use Rattle.layout.specs.See.{viewBy};
 ghost use mathlib.Core.Bool.{cond};
 ghost use lib.Dec.{leb};
-ghost use Rattle.lookup.specs.Answers.{TellsRead};
-ghost use Rattle.lookup.specs.Called.{ReadsAt};
+ghost use Rattle.lookup.specs.Answers.{TellsRead, toldRead};
+ghost use Rattle.lookup.specs.Called.{CountsAt, ReadsAt};
+ghost use Rattle.lookup.specs.Mended.{readMended, reported};
 ghost use Rattle.lookup.specs.Read.{readOf};
 ghost use Rattle.lookup.specs.Descend.{CanCopy, Piece, dataAlong, pagesFrom};
 
@@ -65,7 +70,8 @@ fn piece_of(skip: usize, left: usize) -> usize
     512 - skip
 }
 
-// Copies bytes of a file's readable pages from page `low` on, which lies in cluster `start`, beginning at byte `skip` of it.
+// Copies bytes of a file's readable pages from page `low` on, which lies in cluster `start`, beginning at byte `skip` of it. Each
+// page adds its corrected chunks to the count.
 fn copy_pages(
     image: &[u8],
     table: &[u32],
@@ -75,9 +81,11 @@ fn copy_pages(
     skip: usize,
     count: usize,
     out: &mut [u8],
+    mended: &mut usize,
 )
     requires { ⌜ CanCopy (viewBy geometry (now table) (now image)) (now table) start low skip count (length (now out)) ⌝ }
-    ensures { λ _. ⌜ now (out .exit) ≡ sets (now (out .entry)) 0 (slice (dataAlong (viewBy geometry (now (table .entry)) (now (image .entry))) (pagesFrom (now (table .entry)) start low skip count)) skip count) ⌝ }
+    ensures copied { λ _. ⌜ now (out .exit) ≡ sets (now (out .entry)) 0 (slice (dataAlong (viewBy geometry (now (table .entry)) (now (image .entry))) (pagesFrom (now (table .entry)) start low skip count)) skip count) ⌝ }
+    ensures counted { λ _. ⌜ wrapped (now (mended .exit)) ≡ wrapped (now (mended .entry) + totalOver (mendedPage geometry (now (image .entry))) (pagesFrom (now (table .entry)) start low skip count)) ⌝ }
 {
     let mut c = start;
     let mut k = low;
@@ -85,7 +93,14 @@ fn copy_pages(
     let mut done: usize = 0;
     while done < count {
         let mut d = [0u8; 512];
-        read_slot(image, geometry, table.len(), slot_page(c, k), &mut d);
+        read_needed(
+            image,
+            geometry,
+            table.len(),
+            slot_page(c, k),
+            &mut d,
+            mended,
+        );
         let n = piece_of(from, count - done);
         put_page_part(out, done, &d, from, n);
         done += n;
@@ -115,8 +130,10 @@ fn read_in(
     page: &[u8; 512],
     from: usize,
     out: &mut [u8],
+    mended: &mut usize,
 ) -> ReadOutcome
-    ensures { λ r. ⌜ ReadsAt (viewBy geometry (now (table .entry)) (now (image .entry))) geometry first (now (page .entry)) from r (now (out .entry)) (now (out .exit)) ⌝ }
+    ensures told { λ r. ⌜ ReadsAt (viewBy geometry (now (table .entry)) (now (image .entry))) geometry first (now (page .entry)) from r (now (out .entry)) (now (out .exit)) ⌝ }
+    ensures counted { λ r. ⌜ CountsAt (viewBy geometry (now (table .entry)) (now (image .entry))) (mendedPage geometry (now (image .entry))) first (now (page .entry)) from r (length (now (out .entry))) (now (mended .entry)) (now (mended .exit)) ⌝ }
 {
     if is_directory(page) {
         return ReadOutcome::Refused(Refusal::WrongKind);
@@ -139,7 +156,17 @@ fn read_in(
             at,
         ))),
         Place::Nowhere => {
-            copy_pages(image, table, geometry, start, low, from % 512, count, out);
+            copy_pages(
+                image,
+                table,
+                geometry,
+                start,
+                low,
+                from % 512,
+                count,
+                out,
+                mended,
+            );
             ReadOutcome::Bytes(count)
         }
     }
@@ -155,19 +182,52 @@ fn read_words(
     page: &[u8; 512],
     from: usize,
     out: &mut [u8],
+    mended: &mut usize,
 ) -> ReadOutcome
     requires { ⌜ end ≤ length (now table) ⌝ }
-    ensures { λ r. ⌜ ReadsAt (viewBy geometry (take end (now (table .entry))) (now (image .entry))) geometry first (now (page .entry)) from r (now (out .entry)) (now (out .exit)) ⌝ }
+    ensures told { λ r. ⌜ ReadsAt (viewBy geometry (take end (now (table .entry))) (now (image .entry))) geometry first (now (page .entry)) from r (now (out .entry)) (now (out .exit)) ⌝ }
+    ensures counted { λ r. ⌜ CountsAt (viewBy geometry (take end (now (table .entry))) (now (image .entry))) (mendedPage geometry (now (image .entry))) first (now (page .entry)) from r (length (now (out .entry))) (now (mended .entry)) (now (mended .exit)) ⌝ }
 {
-    read_in(image, &table[..end], geometry, first, page, from, out)
+    read_in(
+        image,
+        &table[..end],
+        geometry,
+        first,
+        page,
+        from,
+        out,
+        mended,
+    )
 }
 
-// Copies bytes of the file at a path, from the offset `from` until the file or the buffer ends, and tells how many.
-pub fn read(format: Format, image: &[u8], path: &[u8], from: usize, out: &mut [u8]) -> ReadOutcome
-    ensures { λ r. ⌜ TellsRead (readOf format (now (image .entry)) (now (path .entry)) from (length (now (out .entry)))) r (now (out .entry)) (now (out .exit)) ⌝ }
+// The lent count becomes the total where the read is no refusal.
+fn report_read(outcome: ReadOutcome, total: usize, mended: &mut usize)
+    ensures { λ _. ⌜ now (mended .exit) ≡ reported (toldRead outcome) total (now (mended .entry)) ⌝ }
+{
+    match outcome {
+        ReadOutcome::Bytes(_) => {
+            *mended = total;
+        }
+        ReadOutcome::Refused(_) => {}
+    }
+}
+
+// Copies bytes of the file at a path, from the offset `from` until the file or the buffer ends, and tells how many. The lent
+// count becomes that of the corrected chunks, the copied pages' too; a refusal leaves it.
+pub fn read(
+    format: Format,
+    image: &[u8],
+    path: &[u8],
+    from: usize,
+    out: &mut [u8],
+    mended: &mut usize,
+) -> ReadOutcome
+    ensures told { λ r. ⌜ TellsRead (readOf format (now (image .entry)) (now (path .entry)) from (length (now (out .entry)))) r (now (out .entry)) (now (out .exit)) ⌝ }
+    ensures counted { λ _. ⌜ now (mended .exit) ≡ reported (readOf format (now (image .entry)) (now (path .entry)) from (length (now (out .entry)))) (readMended format (now (image .entry)) (now (path .entry)) from (length (now (out .entry)))) (now (mended .entry)) ⌝ }
 {
     let mut room = [0u32; MOST_CLUSTERS];
-    let stood = stand(format, image, path, &mut room);
+    let mut total: usize = 0;
+    let stood = stand(format, image, path, &mut room, &mut total);
     let standing = stood.standing;
     match standing {
         Standing::Refused(refusal) => ReadOutcome::Refused(refusal),
@@ -177,7 +237,7 @@ pub fn read(format: Format, image: &[u8], path: &[u8], from: usize, out: &mut [u
             first,
         } => {
             let page = stood.page;
-            read_words(
+            let outcome = read_words(
                 image,
                 &room,
                 end as usize,
@@ -186,7 +246,10 @@ pub fn read(format: Format, image: &[u8], path: &[u8], from: usize, out: &mut [u
                 &page,
                 from,
                 out,
-            )
+                &mut total,
+            );
+            report_read(outcome, settled(total), mended);
+            outcome
         }
     }
 }

@@ -15,10 +15,13 @@ use tree::along::first_live;
 use tree::slots::next_of;
 use tree::slots::read_slot;
 use tree::slots::slots_of;
+ghost use mathlib.Core.Path.{_≡_};
 ghost use Prim.Native.Nat.{_+_, _≤_};
 ghost use lib.ListN.{length, take};
 ghost use Rattle.layout.specs.See.{viewBy};
-ghost use Rattle.lookup.specs.Answers.{TellsStep};
+ghost use Rattle.lookup.specs.Answers.{TellsStep, toldStep};
+ghost use Rattle.layout.specs.Mended.{mendedOf};
+ghost use Rattle.lookup.specs.Mended.{reported};
 ghost use Rattle.lookup.specs.Step.{stepOf};
 ghost use Rattle.lookup.specs.Called.{StepsAt};
 
@@ -97,12 +100,36 @@ fn step_words(
     step_in(image, &table[..end], geometry, first, page, slot)
 }
 
-// The first live entry of the directory at a path from a slot on, never before slot 2, or the end.
-pub fn step(format: Format, image: &[u8], path: &[u8], slot: u32) -> SteppedEntry
-    ensures { λ r. ⌜ TellsStep (stepOf format (now (image .entry)) (now (path .entry)) slot) r ⌝ }
+// The lent count becomes the total where the step is no refusal.
+fn report_step(place: Stepped, total: usize, mended: &mut usize)
+    ensures { λ _. ⌜ now (mended .exit) ≡ reported (toldStep place) total (now (mended .entry)) ⌝ }
+{
+    match place {
+        Stepped::Slot(_) => {
+            *mended = total;
+        }
+        Stepped::End => {
+            *mended = total;
+        }
+        Stepped::Refused(_) => {}
+    }
+}
+
+// The first live entry of the directory at a path from a slot on, never before slot 2, or the end. The lent count becomes that
+// of the corrected chunks; a refusal leaves it.
+pub fn step(
+    format: Format,
+    image: &[u8],
+    path: &[u8],
+    slot: u32,
+    mended: &mut usize,
+) -> SteppedEntry
+    ensures told { λ r. ⌜ TellsStep (stepOf format (now (image .entry)) (now (path .entry)) slot) r ⌝ }
+    ensures counted { λ _. ⌜ now (mended .exit) ≡ reported (stepOf format (now (image .entry)) (now (path .entry)) slot) (mendedOf format (now (image .entry))) (now (mended .entry)) ⌝ }
 {
     let mut room = [0u32; MOST_CLUSTERS];
-    let stood = stand(format, image, path, &mut room);
+    let mut total: usize = 0;
+    let stood = stand(format, image, path, &mut room, &mut total);
     let standing = stood.standing;
     match standing {
         Standing::Refused(refusal) => SteppedEntry {
@@ -115,7 +142,10 @@ pub fn step(format: Format, image: &[u8], path: &[u8], slot: u32) -> SteppedEntr
             first,
         } => {
             let page = stood.page;
-            step_words(image, &room, end as usize, geometry, first, &page, slot)
+            let stepped = step_words(image, &room, end as usize, geometry, first, &page, slot);
+            let place = stepped.place;
+            report_step(place, total, mended);
+            stepped
         }
     }
 }

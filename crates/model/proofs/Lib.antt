@@ -21,6 +21,7 @@ pub mod ChangeOperations
 pub mod AbstractCards
 pub mod SlotOfName
 pub mod NewEntries
+pub mod NeededPages
 pub mod PlanActs
 pub mod Directories
 pub mod NewClusters

@@ -8,6 +8,7 @@ pub mod Tree
 pub mod Holds
 pub mod Check
 pub mod Counts
+pub mod Needed
 pub mod Lookup
 pub mod Standing
 pub mod Pages

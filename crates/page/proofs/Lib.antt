@@ -5,3 +5,5 @@ pub mod Formats
 pub mod Puts
 pub mod Laws
 pub mod Twins
+pub mod Mending
+pub mod Erased

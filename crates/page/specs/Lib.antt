@@ -1,3 +1,4 @@
 pub mod Page
+pub mod Mended
 pub mod PageLaws
 pub mod Twins

@@ -9,6 +9,7 @@ use Prim.Native.Nat.{ℕ, _+_, _*_, _/_, _%_, _≤_, _<_}
 use lib.Dec.{eqb}
 use lib.ListN.{length, getD}
 use Rattle.page.specs.declared.Format.{Format}
+use Rattle.page.specs.Mended.{mendedChunks}
 use Rattle.page.specs.Page.{clusterBytes, pageAt, pageBytes, pageStart, pagesIn, put, writtenBytes}
 
 -- the image holds page p whole
@@ -52,6 +53,8 @@ pub record PageLaws (format : Format) : Type 0 where
   pub of-read : (image : List ℕ) (p : ℕ) (bytes : List ℕ) → pageAt format image p ≡ some bytes → ReadLaws format image p bytes
   -- a page past the last whole one is never read
   pub page-past : (image : List ℕ) (p : ℕ) → pagesIn format (length image) ≤ p → pageAt format image p ≡ none
+  -- a page has four chunks to correct
+  pub mended-most : (image : List ℕ) (p : ℕ) → mendedChunks format image p ≤ 4
   -- an image of whole clusters has two pages for each
   pub cluster-pages : (bytes : ℕ) → bytes % clusterBytes format ≡ 0 → pagesIn format bytes ≡ 2 * (bytes / clusterBytes format)
   -- a page read depends only on its own bytes and the image's length

@@ -8,6 +8,7 @@ use lib.ListN.{length, getD, replicate}
 use Rattle.ecc.specs.declared.Verdict.the-variants.{Good}
 use Rattle.page.specs.declared.Format.{Format}
 use Rattle.page.specs.declared.Format.the-variants.{Plain, Raw}
+use Rattle.page.specs.Mended.{mendedChunks}
 use Rattle.page.specs.Page.{clusterBytes, isSome, pageAt, pageStart, pagesIn, put, storedPage, verdictOf}
 use Rattle.page.specs.PageLaws.{Inside}
 
@@ -59,6 +60,9 @@ pub record TwinLaws : Type 0 where
   -- where the codes match every page is readable, and in a plain image every page is
   pub codes-readable : (raw : List ℕ) (p : ℕ) → CodesMatch raw → Inside Raw raw p → isSome (pageAt Raw raw p) ≡ true
   pub plain-readable : (image : List ℕ) (p : ℕ) → Inside Plain image p → isSome (pageAt Plain image p) ≡ true
+  -- no chunk is corrected where the codes match, nor in a plain image
+  pub codes-mended : (raw : List ℕ) (p : ℕ) → CodesMatch raw → mendedChunks Raw raw p ≡ 0
+  pub plain-mended : (image : List ℕ) (p : ℕ) → mendedChunks Plain image p ≡ 0
   -- a plain image is known by its data
   pub plain-one : {one : Format} {image twin other : List ℕ} → SameData one Plain image twin → SameData one Plain image other → twin ≡ other
   -- whole pages hold just those pages, and whole clusters are whole pages

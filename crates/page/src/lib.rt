@@ -4,8 +4,9 @@ mod raw;
 use raw::read_raw;
 use raw::write_raw;
 ghost use mathlib.Core.Path.{_≡_};
-ghost use Prim.Native.Nat.{_^_, _<_};
+ghost use Prim.Native.Nat.{_+_, _^_, _<_, _≤_};
 ghost use lib.ListN.{length};
+ghost use Rattle.page.specs.Mended.{chunksIn, mendedAt, mendedChunks, mendedStored, noneMended, one, wrapped};
 ghost use Rattle.page.specs.Page.{pageBytes, clusterBytes, pagesIn, pageStart, readStored, Read, pageAt, storedAs, sameBytes, holds, written, rewritten};
 ghost use Rattle.page.specs.PageLaws.{LawsOfPages};
 ghost use Rattle.page.specs.Twins.{TwinLaws};
@@ -56,30 +57,106 @@ fn page_start(format: Format, page: usize) -> usize
     }
 }
 
+// Which of a page's four chunks were corrected as it was read.
+pub struct Mended {
+    pub chunk0: bool,
+    pub chunk1: bool,
+    pub chunk2: bool,
+    pub chunk3: bool,
+}
+
+// Whether a page has data, and which chunks of it were corrected.
+pub struct PageRead {
+    pub readable: bool,
+    pub mended: Mended,
+}
+
+fn none_mended() -> Mended
+    ensures { λ r. ⌜ r ≡ noneMended ⌝ }
+{
+    Mended {
+        chunk0: false,
+        chunk1: false,
+        chunk2: false,
+        chunk3: false,
+    }
+}
+
+// 1 for a chunk that was corrected.
+fn one(mended: bool) -> usize
+    ensures { λ r. ⌜ (r ≡ one mended) × (r ≤ 1) ⌝ }
+{
+    if mended {
+        return 1;
+    }
+    0
+}
+
+impl Mended {
+    // How many chunks were corrected.
+    pub fn count(self) -> usize
+        ensures { λ r. ⌜ (r ≡ chunksIn self) × (r ≤ 4) ⌝ }
+    {
+        one(self.chunk0) + one(self.chunk1) + one(self.chunk2) + one(self.chunk3)
+    }
+}
+
 // The data of a page by its bytes in the image is written to `out`; else `out` stays.
-fn read_stored(format: Format, page: &[u8], out: &mut [u8]) -> bool
+fn read_stored(format: Format, page: &[u8], out: &mut [u8]) -> PageRead
     requires { ⌜ (length (now page) ≡ pageBytes format) × (length (now out) ≡ 512) ⌝ }
-    ensures { λ r. ⌜ Read (readStored format (now (page .entry))) (now (out .entry)) r (now (out .exit)) ⌝ }
+    ensures read { λ r. ⌜ Read (readStored format (now (page .entry))) (now (out .entry)) (r .readable) (now (out .exit)) ⌝ }
+    ensures mended { λ r. ⌜ r .mended ≡ mendedStored format (now (page .entry)) ⌝ }
 {
     match format {
         Format::Raw => read_raw(page, out),
         Format::Plain => {
             bytes::copy(page, out);
-            true
+            PageRead {
+                readable: true,
+                mended: none_mended(),
+            }
         }
     }
 }
 
-// Reads page `page` into `out`. False, and `out` as it was, where the page is unreadable or not in the image.
-pub fn read_page(format: Format, image: &[u8], page: usize, out: &mut [u8; 512]) -> bool
-    ensures { λ r. ⌜ Read (pageAt format (now (image .entry)) page) (now (out .entry)) r (now (out .exit)) ⌝ }
+// Reads page `page` into `out`, and tells which of its chunks were corrected. Not readable, and `out` as it was, where the
+// page is unreadable or not in the image.
+pub fn read_page(format: Format, image: &[u8], page: usize, out: &mut [u8; 512]) -> PageRead
+    ensures read { λ r. ⌜ Read (pageAt format (now (image .entry)) page) (now (out .entry)) (r .readable) (now (out .exit)) ⌝ }
+    ensures mended { λ r. ⌜ r .mended ≡ mendedAt format (now (image .entry)) page ⌝ }
 {
     if page < page_count(format, image) {
         let from = page_start(format, page);
         let to = from + page_bytes(format);
         return read_stored(format, &image[from..to], out);
     }
-    false
+    PageRead {
+        readable: false,
+        mended: none_mended(),
+    }
+}
+
+// The same, with the corrected chunks added to a count, which wraps past 64 bits. Whether there is data is the answer.
+pub fn read_counted(
+    format: Format,
+    image: &[u8],
+    page: usize,
+    out: &mut [u8; 512],
+    mended: &mut usize,
+) -> bool
+    ensures read { λ r. ⌜ Read (pageAt format (now (image .entry)) page) (now (out .entry)) r (now (out .exit)) ⌝ }
+    ensures counted { λ _. ⌜ now (mended .exit) ≡ wrapped (now (mended .entry) + mendedChunks format (now (image .entry)) page) ⌝ }
+{
+    let read = read_page(format, image, page, out);
+    *mended = std::num::wrapping_add_usize(*mended, read.mended.count());
+    read.readable
+}
+
+// A count that was lent, as it stands. It fits 64 bits, which is known of a value and not of what was lent.
+pub fn settled(count: usize) -> usize
+    ensures { λ r. ⌜ (r ≡ count) × (r < 2 ^ 64) ⌝ }
+{
+    count
 }
 
 // The data is stored in a page's bytes in the image, in a raw one with fresh codes.
@@ -117,7 +194,7 @@ fn holds_data(format: Format, image: &[u8], page: usize, bytes: &[u8; 512]) -> b
     ensures { λ r. ⌜ r ≡ holds (pageAt format (now (image .entry)) page) (now (bytes .entry)) ⌝ }
 {
     let mut old = [0u8; 512];
-    if read_page(format, image, page, &mut old) {
+    if read_page(format, image, page, &mut old).readable {
         return same_data(&old, bytes);
     }
     false

@@ -1,10 +1,14 @@
 // One raw page: 512 data bytes and 16 spare bytes, which hold the code of each chunk.
+use crate::Mended;
+use crate::PageRead;
+use crate::none_mended;
 use ecc::Code;
 use ecc::Verdict;
 ghost use mathlib.Core.Path.{_≡_};
 ghost use Prim.Native.Nat.{_+_, _*_, _<_};
 ghost use lib.ListN.{length};
 ghost use Rattle.ecc.specs.Judge.{corrected, flipAt};
+ghost use Rattle.page.specs.Mended.{isMended, mendedBy, mendedRaw};
 ghost use Rattle.page.specs.Page.{putAt, chunkOf, verdictOf, isReadable, Placed, correctedData, readRaw, Read, freshCode, codedPage};
 
 // The verdict on chunk k of a raw page: the chunk is lent as a part of the page, beside its code bytes.
@@ -31,6 +35,29 @@ fn is_readable(verdict: Verdict) -> bool
         Verdict::DataBit { byte: _, bit: _ } => true,
         Verdict::CodeBit => true,
         Verdict::Unreadable => false,
+    }
+}
+
+// Whether a chunk was corrected, by a data bit or a code bit.
+fn is_mended(verdict: Verdict) -> bool
+    ensures { λ r. ⌜ r ≡ isMended verdict ⌝ }
+{
+    match verdict {
+        Verdict::Good => false,
+        Verdict::DataBit { byte: _, bit: _ } => true,
+        Verdict::CodeBit => true,
+        Verdict::Unreadable => false,
+    }
+}
+
+fn mended_by(v0: Verdict, v1: Verdict, v2: Verdict, v3: Verdict) -> Mended
+    ensures { λ r. ⌜ r ≡ mendedBy v0 v1 v2 v3 ⌝ }
+{
+    Mended {
+        chunk0: is_mended(v0),
+        chunk1: is_mended(v1),
+        chunk2: is_mended(v2),
+        chunk3: is_mended(v3),
     }
 }
 
@@ -83,9 +110,10 @@ fn copy_data(page: &[u8], v0: Verdict, v1: Verdict, v2: Verdict, v3: Verdict, ou
 }
 
 // The data of a raw page is written to `out` once all four chunks are judged readable; else `out` stays.
-pub(crate) fn read_raw(page: &[u8], out: &mut [u8]) -> bool
+pub(crate) fn read_raw(page: &[u8], out: &mut [u8]) -> PageRead
     requires { ⌜ (length (now page) ≡ 528) × (length (now out) ≡ 512) ⌝ }
-    ensures { λ r. ⌜ Read (readRaw (now (page .entry))) (now (out .entry)) r (now (out .exit)) ⌝ }
+    ensures read { λ r. ⌜ Read (readRaw (now (page .entry))) (now (out .entry)) (r .readable) (now (out .exit)) ⌝ }
+    ensures mended { λ r. ⌜ r .mended ≡ mendedRaw (now (page .entry)) ⌝ }
 {
     let v0 = judge_part(page, 0);
     let v1 = judge_part(page, 1);
@@ -93,9 +121,15 @@ pub(crate) fn read_raw(page: &[u8], out: &mut [u8]) -> bool
     let v3 = judge_part(page, 3);
     if is_readable(v0) & (is_readable(v1) & (is_readable(v2) & is_readable(v3))) {
         copy_data(page, v0, v1, v2, v3, out);
-        return true;
+        return PageRead {
+            readable: true,
+            mended: mended_by(v0, v1, v2, v3),
+        };
     }
-    false
+    PageRead {
+        readable: false,
+        mended: none_mended(),
+    }
 }
 
 // The fresh code of chunk k of the data is stored in a raw page.

@@ -12,6 +12,8 @@ use Rattle.model.specs.Entry.{Entry}
 use Rattle.tree.specs.Counted.{checkOf}
 use Rattle.tree.specs.declared.Counts.{Counts}
 use Rattle.lookup.specs.Find.{findOf}
+use Rattle.layout.specs.Mended.{mendedOf}
+use Rattle.lookup.specs.Mended.{readMended}
 use Rattle.lookup.specs.Read.{readOf}
 use Rattle.lookup.specs.Step.{stepOf}
 use Rattle.listing.specs.Text.{listingOf, refusalText}
@@ -32,6 +34,13 @@ stepBy number image path slot = byFormat number (fault 1 0) (λ format. stepOf f
 
 abbrev pub readBy : ℕ → List ℕ → List ℕ → ℕ → ℕ → Result (List ℕ)
 readBy number image path offset count = byFormat number (fault 1 0) (λ format. readOf format image path offset count)
+
+-- what is reported besides: the corrected chunks of the pages that the check needs, and with those that a read copies from
+abbrev pub mendedBy : ℕ → List ℕ → ℕ
+mendedBy number image = byFormat number 0 (λ format. mendedOf format image)
+
+abbrev pub readMendedBy : ℕ → List ℕ → List ℕ → ℕ → ℕ → ℕ
+readMendedBy number image path offset count = byFormat number 0 (λ format. readMended format image path offset count)
 
 abbrev pub listBy : ℕ → List ℕ → List ℕ
 listBy number image = byFormat number (refusalText 1 0) (λ format. listingOf format image)

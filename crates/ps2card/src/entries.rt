@@ -9,8 +9,9 @@ use lookup::finding::find;
 use lookup::stepping::Stepped;
 use lookup::stepping::step;
 ghost use mathlib.Core.Path.{_≡_};
+ghost use Rattle.lookup.specs.Mended.{reported};
 ghost use Rattle.ps2card.specs.Answer.{entryAfter, foundIn, numberIn, pageAfter, valueAfter};
-ghost use Rattle.ps2card.specs.Formats.{findBy, stepBy};
+ghost use Rattle.ps2card.specs.Formats.{findBy, mendedBy, stepBy};
 
 // Hands out every field of an entry.
 fn hand_out(
@@ -46,7 +47,7 @@ fn hand_out(
     *name = field;
 }
 
-// The entry at a path; a refusal leaves every field as it was.
+// The entry at a path, with the corrected chunks; a refusal leaves every field and the count as they were.
 #[no_mangle]
 pub extern "C" fn ps2card_find(
     format: u32,
@@ -61,9 +62,11 @@ pub extern "C" fn ps2card_find(
     modified: &mut [u8; 8],
     attribute: &mut u32,
     name: &mut [u8; 32],
+    mended: &mut usize,
 ) -> u32
     ensures { λ r. ⌜ r ≡ numberIn (findBy format (now (image .entry)) (now (path .entry))) ⌝ }
     ensures { λ r. ⌜ now (page .exit) ≡ pageAfter (findBy format (now (image .entry)) (now (path .entry))) (now (page .entry)) ⌝ }
+    ensures { λ r. ⌜ now (mended .exit) ≡ reported (findBy format (now (image .entry)) (now (path .entry))) (mendedBy format (now (image .entry))) (now (mended .entry)) ⌝ }
     ensures { λ r. ⌜ now (mode .exit) ≡ valueAfter (λ e. e .mode) (findBy format (now (image .entry)) (now (path .entry))) (now (mode .entry)) ⌝ }
     ensures { λ r. ⌜ now (length .exit) ≡ valueAfter (λ e. e .length) (findBy format (now (image .entry)) (now (path .entry))) (now (length .entry)) ⌝ }
     ensures { λ r. ⌜ now (created .exit) ≡ valueAfter (λ e. e .created) (findBy format (now (image .entry)) (now (path .entry))) (now (created .entry)) ⌝ }
@@ -77,7 +80,7 @@ pub extern "C" fn ps2card_find(
     match named {
         Named::Unknown => tell_refusal(Refusal::BadLength, page),
         Named::Known(known) => {
-            let found = find(known, image, path);
+            let found = find(known, image, path, mended);
             let outcome = found.outcome;
             match outcome {
                 Outcome::Refused(refusal) => tell_refusal(refusal, page),
@@ -102,7 +105,7 @@ pub extern "C" fn ps2card_find(
 }
 
 // The first live entry of a directory from a slot on, never before slot 2: `found` is 1, `at` its slot. At the end `found` is 0, and
-// slot and fields stay as they were, as all do on a refusal.
+// slot and fields stay as they were, as all do on a refusal. The corrected chunks are told at the end too.
 #[no_mangle]
 pub extern "C" fn ps2card_step(
     format: u32,
@@ -120,9 +123,11 @@ pub extern "C" fn ps2card_step(
     modified: &mut [u8; 8],
     attribute: &mut u32,
     name: &mut [u8; 32],
+    mended: &mut usize,
 ) -> u32
     ensures { λ r. ⌜ r ≡ numberIn (stepBy format (now (image .entry)) (now (path .entry)) slot) ⌝ }
     ensures { λ r. ⌜ now (page .exit) ≡ pageAfter (stepBy format (now (image .entry)) (now (path .entry)) slot) (now (page .entry)) ⌝ }
+    ensures { λ r. ⌜ now (mended .exit) ≡ reported (stepBy format (now (image .entry)) (now (path .entry)) slot) (mendedBy format (now (image .entry))) (now (mended .entry)) ⌝ }
     ensures { λ r. ⌜ now (found .exit) ≡ valueAfter foundIn (stepBy format (now (image .entry)) (now (path .entry)) slot) (now (found .entry)) ⌝ }
     ensures { λ r. ⌜ now (at .exit) ≡ entryAfter (λ x. x .0) (stepBy format (now (image .entry)) (now (path .entry)) slot) (now (at .entry)) ⌝ }
     ensures { λ r. ⌜ now (mode .exit) ≡ entryAfter (λ x. x .1 .mode) (stepBy format (now (image .entry)) (now (path .entry)) slot) (now (mode .entry)) ⌝ }
@@ -138,7 +143,7 @@ pub extern "C" fn ps2card_step(
     match named {
         Named::Unknown => tell_refusal(Refusal::BadLength, page),
         Named::Known(known) => {
-            let stepped = step(known, image, path, slot);
+            let stepped = step(known, image, path, slot, mended);
             let place = stepped.place;
             match place {
                 Stepped::Refused(refusal) => tell_refusal(refusal, page),

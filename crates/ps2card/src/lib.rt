@@ -27,7 +27,7 @@ pub(crate) fn tell_refusal(refusal: Refusal, page: &mut usize) -> u32
     number
 }
 
-// The check of a card: N, free, reached, orphaned and held back; a refusal leaves them as they were.
+// The check of a card: N, free, reached, orphaned and held back, and the corrected chunks; a refusal leaves them as they were.
 #[no_mangle]
 pub extern "C" fn ps2card_check(
     format: u32,
@@ -38,6 +38,7 @@ pub extern "C" fn ps2card_check(
     reached: &mut usize,
     orphaned: &mut usize,
     held: &mut usize,
+    mended: &mut usize,
 ) -> u32
     ensures { λ r. ⌜ r ≡ numberIn (checkBy format (now (image .entry))) ⌝ }
     ensures { λ r. ⌜ now (page .exit) ≡ pageAfter (checkBy format (now (image .entry))) (now (page .entry)) ⌝ }
@@ -46,6 +47,7 @@ pub extern "C" fn ps2card_check(
     ensures { λ r. ⌜ now (reached .exit) ≡ valueAfter (λ c. c .reached) (checkBy format (now (image .entry))) (now (reached .entry)) ⌝ }
     ensures { λ r. ⌜ now (orphaned .exit) ≡ valueAfter (λ c. c .orphaned) (checkBy format (now (image .entry))) (now (orphaned .entry)) ⌝ }
     ensures { λ r. ⌜ now (held .exit) ≡ valueAfter (λ c. c .held) (checkBy format (now (image .entry))) (now (held .entry)) ⌝ }
+    ensures { λ r. ⌜ now (mended .exit) ≡ valueAfter (λ c. c .mended) (checkBy format (now (image .entry))) (now (mended .entry)) ⌝ }
 {
     let named = format_of(format);
     match named {
@@ -58,6 +60,7 @@ pub extern "C" fn ps2card_check(
                 *reached = counts.reached;
                 *orphaned = counts.orphaned;
                 *held = counts.held;
+                *mended = counts.mended;
                 0
             }
         },

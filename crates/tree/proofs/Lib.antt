@@ -8,5 +8,6 @@ pub mod PageReads
 pub mod TellLaws
 pub mod TaskLaws
 pub mod RootLaws
+pub mod MendedLaws
 pub mod CheckLaws
 pub mod SumLaws

@@ -1,11 +1,12 @@
 -- What the code reads of a slot, and the names before it, are the view's.
 use Rattle.layout.specs.See.{imagePage, pageIn}
 use Rattle.layout.specs.declared.Geometry.{Geometry}
-use Prim.Native.Nat.{_%_, _*_, _+_, _<_, _≤_, ℕ}
+use Prim.Native.Nat.{_%_, _*_, _+_, _<_, _^_, _≤_, ℕ}
 use mathlib.Core.Bool.{Bool, cond, false, true}
 use mathlib.Core.List.{List}
 use mathlib.Core.Option.{Option, none, some}
 use mathlib.Core.Path.{_∙_, _≡_, ap, refl, sym}
+use native.Mathlib.Nat.{mod-mod}
 use native.Mathlib.Numerals.{add-one}
 use native.Mathlib.Omega.{arith}
 use borrow.Author.Tests.{eq-eqb, ltb-false, ltb-true, ne-eqb}
@@ -17,12 +18,14 @@ use Rattle.model.specs.Entry.{Entry, entryOf, isFile, isLive, isSubdirectory}
 use Rattle.model.specs.Names.{Name}
 use Rattle.model.specs.Pages.{decoded}
 use Rattle.model.specs.View.{View}
+use Rattle.page.specs.Mended.{wrapped}
 use Rattle.page.specs.Page.{Read, isSome, orKept, pageAt}
 use Rattle.tree.specs.declared.walk.Look.{Look}
 use Rattle.tree.specs.declared.walk.Look.the-variants as look
+use Rattle.tree.specs.Mended.{countAfter}
 use Rattle.tree.specs.Met.{Grows, Knows, hashOf, isMet, markOf, mostPages, withName}
 use Rattle.tree.specs.Slots.{clusterAt, liveBefore, liveHit, nextOf, slotPage, clusterAfter}
-use Rattle.tree.specs.Walk.{lookBy, lookedAt, pickLook}
+use Rattle.tree.specs.Walk.{LookAdds, lookBy, lookedAt, pickLook}
 use Rattle.tree.proofs.MetLaws.{grows-self, knows-learnt, knows-new, knows-skip, learnt-grows}
 
 -- ---- a page that was read
@@ -40,6 +43,26 @@ was-read {o} {before} {after} k e = go o (sym (k .readable) ∙ e) (k .buffer)
     go : (o : Option (List ℕ)) → isSome o ≡ true → after ≡ orKept o before → decoded o ≡ some (entryOf after)
     go none h b = tf h refl
     go (some d) h b = ap {B = Option Entry} (λ x. some (entryOf x)) (sym b)
+
+-- it added its chunks to the count
+pub read-adds : {o : Option (List ℕ)} {before after : List ℕ} {r : Bool} (chunks n : ℕ) {count : ℕ} → Read o before r after → r ≡ true
+    → count ≡ countAfter o chunks n → wrapped count ≡ wrapped (n + chunks)
+read-adds {o} chunks n {count} k e = go o (sym (k .readable) ∙ e)
+  where
+    go : (o : Option (List ℕ)) → isSome o ≡ true → count ≡ countAfter o chunks n → wrapped count ≡ wrapped (n + chunks)
+    go none h c = tf h refl
+    go (some d) h c = rw c (mod-mod (n + chunks) (2 ^ 64))
+
+-- a third fact beside two
+pub also : {A B C : Type 0} → A × B → C → A × (B × C)
+also x y = (x .0, (x .1, y))
+
+pub look-adds : (seen : Look) (n chunks count : ℕ) → wrapped count ≡ wrapped (n + chunks) → LookAdds seen n chunks count
+look-adds (look.Unreadable page) n chunks count h = tt
+look-adds look.Bad n chunks count h = h
+look-adds look.Dead n chunks count h = h
+look-adds (look.File len first) n chunks count h = h
+look-adds (look.Directory len first) n chunks count h = h
 
 -- a page that was read is one of the allocatable clusters
 pub read-low : (geometry : Geometry) (count : ℕ) (image : List ℕ) (page : ℕ) {before after : List ℕ} {r : Bool} → Read (pageIn geometry count image page) before r after → r ≡ true → page < 2 * count

@@ -19,7 +19,7 @@ module _ (image : List ℕ) (s : Superblock) (c : Counts) where
   Total = c .free + c .reached + c .orphaned + c .held ≡ s .end
 
   told-all : Superblock × Root × Marks → Result Counts
-  told-all x = ok (countsIn (x .0) (see (x .0) image) (x .1))
+  told-all x = ok (countsIn image (x .0) (x .1))
 
   opened-adds : (t : Superblock) (r : Result (Root × Marks)) → checkTree (see t image) ≡ r
       → superblockIn (andThen (onImage (t .geometry) r) (λ x. ok (t, x .0, x .1))) ≡ ok s
@@ -27,7 +27,7 @@ module _ (image : List ℕ) (s : Superblock) (c : Counts) where
   unfolding andThen told-all
   opened-adds t (fault n p) h e f = fault-ok _ _ _ e
   opened-adds t (ok x) h e f =
-      rw (← ok-inj t s e, ← ok-inj (countsIn t (see t image) (x .0)) c f) (counts-add-up (mayTakeBy t) (t .end) (see t image) (x .0) (x .1) h)
+      rw (← ok-inj t s e, ← ok-inj (countsIn image t (x .0)) c f) (counts-add-up (mayTakeBy t) (t .end) (see t image) (x .0) (x .1) h)
 
   adds : (r : Result Superblock) → superblockIn (andThen r (checkedBy image)) ≡ ok s → andThen (andThen r (checkedBy image)) told-all ≡ ok c → Total
   unfolding andThen

@@ -29,64 +29,64 @@ use Rattle.tree.proofs.TellLaws.{directory-bad, directory-deep, directo
 positive : (n : ℕ) → (n ≡ 0 → ⊥) → 0 < n
 positive n h = omega arith
 
-module _ (t : List ℕ) (small : length t ≤ mostClusters) (v : View) (links : (c : ℕ) → v .link c ≡ tableLinks t c) (geometry : Geometry) (below : ℕ)
-    (r : Reached) (s : Sound r) where
+module _ (t : List ℕ) (small : length t ≤ mostClusters) (v : View) (mend : ℕ → ℕ) (links : (c : ℕ) → v .link c ≡ tableLinks t c) (geometry : Geometry) (below : ℕ)
+    (r : Reached) (s : Sound r) (n : ℕ) where
   -- an empty file's chain is sound and leaves the record
-  empty-file : (len first : ℕ) → (eqb len 0 && eqb first endMark) ≡ true → Tells (enteredLook v geometry below t (marksOf r) (look.File len first)) verdict.Sound r
+  empty-file : (len first : ℕ) → (eqb len 0 && eqb first endMark) ≡ true → Tells (enteredLook v mend geometry below t (marksOf r) n (look.File len first)) verdict.Sound r n
   empty-file len first e =
       let none : len ≡ 0 = eqb-true len 0 (and-l (eqb len 0) (eqb first endMark) e) in
       let over : clustersFor len ≡ 0 = omega arith in
       let chain = chain-none t r first (clustersFor len) over in
       let last = and-r (eqb len 0) (eqb first endMark) e in
-      rw chain at (file-good t small v links geometry r s len first (clustersFor len) (chainBehind t r first (clustersFor len)) refl below refl (ap (λ x. x .sound) chain ∙ last))
+      rw chain at (file-good t small v mend links geometry r s n len first (clustersFor len) (chainBehind t r first (clustersFor len)) refl below refl (ap (λ x. x .sound) chain ∙ last))
 
   -- a slot that leads to no chain
-  pub task-idle : (seen : Look) → taskOf below seen .follows ≡ false → Tells (enteredLook v geometry below t (marksOf r) seen) (taskOf below seen .verdict) r
+  pub task-idle : (seen : Look) → taskOf below seen .follows ≡ false → Tells (enteredLook v mend geometry below t (marksOf r) n seen) (taskOf below seen .verdict) r n
   task-idle (look.Unreadable page) e = (refl, refl)
   task-idle look.Bad e = (refl, refl)
-  task-idle look.Dead e = keeps-self r s
+  task-idle look.Dead e = (keeps-self r s, refl)
   task-idle (look.File len first) e = go (eqb len 0 && eqb first endMark) refl e
     where
       go : (b : Bool) → (eqb len 0 && eqb first endMark) ≡ b → taskOf below (look.File len first) .follows ≡ false
-          → Tells (enteredLook v geometry below t (marksOf r) (look.File len first)) (taskOf below (look.File len first) .verdict) r
+          → Tells (enteredLook v mend geometry below t (marksOf r) n (look.File len first)) (taskOf below (look.File len first) .verdict) r n
       go true f e = rw f (empty-file len first f)
       go false f e = tf refl (rw f at e)
   task-idle (look.Directory len first) e = go (eqb below 0) refl e
     where
       go : (b : Bool) → eqb below 0 ≡ b → taskOf below (look.Directory len first) .follows ≡ false
-          → Tells (enteredLook v geometry below t (marksOf r) (look.Directory len first)) (taskOf below (look.Directory len first) .verdict) r
-      go true f e = rw f (directory-deep v geometry t r (marksOf r) below len first (eqb-true below 0 f))
+          → Tells (enteredLook v mend geometry below t (marksOf r) n (look.Directory len first)) (taskOf below (look.Directory len first) .verdict) r n
+      go true f e = rw f (directory-deep v mend geometry t r (marksOf r) n below len first (eqb-true below 0 f))
       go false f e = tf refl (rw f at e)
 
   module _ (x : Chain) where
     -- a chain with nothing behind it: a file's, or a directory's that is not sound
     pub task-chain : (seen : Look) → taskOf below seen .follows ≡ true → x ≡ chainBehind t r (taskOf below seen .first) (taskOf below seen .clusters)
-        → (x .sound && taskOf below seen .enters) ≡ false → Tells (enteredLook v geometry below t (marksOf r) seen) (soundBy (x .sound)) (x .reached)
+        → (x .sound && taskOf below seen .enters) ≡ false → Tells (enteredLook v mend geometry below t (marksOf r) n seen) (soundBy (x .sound)) (x .reached) n
     task-chain (look.Unreadable page) e c f = tf e refl
     task-chain look.Bad e c f = tf e refl
     task-chain look.Dead e c f = tf e refl
     task-chain (look.File len first) e c f = go (eqb len 0 && eqb first endMark) refl e c
       where
-        told : (b : Bool) → x .sound ≡ b → x ≡ chainBehind t r first (clustersFor len) → Tells (enteredLook v geometry below t (marksOf r) (look.File len first)) (soundBy b) (x .reached)
-        told true q c = file-good t small v links geometry r s len first (clustersFor len) x c below refl q
-        told false q c = file-bad t small v links geometry r s len first (clustersFor len) x c below refl q
+        told : (b : Bool) → x .sound ≡ b → x ≡ chainBehind t r first (clustersFor len) → Tells (enteredLook v mend geometry below t (marksOf r) n (look.File len first)) (soundBy b) (x .reached) n
+        told true q c = file-good t small v mend links geometry r s n len first (clustersFor len) x c below refl q
+        told false q c = file-bad t small v mend links geometry r s n len first (clustersFor len) x c below refl q
 
         go : (b : Bool) → (eqb len 0 && eqb first endMark) ≡ b → taskOf below (look.File len first) .follows ≡ true
             → x ≡ chainBehind t r (taskOf below (look.File len first) .first) (taskOf below (look.File len first) .clusters)
-            → Tells (enteredLook v geometry below t (marksOf r) (look.File len first)) (soundBy (x .sound)) (x .reached)
+            → Tells (enteredLook v mend geometry below t (marksOf r) n (look.File len first)) (soundBy (x .sound)) (x .reached) n
         go true f e c = tf (rw f at e) refl
         go false f e c = told (x .sound) refl (rw f at c)
     task-chain (look.Directory len first) e c f = go (eqb below 0) refl e c f
       where
         told : (b : Bool) → x .sound ≡ b → (b && true) ≡ false → 0 < below → x ≡ chainBehind t r first ((len + 1) / 2)
-            → Tells (enteredLook v geometry below t (marksOf r) (look.Directory len first)) (soundBy b) (x .reached)
+            → Tells (enteredLook v mend geometry below t (marksOf r) n (look.Directory len first)) (soundBy b) (x .reached) n
         told true q h l c = tf refl h
-        told false q h l c = directory-bad t small v links geometry r s len first ((len + 1) / 2) x c below l refl q
+        told false q h l c = directory-bad t small v mend links geometry r s n len first ((len + 1) / 2) x c below l refl q
 
         go : (b : Bool) → eqb below 0 ≡ b → taskOf below (look.Directory len first) .follows ≡ true
             → x ≡ chainBehind t r (taskOf below (look.Directory len first) .first) (taskOf below (look.Directory len first) .clusters)
             → (x .sound && taskOf below (look.Directory len first) .enters) ≡ false
-            → Tells (enteredLook v geometry below t (marksOf r) (look.Directory len first)) (soundBy (x .sound)) (x .reached)
+            → Tells (enteredLook v mend geometry below t (marksOf r) n (look.Directory len first)) (soundBy (x .sound)) (x .reached) n
         go true f e c h = tf (rw f at e) refl
         go false f e c h = let some-below = eqb-false below 0 f in told (x .sound) refl (rw f at h) (positive below some-below) (rw f at c)
 
@@ -94,8 +94,8 @@ module _ (t : List ℕ) (small : length t ≤ mostClusters) (v : View) (links : 
     pub task-inside : (seen : Look) → taskOf below seen .follows ≡ true → x ≡ chainBehind t r (taskOf below seen .first) (taskOf below seen .clusters)
         → (x .sound && taskOf below seen .enters) ≡ true
         → (0 < below) × Sound (x .reached)
-        × ((w : Verdict) (z : Reached) → Tells (onImage geometry (insideOf v (below - 1) t (taskOf below seen .first) (taskOf below seen .entries) (marksOf (x .reached)))) w z
-        → Tells (enteredLook v geometry below t (marksOf r) seen) w z)
+        × ((w : Verdict) (z : Reached) (later : ℕ) → Tells (onImage geometry (insideOf v mend (below - 1) t (taskOf below seen .first) (taskOf below seen .entries) (marksOf (x .reached)) n)) w z later
+        → Tells (enteredLook v mend geometry below t (marksOf r) n seen) w z later)
     task-inside (look.Unreadable page) e c f = tf e refl
     task-inside look.Bad e c f = tf e refl
     task-inside look.Dead e c f = tf e refl
@@ -103,9 +103,9 @@ module _ (t : List ℕ) (small : length t ≤ mostClusters) (v : View) (links : 
       where
         go : (b : Bool) → (eqb len 0 && eqb first endMark) ≡ b → (x .sound && taskOf below (look.File len first) .enters) ≡ true
             → (0 < below) × Sound (x .reached)
-            × ((w : Verdict) (z : Reached)
-            → Tells (onImage geometry (insideOf v (below - 1) t (taskOf below (look.File len first) .first) (taskOf below (look.File len first) .entries) (marksOf (x .reached)))) w z
-            → Tells (enteredLook v geometry below t (marksOf r) (look.File len first)) w z)
+            × ((w : Verdict) (z : Reached) (later : ℕ)
+            → Tells (onImage geometry (insideOf v mend (below - 1) t (taskOf below (look.File len first) .first) (taskOf below (look.File len first) .entries) (marksOf (x .reached)) n)) w z later
+            → Tells (enteredLook v mend geometry below t (marksOf r) n (look.File len first)) w z later)
         go true q f = tf (and-r (x .sound) false (rw q at f)) refl
         go false q f = tf (and-r (x .sound) false (rw q at f)) refl
     task-inside (look.Directory len first) e c f = go (eqb below 0) refl e c f
@@ -114,15 +114,15 @@ module _ (t : List ℕ) (small : length t ≤ mostClusters) (v : View) (links : 
             → x ≡ chainBehind t r (taskOf below (look.Directory len first) .first) (taskOf below (look.Directory len first) .clusters)
             → (x .sound && taskOf below (look.Directory len first) .enters) ≡ true
             → (0 < below) × Sound (x .reached)
-            × ((w : Verdict) (z : Reached)
-            → Tells (onImage geometry (insideOf v (below - 1) t (taskOf below (look.Directory len first) .first) (taskOf below (look.Directory len first) .entries) (marksOf (x .reached)))) w z
-            → Tells (enteredLook v geometry below t (marksOf r) (look.Directory len first)) w z)
+            × ((w : Verdict) (z : Reached) (later : ℕ)
+            → Tells (onImage geometry (insideOf v mend (below - 1) t (taskOf below (look.Directory len first) .first) (taskOf below (look.Directory len first) .entries) (marksOf (x .reached)) n)) w z later
+            → Tells (enteredLook v mend geometry below t (marksOf r) n (look.Directory len first)) w z later)
         go true q e c f = tf (rw q at e) refl
         go false q e c f =
             let l = positive below (eqb-false below 0 q) in
             let chain = rw q at c in
             let good = and-l (x .sound) true (rw q at f) in (
               l,
-              directory-sound t small v links geometry r s len first ((len + 1) / 2) x chain good,
-              λ w z h. directory-good t small v links geometry r s len first ((len + 1) / 2) x chain below l refl good w z (rw q at h),
+              directory-sound t small v mend links geometry r s n len first ((len + 1) / 2) x chain good,
+              λ w z later h. directory-good t small v mend links geometry r s n len first ((len + 1) / 2) x chain below l refl good w z later (rw q at h),
             )

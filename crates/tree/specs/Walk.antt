@@ -1,10 +1,12 @@
--- What the walk's functions answer, in terms of the model's check; the tree is left out, only what was reached is told.
-use Prim.Native.Nat.{ℕ, _+_, _-_, _/_, pred}
+-- What the walk's functions answer, in terms of the model's check; the tree is left out: what was reached is told, and how many
+-- chunks were corrected, as a count that each page adds to. `mend` says how many of each page.
+use Prim.Native.Nat.{ℕ, _*_, _+_, _-_, _/_, pred}
 use mathlib.Core.Bool.{Bool, _&&_, true, false, cond}
-use mathlib.Core.List.{List, [], _∷_}
+use mathlib.Core.List.{List, [], _++_, _∷_}
 use mathlib.Core.Option.{Option, none, some}
 use mathlib.Core.Path.{_≡_}
 use lib.Dec.{eqb, ltb}
+use Rattle.page.specs.Mended.{wrapped}
 use Rattle.fields.specs.declared.kinds.Kind.{Kind}
 use Rattle.fields.specs.declared.kinds.Kind.the-variants as kind
 use Rattle.layout.specs.declared.Geometry.{Geometry}
@@ -14,6 +16,7 @@ use Rattle.layout.specs.See.{imagePage, onImage}
 use Rattle.model.specs.Check.{Marks, Result, andThen, fault, followChain, judgeDot, judgeDots, marks, ok, walkDirectory}
 use Rattle.model.specs.Entry.{Entry, clustersFor, endMark, isFile, isLive, isSubdirectory}
 use Rattle.model.specs.Names.{Name}
+use Rattle.model.specs.Needed.{entryPagesOf, pagesBelow, totalOver}
 use Rattle.model.specs.Tree.{Root, Tree}
 use Rattle.model.specs.View.{View}
 use Rattle.reached.specs.declared.Reached.{Reached}
@@ -26,14 +29,15 @@ use Rattle.layout.specs.declared.Verdict.{Verdict}
 use Rattle.layout.specs.declared.Verdict.the-variants as verdict
 use Rattle.tree.specs.Slots.{liveBefore, nextOf, slotPage, slotPages}
 
--- what was reached, the tree left out
-abbrev pub marksOnly : Result (Tree × Marks) → Result Marks
-marksOnly (fault n p) = fault n p
-marksOnly (ok x) = ok (x .1)
+-- of slots in these pages: what was reached, and the count with the corrected chunks of the pages and of all directories below
+abbrev pub tallied : (ℕ → ℕ) → List ℕ → ℕ → Result (Tree × Marks) → Result (Marks × ℕ)
+tallied mend pages n (fault k p) = fault k p
+tallied mend pages n (ok x) = ok (x .1, wrapped (n + (totalOver mend pages + totalOver mend (pagesBelow (x .0)))))
 
-abbrev pub rootMarks : Result (Root × Marks) → Result Marks
-rootMarks (fault n p) = fault n p
-rootMarks (ok x) = ok (x .1)
+-- of the whole tree
+abbrev pub rootTallied : (ℕ → ℕ) → ℕ → Result (Root × Marks) → Result (Marks × ℕ)
+rootTallied mend n (fault k p) = fault k p
+rootTallied mend n (ok x) = ok (x .1, wrapped (n + totalOver mend (entryPagesOf (x .0))))
 
 -- ---- a slot before its chain
 
@@ -66,24 +70,39 @@ lookBy (kind.Directory length first) = look.Directory length first
 
 -- ---- what a slot leads to
 
+-- a slot whose page was read added its chunks to the count
+abbrev pub LookAdds : Look → ℕ → ℕ → ℕ → Type 0
+LookAdds (look.Unreadable page) before chunks after = Unit {0}
+LookAdds look.Bad before chunks after = wrapped after ≡ wrapped (before + chunks)
+LookAdds look.Dead before chunks after = wrapped after ≡ wrapped (before + chunks)
+LookAdds (look.File length first) before chunks after = wrapped after ≡ wrapped (before + chunks)
+LookAdds (look.Directory length first) before chunks after = wrapped after ≡ wrapped (before + chunks)
+
 -- a chain that is not sound is 6
-abbrev pub onChain : Option (List ℕ) → (List ℕ → Result Marks) → Result Marks
+abbrev pub onChain : Option (List ℕ) → (List ℕ → Result (Marks × ℕ)) → Result (Marks × ℕ)
 onChain none rest = fault 6 0
 onChain (some cs) rest = rest cs
 
--- The inside of a directory whose sound chain begins with cluster `first`: its first two entries, then its slots.
-unfoldable pub insideOf : View → ℕ → List ℕ → ℕ → ℕ → Marks → Result Marks
-insideOf v below table first length m =
-    marksOnly (andThen (judgeDots v (first ∷ [])) (λ x. walkDirectory v below (slotPages table (nextOf table first) 0 (length - 2)) (λ n. 0) m))
+-- the pages of a directory's first two entries, whose chain begins with cluster `first`
+abbrev pub dotPages : ℕ → List ℕ
+dotPages first = (2 * first) ∷ (2 * first + 1) ∷ []
 
-abbrev pub enteredLook : View → Geometry → ℕ → List ℕ → Marks → Look → Result Marks
-enteredLook v geometry below table m (look.Unreadable page) = fault 2 page
-enteredLook v geometry below table m look.Bad = fault 7 0
-enteredLook v geometry below table m look.Dead = ok m
-enteredLook v geometry below table m (look.File length first) = onChain (followChain v (clustersFor length) (firstLinkOf first) m) (λ cs. ok (marks m cs))
-enteredLook v geometry below table m (look.Directory length first) =
+-- The inside of a directory whose sound chain begins with cluster `first`: its first two entries, then its slots.
+unfoldable pub insideOf : View → (ℕ → ℕ) → ℕ → List ℕ → ℕ → ℕ → Marks → ℕ → Result (Marks × ℕ)
+insideOf v mend below table first length m n =
+    tallied mend (dotPages first ++ slotPages table (nextOf table first) 0 (length - 2)) n
+    (andThen (judgeDots v (first ∷ [])) (λ x. walkDirectory v below (slotPages table (nextOf table first) 0 (length - 2)) (λ n. 0) m))
+
+-- what was reached before, and the count with the slot's own page
+abbrev pub enteredLook : View → (ℕ → ℕ) → Geometry → ℕ → List ℕ → Marks → ℕ → Look → Result (Marks × ℕ)
+enteredLook v mend geometry below table m n (look.Unreadable page) = fault 2 page
+enteredLook v mend geometry below table m n look.Bad = fault 7 0
+enteredLook v mend geometry below table m n look.Dead = ok (m, wrapped n)
+enteredLook v mend geometry below table m n (look.File length first) =
+    onChain (followChain v (clustersFor length) (firstLinkOf first) m) (λ cs. ok (marks m cs, wrapped n))
+enteredLook v mend geometry below table m n (look.Directory length first) =
     cond (ltb 0 below)
-    (onChain (followChain v ((length + 1) / 2) (firstLinkOf first) m) (λ cs. onImage geometry (insideOf v (pred below) table first length (marks m cs))))
+    (onChain (followChain v ((length + 1) / 2) (firstLinkOf first) m) (λ cs. onImage geometry (insideOf v mend (pred below) table first length (marks m cs) n)))
     (fault 7 0)
 
 -- What a slot leads to, as the walk goes on from it: a verdict before any chain, then a chain, then a directory's inside.
@@ -126,15 +145,16 @@ Judges (fault n p) (verdict.Refused f) = (numberOf f ≡ n) × (pageOf f ≡ p)
 Judges (ok x) verdict.Sound = Unit {0}
 Judges (ok x) (verdict.Refused f) = ⊥
 
-abbrev pub Tells : Result Marks → Verdict → Reached → Type 0
-Tells (fault n p) verdict.Sound r = ⊥
-Tells (fault n p) (verdict.Refused f) r = (numberOf f ≡ n) × (pageOf f ≡ p)
-Tells (ok m) verdict.Sound r = Keeps r m
-Tells (ok m) (verdict.Refused f) r = ⊥
+-- with the record and the count
+abbrev pub Tells : Result (Marks × ℕ) → Verdict → Reached → ℕ → Type 0
+Tells (fault n p) verdict.Sound r count = ⊥
+Tells (fault n p) (verdict.Refused f) r count = (numberOf f ≡ n) × (pageOf f ≡ p)
+Tells (ok x) verdict.Sound r count = Keeps r (x .0) × (wrapped count ≡ x .1)
+Tells (ok x) (verdict.Refused f) r count = ⊥
 
--- the verdict alone, of the whole tree
-abbrev pub Passes : Result (Root × Marks) → Verdict → Type 0
-Passes (fault n p) verdict.Sound = ⊥
-Passes (fault n p) (verdict.Refused f) = (numberOf f ≡ n) × (pageOf f ≡ p)
-Passes (ok x) verdict.Sound = Unit {0}
-Passes (ok x) (verdict.Refused f) = ⊥
+-- of the whole tree, the record left out
+abbrev pub Passes : (ℕ → ℕ) → ℕ → Result (Root × Marks) → Verdict → ℕ → Type 0
+Passes mend n (fault k p) verdict.Sound count = ⊥
+Passes mend n (fault k p) (verdict.Refused f) count = (numberOf f ≡ k) × (pageOf f ≡ p)
+Passes mend n (ok x) verdict.Sound count = wrapped count ≡ wrapped (n + totalOver mend (entryPagesOf (x .0)))
+Passes mend n (ok x) (verdict.Refused f) count = ⊥

@@ -9,6 +9,7 @@ ghost use lib.ListN.{length};
 ghost use Rattle.model.specs.Bytes.{pageLimit};
 ghost use Rattle.layout.specs.See.{pageIn};
 ghost use Rattle.page.specs.Page.{Read};
+ghost use Rattle.tree.specs.Mended.{countAfter, mendedPage};
 ghost use Rattle.tree.specs.Slots.{clusterAfter, isSlot, nextOf, slotPage};
 
 // The cluster after c in its chain.
@@ -69,7 +70,35 @@ pub fn slots_of(length: u32) -> u32
     length - 2
 }
 
-// A page of the allocatable clusters, of which there are `count`.
+// A page of the allocatable clusters, of which there are `count`, with its corrected chunks added to a count, which wraps past
+// 64 bits. Whether there is data is the answer; without any the count stays.
+pub fn read_needed(
+    image: &[u8],
+    geometry: Geometry,
+    count: usize,
+    page: usize,
+    out: &mut [u8; 512],
+    mended: &mut usize,
+) -> bool
+    ensures read { λ r. ⌜ Read (pageIn geometry count (now (image .entry)) page) (now (out .entry)) r (now (out .exit)) ⌝ }
+    ensures counted { λ _. ⌜ now (mended .exit) ≡ countAfter (pageIn geometry count (now (image .entry)) page) (mendedPage geometry (now (image .entry)) page) (now (mended .entry)) ⌝ }
+{
+    if count <= page / 2 {
+        return false;
+    }
+    let format = geometry.format;
+    if page_count(format, image) <= page {
+        return false;
+    }
+    let read = read_page(format, image, image_page(geometry, page), out);
+    if !read.readable {
+        return false;
+    }
+    *mended = std::num::wrapping_add_usize(*mended, read.mended.count());
+    true
+}
+
+// The same for its data alone.
 pub fn read_slot(
     image: &[u8],
     geometry: Geometry,
@@ -79,12 +108,6 @@ pub fn read_slot(
 ) -> bool
     ensures { λ r. ⌜ Read (pageIn geometry count (now (image .entry)) page) (now (out .entry)) r (now (out .exit)) ⌝ }
 {
-    if count <= page / 2 {
-        return false;
-    }
-    let format = geometry.format;
-    if page_count(format, image) <= page {
-        return false;
-    }
-    read_page(format, image, image_page(geometry, page), out)
+    let mut mended: usize = 0;
+    read_needed(image, geometry, count, page, out, &mut mended)
 }

@@ -4,6 +4,7 @@ use crate::names::CELLS;
 use crate::names::meet;
 use crate::slots::cluster_after;
 use crate::slots::next_of;
+use crate::slots::read_needed;
 use crate::slots::read_slot;
 use crate::slots::slot_page;
 use crate::slots::slots_of;
@@ -31,10 +32,13 @@ ghost use Rattle.layout.specs.See.{onImage, viewBy};
 ghost use mathlib.Core.List.{_∷_, []};
 ghost use Rattle.model.specs.Check.{checkTree, judgeDots};
 ghost use Rattle.model.specs.View.{mostClusters};
+ghost use Rattle.model.specs.Needed.{totalOver};
 ghost use Rattle.reached.specs.Marks.{Sound, marksOf};
+ghost use Rattle.layout.specs.Mended.{Adds};
+ghost use Rattle.tree.specs.Mended.{mendedPage};
 ghost use Rattle.tree.specs.Met.{Grows, Knows, mostPages};
-ghost use Rattle.tree.specs.Slots.{clusterAt};
-ghost use Rattle.tree.specs.Walk.{Judges, Tells, dotIn, insideOf, isSound, lookBy, lookedIn, rootMarks, soundBy, taskBy, taskOf};
+ghost use Rattle.tree.specs.Slots.{clusterAt, slotPage};
+ghost use Rattle.tree.specs.Walk.{Judges, LookAdds, Tells, dotIn, dotPages, insideOf, isSound, lookBy, lookedIn, rootTallied, soundBy, taskBy, taskOf};
 
 // The record of the clusters reached so far, with a verdict.
 pub(crate) struct Walked {
@@ -153,14 +157,16 @@ fn look_at(
     c: u32,
     k: u32,
     cells: &mut [u32; CELLS],
+    mended: &mut usize,
 ) -> Look
     requires { ⌜ (length (now table) ≤ mostClusters) × (c ≡ clusterAt (now table) start k) × Knows (viewBy geometry (now table) (now image)) (now table) first start k (now cells) ⌝ }
     ensures { λ r. ⌜ r ≡ lookedIn (viewBy geometry (now (table .entry)) (now (image .entry))) geometry (now (table .entry)) start c k ⌝ }
     ensures { λ r. ⌜ Knows (viewBy geometry (now (table .entry)) (now (image .entry))) (now (table .entry)) first start (k + 1) (now (cells .exit)) × Grows (now (cells .entry)) (now (cells .exit)) ⌝ }
+    ensures { λ r. ⌜ LookAdds r (now (mended .entry)) (mendedPage geometry (now (image .entry)) (slotPage c k)) (now (mended .exit)) ⌝ }
 {
     let page = slot_page(c, k);
     let mut d = [0u8; 512];
-    if !read_slot(image, geometry, table.len(), page, &mut d) {
+    if !read_needed(image, geometry, table.len(), page, &mut d, mended) {
         return Look::Unreadable(image_page(geometry, page));
     }
     if !is_live(&d) {
@@ -186,12 +192,20 @@ fn look_at(
 }
 
 // One of a directory's first two entries.
-fn judge_dot(image: &[u8], table: &[u32], geometry: Geometry, page: usize, name: &[u8]) -> Verdict
+fn judge_dot(
+    image: &[u8],
+    table: &[u32],
+    geometry: Geometry,
+    page: usize,
+    name: &[u8],
+    mended: &mut usize,
+) -> Verdict
     requires { ⌜ page < pageLimit ⌝ }
-    ensures { λ r. ⌜ Judges (onImage geometry (dotIn (viewBy geometry (now (table .entry)) (now (image .entry))) (now (name .entry)) page)) r ⌝ }
+    ensures judged { λ r. ⌜ Judges (onImage geometry (dotIn (viewBy geometry (now (table .entry)) (now (image .entry))) (now (name .entry)) page)) r ⌝ }
+    ensures counted { λ r. ⌜ Adds r (now (mended .entry)) (mendedPage geometry (now (image .entry)) page) (now (mended .exit)) ⌝ }
 {
     let mut d = [0u8; 512];
-    if !read_slot(image, geometry, table.len(), page, &mut d) {
+    if !read_needed(image, geometry, table.len(), page, &mut d, mended) {
         return Verdict::Refused(Refusal::UnreadablePage(image_page(geometry, page)));
     }
     if is_directory(&d) & is_named(&d, name) {
@@ -200,15 +214,22 @@ fn judge_dot(image: &[u8], table: &[u32], geometry: Geometry, page: usize, name:
     Verdict::Refused(Refusal::BadEntry)
 }
 
-fn judge_dots(image: &[u8], table: &[u32], geometry: Geometry, first: u32) -> Verdict
-    ensures { λ r. ⌜ Judges (onImage geometry (judgeDots (viewBy geometry (now (table .entry)) (now (image .entry))) (first ∷ []))) r ⌝ }
+fn judge_dots(
+    image: &[u8],
+    table: &[u32],
+    geometry: Geometry,
+    first: u32,
+    mended: &mut usize,
+) -> Verdict
+    ensures judged { λ r. ⌜ Judges (onImage geometry (judgeDots (viewBy geometry (now (table .entry)) (now (image .entry))) (first ∷ []))) r ⌝ }
+    ensures counted { λ r. ⌜ Adds r (now (mended .entry)) (totalOver (mendedPage geometry (now (image .entry))) (dotPages first)) (now (mended .exit)) ⌝ }
 {
     let page = first as usize * 2;
-    let a = judge_dot(image, table, geometry, page, b".");
+    let a = judge_dot(image, table, geometry, page, b".", mended);
     if !is_sound(a) {
         return a;
     }
-    judge_dot(image, table, geometry, page + 1, b"..")
+    judge_dot(image, table, geometry, page + 1, b"..", mended)
 }
 
 // The inside of a directory of that many entries whose sound chain begins with cluster `first`; directories may lie `below`
@@ -218,16 +239,17 @@ fn walk_dir(
     table: &[u32],
     geometry: Geometry,
     cells: &mut [u32; CELLS],
+    mended: &mut usize,
     reached: Reached,
     first: u32,
     entries: u32,
     below: u32,
 ) -> Walked
     requires { ⌜ (length (now table) ≤ mostClusters) × Sound reached × (length (now cells) ≡ mostPages) ⌝ }
-    ensures { λ r. ⌜ Tells (onImage geometry (insideOf (viewBy geometry (now (table .entry)) (now (image .entry))) below (now (table .entry)) first entries (marksOf reached))) (r .verdict) (r .reached) ⌝ }
+    ensures { λ r. ⌜ Tells (onImage geometry (insideOf (viewBy geometry (now (table .entry)) (now (image .entry))) (mendedPage geometry (now (image .entry))) below (now (table .entry)) first entries (marksOf reached) (now (mended .entry)))) (r .verdict) (r .reached) (now (mended .exit)) ⌝ }
     ensures { λ _. ⌜ Grows (now (cells .entry)) (now (cells .exit)) ⌝ }
 {
-    let mut v = judge_dots(image, table, geometry, first);
+    let mut v = judge_dots(image, table, geometry, first, mended);
     let start = next_of(table, first);
     let mut r = reached;
     let mut c = start;
@@ -235,7 +257,7 @@ fn walk_dir(
     let mut left = slots_of(entries);
     while (0 < left) & is_sound(v) {
         let task = task_of(
-            look_at(image, table, geometry, first, start, c, k, cells),
+            look_at(image, table, geometry, first, start, c, k, cells, mended),
             below,
         );
         v = task.verdict;
@@ -249,6 +271,7 @@ fn walk_dir(
                     table,
                     geometry,
                     cells,
+                    mended,
                     r,
                     task.first,
                     task.entries,
@@ -268,10 +291,15 @@ fn walk_dir(
     }
 }
 
-// The whole tree: the root's first entry, its chain, its entries.
-pub(crate) fn walk_root(image: &[u8], table: &[u32], geometry: Geometry) -> Walked
+// The whole tree: the root's first entry, its chain, its entries. That entry's page is counted with the root's entries, and not before.
+pub(crate) fn walk_root(
+    image: &[u8],
+    table: &[u32],
+    geometry: Geometry,
+    mended: &mut usize,
+) -> Walked
     requires { ⌜ length (now table) ≤ mostClusters ⌝ }
-    ensures { λ r. ⌜ Tells (onImage geometry (rootMarks (checkTree (viewBy geometry (now (table .entry)) (now (image .entry)))))) (r .verdict) (r .reached) ⌝ }
+    ensures { λ r. ⌜ Tells (onImage geometry (rootTallied (mendedPage geometry (now (image .entry))) (now (mended .entry)) (checkTree (viewBy geometry (now (table .entry)) (now (image .entry)))))) (r .verdict) (r .reached) (now (mended .exit)) ⌝ }
 {
     let mut d = [0u8; 512];
     if !read_slot(image, geometry, table.len(), 0, &mut d) {
@@ -296,5 +324,5 @@ pub(crate) fn walk_root(image: &[u8], table: &[u32], geometry: Geometry) -> Walk
         };
     }
     let mut cells = [0u32; CELLS];
-    walk_dir(image, table, geometry, &mut cells, r, 0, n, DEEPEST)
+    walk_dir(image, table, geometry, &mut cells, mended, r, 0, n, DEEPEST)
 }

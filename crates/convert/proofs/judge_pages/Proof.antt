@@ -31,10 +31,10 @@ read-page-requires c κs = search needs
 
 returns : tie.Need-returns Inv-loop μ-loop
 returns c result =
-    let read = c .before in
+    let read = c .before .before in
     let turn = read .before .before .before in
     let a = turn .before .before .before .args in
-    let gone = read-none (pageAt (a .format) (now (a .image)) (turn .loop .p)) (read .read-page .ensures) (not-true _ (c .if1 .taken)) in
+    let gone = read-none (pageAt (a .format) (now (a .image)) (turn .loop .p)) (read .read-page .ensures .0) (not-true _ (c .if1 .taken)) in
     sym (turn .loop .inv .1 result ∙ all-stop (a .format) (now (a .image)) (ok result) (turn .loop .p) (omega arith) gone)
 
 add-p : tie.Need-add-p Inv-loop μ-loop
@@ -45,10 +45,10 @@ loop-less c = omega arith
 
 loop-again : tie.Need-loop-again Inv-loop μ-loop
 loop-again c =
-    let read = c .before in
+    let read = c .before .before in
     let turn = read .before .before .before in
     let a = turn .before .before .before .args in
-    let there = read-some (pageAt (a .format) (now (a .image)) (turn .loop .p)) (read .read-page .ensures) (not-false _ (c .if1 .left)) in
+    let there = read-some (pageAt (a .format) (now (a .image)) (turn .loop .p)) (read .read-page .ensures .0) (not-false _ (c .if1 .left)) in
     (omega arith, λ result. turn .loop .inv .1 result ∙ all-more (a .format) (now (a .image)) (ok result) (turn .loop .p) (omega arith) there)
 
 returns-2 : tie.Need-returns-2 Inv-loop μ-loop

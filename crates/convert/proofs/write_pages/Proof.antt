@@ -49,7 +49,7 @@ loop-again c =
     let a = start .args in
     let at = turn .loop .p in
     let found = there (pageAt (a .from) (now (a .image)) at) (start .pre at (omega arith)) in
-    let page = read .read-page .ensures .buffer ∙ read-data (pageAt (a .from) (now (a .image)) at) _ found in
+    let page = read .read-page .ensures .0 .buffer ∙ read-data (pageAt (a .from) (now (a .image)) at) _ found in
     let size = ap length page ∙ page-length (a .from) (now (a .image)) at (dataOf (pageAt (a .from) (now (a .image)) at)) found in
     (omega arith, page-more (a .to) (λ q. dataOf (pageAt (a .from) (now (a .image)) q)) (now (a .out)) at (turn .loop .inv .1) page (wrote .write-page .ensures), ap length (wrote .write-page .ensures) ∙ length-put (a .to) true at _ _ size ∙ turn .loop .inv .2)
 

@@ -1,11 +1,13 @@
--- Each stage's answer is the test that the definition makes there; the first that fails decides.
+-- Each stage's answer is the test that the definition makes there; the first that fails decides. Page 0 is counted first.
 use mathlib.Core.Path.{sym, _∙_}
 use borrow.Author.Tests.{not-true, not-false}
 use denote.Ref.{now}
 use lib.ListN.{length}
+use Rattle.page.specs.Mended.{mendedChunks}
 use Rattle.page.specs.Page.{pageAt}
 use Rattle.page.proofs.Puts.{read-some, read-none}
 use Rattle.layout.specs.Table.{unless, withPage, openCard}
+use Rattle.layout.proofs.MendedLaws.{adds-on}
 use Rattle.layout.proofs.OpenFacts.{end-most}
 use borrow.Author.Needs.{needs}
 use Rattle.layout.proofs.judge_card.Statement.{statement}
@@ -16,17 +18,19 @@ good-length-requires c κs = search needs
 
 returns : tie.Need-returns
 unfolding openCard unless withPage
-returns c = rw (sym (c .before .good-length .ensures) ∙ not-true _ (c .if1 .taken))
+returns c = (rw (sym (c .before .good-length .ensures) ∙ not-true _ (c .if1 .taken)), tt)
 
-read-page-requires : tie.Need-read-page-requires
-read-page-requires c κs = search needs
+read-counted-requires : tie.Need-read-counted-requires
+read-counted-requires c κs = search needs
 
 returns-2 : tie.Need-returns-2
 unfolding openCard unless withPage
 returns-2 c =
-    let size = sym (c .before .before .before .before .good-length .ensures) ∙ not-false _ (c .before .before .before .if1 .left) in
-    let none = read-none (pageAt (c .before .before .before .before .before .before .args .format) (now (c .before .before .before .before .before .before .args .image)) 0) (c .before .read-page .ensures) (not-true _ (c .if2 .taken)) in
-    rw (size, none)
+    let sized = c .before .before .before .before in
+    let a = sized .before .before .before .args in
+    let size = sym (sized .before .good-length .ensures) ∙ not-false _ (sized .if1 .left) in
+    let none = read-none (pageAt (a .format) (now (a .image)) 0) (c .before .read-counted .ensures .0) (not-true _ (c .if2 .taken)) in
+    (rw (size, none), tt)
 
 good-text-requires : tie.Need-good-text-requires
 good-text-requires c κs = search needs
@@ -34,10 +38,13 @@ good-text-requires c κs = search needs
 returns-3 : tie.Need-returns-3
 unfolding openCard unless withPage
 returns-3 c =
-    let size = sym (c .before .before .before .before .before .before .before .good-length .ensures) ∙ not-false _ (c .before .before .before .before .before .before .if1 .left) in
-    let page = read-some (pageAt (c .before .before .before .before .before .before .before .before .before .args .format) (now (c .before .before .before .before .before .before .before .before .before .args .image)) 0) (c .before .before .before .before .read-page .ensures) (not-false _ (c .before .before .before .if2 .left)) in
+    let read = c .before .before .before in
+    let sized = read .before .before .before .before in
+    let a = sized .before .before .before .args in
+    let size = sym (sized .before .good-length .ensures) ∙ not-false _ (sized .if1 .left) in
+    let page = read-some (pageAt (a .format) (now (a .image)) 0) (read .before .read-counted .ensures .0) (not-false _ (read .if2 .left)) in
     let text = sym (c .before .good-text .ensures) ∙ not-true _ (c .if3 .taken) in
-    rw (size, page, text)
+    (rw (size, page, text), tt)
 
 clusters-in-requires : tie.Need-clusters-in-requires
 clusters-in-requires c κs = search needs
@@ -48,29 +55,44 @@ good-superblock-requires c κs = search needs
 returns-4 : tie.Need-returns-4
 unfolding openCard unless withPage
 returns-4 c =
-    let size = sym (c .before .before .before .before .before .before .before .before .before .before .before .good-length .ensures) ∙ not-false _ (c .before .before .before .before .before .before .before .before .before .before .if1 .left) in
-    let page = read-some (pageAt (c .before .before .before .before .before .before .before .before .before .before .before .before .before .args .format) (now (c .before .before .before .before .before .before .before .before .before .before .before .before .before .args .image)) 0) (c .before .before .before .before .before .before .before .before .read-page .ensures) (not-false _ (c .before .before .before .before .before .before .before .if2 .left)) in
-    let text = sym (c .before .before .before .before .before .good-text .ensures) ∙ not-false _ (c .before .before .before .before .if3 .left) in
+    let worded = c .before .before .before .before in
+    let read = worded .before .before .before in
+    let sized = read .before .before .before .before in
+    let a = sized .before .before .before .args in
+    let size = sym (sized .before .good-length .ensures) ∙ not-false _ (sized .if1 .left) in
+    let page = read-some (pageAt (a .format) (now (a .image)) 0) (read .before .read-counted .ensures .0) (not-false _ (read .if2 .left)) in
+    let text = sym (worded .before .good-text .ensures) ∙ not-false _ (worded .if3 .left) in
     let rules = rw (c .before .before .before .clusters-in .ensures) at (sym (c .before .good-superblock .ensures) ∙ not-true _ (c .if4 .taken)) in
-    rw (size, page, text, rules)
+    (rw (size, page, text, rules), tt)
 
 superblock-of-requires : tie.Need-superblock-of-requires
 superblock-of-requires c κs = search needs
 
 judge-table-requires : tie.Need-judge-table-requires
 judge-table-requires c κs =
-    let size = sym (c .before .before .before .before .before .before .before .before .before .before .before .before .before .good-length .ensures) ∙ not-false _ (c .before .before .before .before .before .before .before .before .before .before .before .before .if1 .left) in
-    let rules = rw (c .before .before .before .before .before .clusters-in .ensures) at (sym (c .before .before .before .good-superblock .ensures) ∙ not-false _ (c .before .before .if4 .left)) in
-    rw (c .superblock-of .ensures) (end-most (c .before .before .before .before .before .before .before .before .before .before .before .before .before .before .before .args .format) (length (now (c .before .before .before .before .before .before .before .before .before .before .before .before .before .before .before .args .image))) (c .before .before .before .before .before .before .before .before .before .before .read-page .last .1 .1 .1 .0) size rules)
+    let ruled = c .before .before .before in
+    let read = ruled .before .before .before .before .before .before .before in
+    let sized = read .before .before .before .before in
+    let a = sized .before .before .before .args in
+    let size = sym (sized .before .good-length .ensures) ∙ not-false _ (sized .if1 .left) in
+    let rules = rw (ruled .before .before .before .clusters-in .ensures) at (sym (ruled .before .good-superblock .ensures) ∙ not-false _ (ruled .if4 .left)) in
+    rw (c .before .superblock-of .ensures) (end-most (a .format) (length (now (a .image))) (read .before .read-counted .last .1 .1 .1 .0) size rules)
 
 returns-5 : tie.Need-returns-5
 unfolding openCard unless withPage
 returns-5 c =
-    let size = sym (c .before .before .before .before .before .before .before .before .before .before .before .before .before .before .good-length .ensures) ∙ not-false _ (c .before .before .before .before .before .before .before .before .before .before .before .before .before .if1 .left) in
-    let page = read-some (pageAt (c .before .before .before .before .before .before .before .before .before .before .before .before .before .before .before .before .args .format) (now (c .before .before .before .before .before .before .before .before .before .before .before .before .before .before .before .before .args .image)) 0) (c .before .before .before .before .before .before .before .before .before .before .before .read-page .ensures) (not-false _ (c .before .before .before .before .before .before .before .before .before .before .if2 .left)) in
-    let text = sym (c .before .before .before .before .before .before .before .before .good-text .ensures) ∙ not-false _ (c .before .before .before .before .before .before .before .if3 .left) in
-    let rules = rw (c .before .before .before .before .before .before .clusters-in .ensures) at (sym (c .before .before .before .before .good-superblock .ensures) ∙ not-false _ (c .before .before .before .if4 .left)) in
-    rw (c .before .superblock-of .ensures) at (c .judge-table .ensures) ∙ rw (size, page, text, rules)
+    let ruled = c .before .before .before .before in
+    let worded = ruled .before .before .before .before in
+    let read = worded .before .before .before in
+    let sized = read .before .before .before .before in
+    let a = sized .before .before .before .args in
+    let size = sym (sized .before .good-length .ensures) ∙ not-false _ (sized .if1 .left) in
+    let page = read-some (pageAt (a .format) (now (a .image)) 0) (read .before .read-counted .ensures .0) (not-false _ (read .if2 .left)) in
+    let text = sym (worded .before .good-text .ensures) ∙ not-false _ (worded .if3 .left) in
+    let rules = rw (ruled .before .before .before .clusters-in .ensures) at (sym (ruled .before .good-superblock .ensures) ∙ not-false _ (ruled .if4 .left)) in (
+      rw (c .before .before .superblock-of .ensures) at (c .judge-table .ensures .0) ∙ rw (size, page, text, rules),
+      adds-on (c .judge-table .result) (now (a .mended)) (mendedChunks (a .format) (now (a .image)) 0) _ _ (read .before .read-counted .ensures .1) (rw (c .before .before .superblock-of .ensures) at (c .judge-table .ensures .1)),
+    )
 
 pub judge-card-spec : {M : Type 1} → statement M
 judge-card-spec =
@@ -78,7 +100,7 @@ judge-card-spec =
     (tie.spec
     good-length-requires
     returns
-    read-page-requires
+    read-counted-requires
     returns-2
     good-text-requires
     returns-3

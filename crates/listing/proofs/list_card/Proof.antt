@@ -28,7 +28,7 @@ list-words-requires c κs =
     let a = c .before .before .before .before .before .before .before .before .before .before .before .before .before .before .before .args in
     let s = c .before .before .before .before .before .before .before .open-card .result .superblock in
     let opened = as-told s (c .before .before .before .before .before .enum-told2 .given .1) (c .before .before .before .before .before .before .before .open-card .ensures .0) in
-    words-fit (a .format) (a .image .now) s (passes (a .format) (a .image .now) (a .counts) (c .before .before .before .before .before .before .before .before .before .before .before .before .before .before .before .pre) s opened) _ _ (c .before .before .before .before .before .before .before .open-card .ensures .1)
+    words-fit (a .format) (a .image .now) s (passes (a .format) (a .image .now) (a .counts) (c .before .before .before .before .before .before .before .before .before .before .before .before .before .before .before .pre) s opened) _ _ (c .before .before .before .before .before .before .before .open-card .ensures .1 .0)
 
 same-length : tie.Need-same-length
 same-length c = search needs
@@ -50,7 +50,7 @@ returns-2 c =
     let opened = as-told s (c .before .before .before .before .before .before .before .before .enum-told2 .given .1) (c .before .before .before .before .before .before .before .before .before .before .open-card .ensures .0) in
     let passed = passes format image (a .counts) (c .before .before .before .before .before .before .before .before .before .before .before .before .before .before .before .before .before .before .pre) s opened in
     wrote-as (listing-card format image (a .counts) (c .before .before .before .before .before .before .before .before .before .before .before .before .before .before .before .before .before .before .pre) s opened)
-    (wrote-append (omega (arith, c .before .before .before .before .before .before .before .before .before .before .before .before .before .before .before .before .before .before .good .1 .1 .1 .1 .0)) (c .before .before .before .before .before .before .before .before .before .before .before .before .before .before .put-counts .ensures) (c .before .before .list-words .ensures ((accepted format image s passed) .root) (words-hold format image s passed _ _ (c .before .before .before .before .before .before .before .before .before .before .open-card .ensures .1))))
+    (wrote-append (omega (arith, c .before .before .before .before .before .before .before .before .before .before .before .before .before .before .before .before .before .before .good .1 .1 .1 .1 .0)) (c .before .before .before .before .before .before .before .before .before .before .before .before .before .before .put-counts .ensures) (c .before .before .list-words .ensures ((accepted format image s passed) .root) (words-hold format image s passed _ _ (c .before .before .before .before .before .before .before .before .before .before .open-card .ensures .1 .0))))
 
 pub list-card-spec : {M : Type 1} → statement M
 list-card-spec =

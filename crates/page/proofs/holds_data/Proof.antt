@@ -18,12 +18,12 @@ same-data-requires c κs = search needs
 returns : tie.Need-returns
 returns c =
     let a = c .before .before .before .before .before .before .args in
-    c .same-data .ensures ∙ sym (ap (λ (o : Option (List ℕ)). holds o (a .bytes .now)) (read-some (pageAt (a .format) (a .image .now) (a .page)) (c .before .before .before .read-page .ensures) (c .before .before .if1 .taken)))
+    c .same-data .ensures ∙ sym (ap (λ (o : Option (List ℕ)). holds o (a .bytes .now)) (read-some (pageAt (a .format) (a .image .now) (a .page)) (c .before .before .before .read-page .ensures .0) (c .before .before .if1 .taken)))
 
 returns-2 : tie.Need-returns-2
 returns-2 c =
     let a = c .before .before .before .before .args in
-    sym (ap (λ (o : Option (List ℕ)). holds o (a .bytes .now)) (read-none (pageAt (a .format) (a .image .now) (a .page)) (c .before .read-page .ensures) (c .if1 .left)))
+    sym (ap (λ (o : Option (List ℕ)). holds o (a .bytes .now)) (read-none (pageAt (a .format) (a .image .now) (a .page)) (c .before .read-page .ensures .0) (c .if1 .left)))
 
 pub holds-data-spec : {M : Type 1} → statement M
 holds-data-spec = tie.close (tie.spec read-page-requires same-data-requires returns returns-2)

@@ -1,5 +1,6 @@
 -- Each law stands in `Laws`.
 use Rattle.page.proofs.Laws.{length-put, read-written, read-other, outside, page-put, writes-commute, page-in, page-length, page-bytes, rewritten-same, page-local, page-past, cluster-pages}
+use Rattle.page.proofs.Mending.{mended-most}
 use Rattle.page.proofs.page_laws.Statement.{statement}
 use Rattle.page.proofs.page_laws.Tie as tie
 
@@ -21,6 +22,7 @@ returns c format =
         rewritten-same = rewritten-same format image p bytes e;
       };
       page-past = page-past format;
+      mended-most = mended-most format;
       cluster-pages = cluster-pages format;
       page-local = page-local format;
     }

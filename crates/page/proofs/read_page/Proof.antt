@@ -1,11 +1,13 @@
 -- In the image the lent part is what it keeps of the page; past its end there is no data.
 use mathlib.Core.Path.{_≡_, refl, sym, ap, _∙_}
 use mathlib.Core.List.{List}
-use Prim.Native.Nat.{ℕ, _+_, _-_}
-use lib.ListN.{take, drop}
+use Prim.Native.Nat.{ℕ, _+_, _-_, _≤_}
+use lib.ListN.{length, take, drop}
 use Rattle.page.specs.declared.Format.{Format}
-use Rattle.page.specs.Page.{pageAt, pageBytes, pageStart, readStored}
+use Rattle.page.specs.Page.{pageAt, pageBytes, pageStart, pagesIn, readStored}
+use Rattle.page.specs.Mended.{mendedAt, mendedStored}
 use Rattle.page.proofs.Lists.{lent-part}
+use Rattle.page.proofs.Mending.{mended-inside, mended-outside}
 use Rattle.page.proofs.Puts.{Whole, counted-whole, lent-whole, page-inside, page-outside}
 use borrow.Author.Needs.{needs}
 use Rattle.page.proofs.read_page.Statement.{statement}
@@ -15,6 +17,11 @@ page-lent : (format : Format) (image : List ℕ) (p : ℕ) {from size : ℕ} →
     → pageAt format image p ≡ readStored format (take (from + size - from) (drop from image))
 page-lent format image p e f h =
     rw (e, f) (page-inside format image p h ∙ ap (readStored format) (sym (lent-part image (pageStart format p) (pageBytes format))))
+
+mended-lent : (format : Format) (image : List ℕ) (p : ℕ) {from size : ℕ} → from ≡ pageStart format p → size ≡ pageBytes format → Whole format image p
+    → mendedAt format image p ≡ mendedStored format (take (from + size - from) (drop from image))
+mended-lent format image p e f h =
+    rw (e, f) (mended-inside format image p h ∙ ap (mendedStored format) (sym (lent-part image (pageStart format p) (pageBytes format))))
 
 page-count-requires : tie.Need-page-count-requires
 page-count-requires c κs = search needs
@@ -53,14 +60,23 @@ returns : tie.Need-returns
 returns c =
     let started = c .before .before .before .before in
     let a = started .before .before .before .before .args in
-    rw (page-lent (a .format) (a .image .now) (a .page) (started .page-start .ensures) (c .before .before .before .page-bytes .ensures)
-    (counted-whole (a .format) (a .image .now) (a .page) (started .before .before .page-count .ensures .0) (search needs))) (c .read-stored .ensures)
+    let whole = counted-whole (a .format) (a .image .now) (a .page) (started .before .before .page-count .ensures .0) (search needs) in
+    let sized = c .before .before .before .page-bytes .ensures in (
+      rw (page-lent (a .format) (a .image .now) (a .page) (started .page-start .ensures) sized whole) (c .read-stored .ensures .0),
+      rw (mended-lent (a .format) (a .image .now) (a .page) (started .page-start .ensures) sized whole) (c .read-stored .ensures .1),
+    )
+
+none-mended-requires : tie.Need-none-mended-requires
+none-mended-requires c κs = search needs
 
 returns-2 : tie.Need-returns-2
 returns-2 c =
-    let counted = c .before in
+    let counted = c .before .before in
     let a = counted .before .before .args in
-    rw (page-outside (a .format) (a .image .now) (a .page) (rw (← counted .page-count .ensures .0) (search needs))) (record { readable = refl; buffer = refl })
+    let past : pagesIn (a .format) (length (a .image .now)) ≤ a .page = rw (← counted .page-count .ensures .0) (search needs) in (
+      rw (page-outside (a .format) (a .image .now) (a .page) past) (record { readable = refl; buffer = refl }),
+      rw (mended-outside (a .format) (a .image .now) (a .page) past) (c .none-mended .ensures),
+    )
 
 pub read-page-spec : {M : Type 1} → statement M
 read-page-spec =
@@ -75,4 +91,5 @@ read-page-spec =
     part-read-stored-end
     read-stored-requires
     returns
+    none-mended-requires
     returns-2)

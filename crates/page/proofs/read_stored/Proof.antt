@@ -27,17 +27,23 @@ same-length : tie.Need-same-length
 same-length c = search needs
 
 returns : tie.Need-returns
-returns c = rw (c .before .before .before .before .enum-told .given .1) (c .before .before .read-raw .ensures)
+returns c =
+    let raw = c .before .before .before .before .enum-told .given .1 in
+    (rw raw (c .before .before .read-raw .ensures .0), rw raw (c .before .before .read-raw .ensures .1))
+
+none-mended-requires : tie.Need-none-mended-requires
+none-mended-requires c κs = search needs
 
 same-length-2 : tie.Need-same-length-2
 same-length-2 c = search needs
 
 returns-2 : tie.Need-returns-2
 returns-2 c =
-    let s = c .before .before .before .before .before .before .before .before in
-    let h = rw (c .before .before .before .before .enum-told2 .given .1) at (s .pre .0) in
-    rw (c .before .before .before .before .enum-told2 .given .1)
-    (record { readable = refl; buffer = c .before .before .copy .ensures .1 ∙ copied (s .args .page .now) (s .args .out .now) (s .pre .1 ∙ sym h) })
+    let copy = c .before .before .before in
+    let plain = copy .before .before .enum-told2 .given .1 in
+    let s = copy .before .before .before .before .before .before in
+    let h = rw plain at (s .pre .0) in
+    (rw plain (record { readable = refl; buffer = copy .copy .ensures .1 ∙ copied (s .args .page .now) (s .args .out .now) (s .pre .1 ∙ sym h) }), rw plain (c .none-mended .ensures))
 
 pub read-stored-spec : {M : Type 1} → statement M
 read-stored-spec =
@@ -47,6 +53,7 @@ read-stored-spec =
     read-raw-requires
     enum-told-2
     copy-requires
+    none-mended-requires
     same-length
     returns
     same-length-2

@@ -1,5 +1,6 @@
 -- Each law stands in `Twins`.
 use Rattle.page.proofs.Twins.{same-back, same-through, same-page, same-whole, same-clusters, put-both, put-codes, written-codes, other-codes, spare-put, spare-zero, codes-readable, plain-readable, plain-one, pages-start, clusters-start}
+use Rattle.page.proofs.Mending.{codes-mended, plain-mended}
 use Rattle.page.proofs.twin_laws.Statement.{statement}
 use Rattle.page.proofs.twin_laws.Tie as tie
 
@@ -19,6 +20,8 @@ returns c =
       spare-zero = spare-zero;
       codes-readable = codes-readable;
       plain-readable = plain-readable;
+      codes-mended = codes-mended;
+      plain-mended = plain-mended;
       plain-one = plain-one;
       pages-start = pages-start;
       clusters-start = clusters-start;

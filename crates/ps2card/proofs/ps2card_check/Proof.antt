@@ -33,17 +33,17 @@ enum-known-counts c = search needs
 
 returns : tie.Need-returns
 returns c =
-    rw (unknown-so (fault 1 0) (λ f. checkOf f (c .before .before .before .before .before .before .args .image .now)) (c .before .before .before .before .before .before .args .format) (c .before .before .before .before .format-of .ensures) (c .before .before .enum-told .given .1)) (c .tell-refusal .ensures .0, (c .tell-refusal .ensures .1, (refl, (refl, (refl, (refl, refl))))))
+    rw (unknown-so (fault 1 0) (λ f. checkOf f (c .before .before .before .before .before .before .args .image .now)) (c .before .before .before .before .before .before .args .format) (c .before .before .before .before .format-of .ensures) (c .before .before .enum-told .given .1)) (c .tell-refusal .ensures .0, (c .tell-refusal .ensures .1, (refl, (refl, (refl, (refl, (refl, refl)))))))
 
 returns-2 : tie.Need-returns-2
 returns-2 c =
     let e = known-so (fault 1 0) (λ f. checkOf f (c .before .before .before .before .before .before .before .before .before .before .before .args .image .now)) (c .before .before .before .before .before .before .before .before .before .before .before .args .format) (c .before .before .before .before .before .before .before .before .before .format-of .ensures) (c .before .before .before .before .before .before .before .named .given .1) ∙ sym (sym (ap toldCounts (c .before .before .before .refusal .given .1)) ∙ c .before .before .before .before .before .check .ensures) in
-    rw e (c .tell-refusal2 .ensures .0, (c .tell-refusal2 .ensures .1, (refl, (refl, (refl, (refl, refl))))))
+    rw e (c .tell-refusal2 .ensures .0, (c .tell-refusal2 .ensures .1, (refl, (refl, (refl, (refl, (refl, refl)))))))
 
 returns-3 : tie.Need-returns-3
 returns-3 c =
     let e = known-so (fault 1 0) (λ f. checkOf f (c .before .before .before .before .before .before .before .before .before .args .image .now)) (c .before .before .before .before .before .before .before .before .before .args .format) (c .before .before .before .before .before .before .before .format-of .ensures) (c .before .before .before .before .before .named .given .1) ∙ sym (sym (ap toldCounts (c .before .counts .given .1)) ∙ c .before .before .before .check .ensures) in
-    rw e (refl, (refl, (refl, (refl, (refl, (refl, refl))))))
+    rw e (refl, (refl, (refl, (refl, (refl, (refl, (refl, refl)))))))
 
 pub ps2card-check-spec : {M : Type 1} → statement M
 ps2card-check-spec =

@@ -1,6 +1,9 @@
 -- `tree::open_checked` meets its contract: opened, then walked.
+use mathlib.Core.Path.{_∙_}
+use native.Mathlib.Omega.{arith}
 use Rattle.layout.proofs.Stages.{as-told}
-use Rattle.tree.proofs.CheckLaws.{end-fits, table-loaded, table-room, unopened, walked}
+use Rattle.tree.proofs.CheckLaws.{end-fits, table-loaded, table-room, unopened}
+use Rattle.tree.proofs.MendedLaws.{mended-fits, mended-is, opened-is, opening-fits, unopened-mended}
 use borrow.Author.Needs.{needs}
 use Rattle.tree.proofs.open_checked.Statement.{statement}
 use Rattle.tree.proofs.open_checked.Tie as tie
@@ -14,26 +17,36 @@ enum-known-verdict c = search needs
 enum-told : tie.Need-enum-told
 enum-told c = search needs
 
-cast-judge-tree : tie.Need-cast-judge-tree
-cast-judge-tree c = search needs
-
-judge-tree-requires : tie.Need-judge-tree-requires
-judge-tree-requires c κs =
-    let a = c .before .before .before .before .before .before .before .before .before .args in
-    let s = c .before .before .before .before .before .before .open-card .result .superblock in
-    let e = as-told s (c .before .before .before .enum-told .given .1) (c .before .before .before .before .before .before .open-card .ensures .0) in
-    (table-room (a .format) (a .image .now) s e _ _ (c .before .before .before .before .before .before .open-card .ensures .1), end-fits (a .format) (a .image .now) s e)
+open-tree-requires : tie.Need-open-tree-requires
+open-tree-requires c κs =
+    let opened = c .before .before .before .before .before in
+    let a = opened .before .before .before .args in
+    let s = opened .open-card .result .superblock in
+    let e = as-told s (c .before .before .enum-told .given .1) (opened .open-card .ensures .0) in (
+      table-room (a .format) (a .image .now) s e _ _ (opened .open-card .ensures .1 .0),
+      end-fits (a .format) (a .image .now) s e,
+      opening-fits (a .format) (a .image .now) s e _ (opened .open-card .ensures .1 .1),
+    )
 
 returns : tie.Need-returns
 returns c =
-    (unopened (c .before .before .before .before .before .before .before .args .format) (c .before .before .before .before .before .before .before .args .image .now) _ _ (as-told (c .before .before .before .before .open-card .result .superblock) (c .before .verdict .given .1) (c .before .before .before .before .open-card .ensures .0)), c .before .before .before .before .open-card .ensures .1)
+    let opened = c .before .before .before .before in
+    let a = opened .before .before .before .args in
+    let e = as-told (opened .open-card .result .superblock) (c .before .verdict .given .1) (opened .open-card .ensures .0) in
+    (unopened (a .format) (a .image .now) _ _ e, (opened .open-card .ensures .1 .0, (unopened-mended (a .format) (a .image .now) _ _ e, omega arith)))
 
 returns-2 : tie.Need-returns-2
 returns-2 c =
-    let a = c .before .before .before .before .before .before .before .before .before .before .args in
-    let s = c .before .before .before .before .before .before .before .open-card .result .superblock in
-    let e = as-told s (c .before .before .before .before .enum-told .given .1) (c .before .before .before .before .before .before .before .open-card .ensures .0) in
-    (walked (a .format) (a .image .now) s e _ (table-loaded (a .format) (a .image .now) s e _ _ (c .before .before .before .before .before .before .before .open-card .ensures .1)) (c .judge-tree .result) (c .judge-tree .ensures), c .before .before .before .before .before .before .before .open-card .ensures .1)
+    let opened = c .before .before .before .before .before .before in
+    let a = opened .before .before .before .args in
+    let s = opened .open-card .result .superblock in
+    let e = as-told s (c .before .before .before .enum-told .given .1) (opened .open-card .ensures .0) in
+    let loaded = table-loaded (a .format) (a .image .now) s e _ _ (opened .open-card .ensures .1 .0) in
+    let first = opened .open-card .ensures .1 .1 in
+    let counted = c .open-tree .ensures .1 in (
+      c .open-tree .ensures .0 ∙ opened-is (a .format) (a .image .now) s e _ first _ loaded,
+      (opened .open-card .ensures .1 .0, (counted ∙ mended-is (a .format) (a .image .now) s e _ first _ loaded, rw counted (mended-fits (a .format) (a .image .now) s e _ first _ loaded))),
+    )
 
 pub open-checked-spec : {M : Type 1} → statement M
 open-checked-spec =
@@ -42,7 +55,6 @@ open-checked-spec =
     open-card-requires
     enum-known-verdict
     enum-told
-    cast-judge-tree
-    judge-tree-requires
+    open-tree-requires
     returns
     returns-2)

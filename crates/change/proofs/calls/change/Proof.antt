@@ -27,19 +27,19 @@ array-borrow-prefix-table : tie.Need-array-borrow-prefix-table
 array-borrow-prefix-table c =
     let a = c .before .before .before .before .before .before .before .before .before .before .before .before .args in
     let s = c .before .before .before .before .before .open-checked .result .superblock in
-    words-fit (a .format) (a .image .now) s (as-told s (c .before .before .before .enum-told .given .1) (c .before .before .before .before .before .open-checked .ensures .0)) _ _ (c .before .before .before .before .before .open-checked .ensures .1)
+    words-fit (a .format) (a .image .now) s (as-told s (c .before .before .before .enum-told .given .1) (c .before .before .before .before .before .open-checked .ensures .0)) _ _ (c .before .before .before .before .before .open-checked .ensures .1 .0)
 
 slice-aggregate-change-card : tie.Need-slice-aggregate-change-card
 slice-aggregate-change-card c =
     let a = c .before .before .before .before .before .before .before .before .before .before .before .before .before .args in
     let s = c .before .before .before .before .before .before .open-checked .result .superblock in
-    sym (length-take-le _ _ (words-fit (a .format) (a .image .now) s (as-told s (c .before .before .before .before .enum-told .given .1) (c .before .before .before .before .before .before .open-checked .ensures .0)) _ _ (c .before .before .before .before .before .before .open-checked .ensures .1)))
+    sym (length-take-le _ _ (words-fit (a .format) (a .image .now) s (as-told s (c .before .before .before .before .enum-told .given .1) (c .before .before .before .before .before .before .open-checked .ensures .0)) _ _ (c .before .before .before .before .before .before .open-checked .ensures .1 .0)))
 
 change-card-requires : tie.Need-change-card-requires
 change-card-requires c κs =
     let a = c .before .before .before .before .before .before .before .before .before .before .before .before .before .args in
     let s = c .before .before .before .before .before .before .open-checked .result .superblock in
-    words-loaded (a .format) (a .image .now) s (as-told s (c .before .before .before .before .enum-told .given .1) (c .before .before .before .before .before .before .open-checked .ensures .0)) _ _ (c .before .before .before .before .before .before .open-checked .ensures .1)
+    words-loaded (a .format) (a .image .now) s (as-told s (c .before .before .before .before .enum-told .given .1) (c .before .before .before .before .before .before .open-checked .ensures .0)) _ _ (c .before .before .before .before .before .before .open-checked .ensures .1 .0)
 
 same-length : tie.Need-same-length
 same-length c = search needs

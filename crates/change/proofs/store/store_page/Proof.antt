@@ -22,7 +22,7 @@ same-length c = search needs
 returns : tie.Need-returns
 returns c =
     let a = c .before .before .before .before .before .before .before .before .before .before .before .before .before .args in
-    altered (a .format) (a .p) (withWords (λ x. getD (a .table .now) x 0) (128 * a .t) (wordsIn (length (a .table .now)) (a .t))) (a .image .now) (c .before .before .before .before .before .before .before .before .read-page .ensures) (c .before .before .before .before .before .before .before .if1 .taken) (c .before .before .before .before .before .put-words .ensures) (c .before .before .rewrite-page .ensures)
+    altered (a .format) (a .p) (withWords (λ x. getD (a .table .now) x 0) (128 * a .t) (wordsIn (length (a .table .now)) (a .t))) (a .image .now) (c .before .before .before .before .before .before .before .before .read-page .ensures .0) (c .before .before .before .before .before .before .before .if1 .taken) (c .before .before .before .before .before .put-words .ensures) (c .before .before .rewrite-page .ensures)
 
 same-length-2 : tie.Need-same-length-2
 same-length-2 c = search needs
@@ -30,7 +30,7 @@ same-length-2 c = search needs
 returns-2 : tie.Need-returns-2
 returns-2 c =
     let a = c .before .before .before .before .before .before .args in
-    left-alone (a .format) (a .p) (withWords (λ x. getD (a .table .now) x 0) (128 * a .t) (wordsIn (length (a .table .now)) (a .t))) (a .image .now) (c .before .read-page .ensures) (c .if1 .left)
+    left-alone (a .format) (a .p) (withWords (λ x. getD (a .table .now) x 0) (128 * a .t) (wordsIn (length (a .table .now)) (a .t))) (a .image .now) (c .before .read-page .ensures .0) (c .if1 .left)
 
 pub store-page-spec : {M : Type 1} → statement M
 store-page-spec =

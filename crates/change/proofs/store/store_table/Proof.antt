@@ -39,8 +39,8 @@ same-length c = search needs
 returns : tie.Need-returns
 returns c =
     let a = c .before .before .before .before .before .before .before .before .before .before .before .before .before .before .before .before .before .args in
-    let one = c .before .before .before .before .before .before .before .before .before .before .read-page .ensures .buffer ∙ read-data _ _ (there (pageAt (a .s .geometry .format) (a .image .now) (2 * a .s .indirect)) (c .before .before .before .before .before .before .before .before .before .before .before .before .before .before .before .before .before .pre .2)) in
-    let two = c .before .before .before .before .before .before .before .read-page2 .ensures .buffer ∙ read-data _ _ (there (pageAt (a .s .geometry .format) (a .image .now) (2 * a .s .indirect + 1)) (c .before .before .before .before .before .before .before .before .before .before .before .before .before .before .before .before .before .pre .3)) in
+    let one = c .before .before .before .before .before .before .before .before .before .before .read-page .ensures .0 .buffer ∙ read-data _ _ (there (pageAt (a .s .geometry .format) (a .image .now) (2 * a .s .indirect)) (c .before .before .before .before .before .before .before .before .before .before .before .before .before .before .before .before .before .pre .2)) in
+    let two = c .before .before .before .before .before .before .before .read-page2 .ensures .0 .buffer ∙ read-data _ _ (there (pageAt (a .s .geometry .format) (a .image .now) (2 * a .s .indirect + 1)) (c .before .before .before .before .before .before .before .before .before .before .before .before .before .before .before .before .before .pre .3)) in
     by-names (a .image .now) (a .s) (λ x. getD (a .table .now) x 0) (length (a .table .now)) (c .before .before .before .before .before .before .before .before .before .before .before .before .before .before .before .before .before .pre .1) one two (c .before .before .store-pages .ensures)
 
 pub store-table-spec : {M : Type 1} → statement M

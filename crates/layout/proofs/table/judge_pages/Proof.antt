@@ -1,11 +1,12 @@
 -- The loop's invariant: judging the pages from page t of the table on is judging them all.
-use Prim.Native.Nat.{ℕ, _-_, _*_, _≤_, _<_}
+use Prim.Native.Nat.{ℕ, _+_, _-_, _*_, _≤_, _<_}
 use mathlib.Core.List.{_++_}
 use mathlib.Core.Path.{_≡_, refl, sym, _∙_}
 use native.Mathlib.Omega.{arith}
 use borrow.Author.Needs.{needs}
 use borrow.Author.Tests.{not-true, not-false}
 use lib.ListN.{length}
+use Rattle.page.specs.Mended.{mendedChunks, wrapped}
 use Rattle.page.specs.Page.{pageAt}
 use Rattle.page.proofs.Puts.{read-some, read-none}
 use denote.Ref.{now}
@@ -14,21 +15,23 @@ use Rattle.model.specs.Check.{ok}
 use Rattle.layout.specs.declared.Superblock.{Superblock}
 use Rattle.layout.specs.Superblock.{upTo}
 use Rattle.layout.specs.Table.{tableNames}
+use Rattle.layout.proofs.MendedLaws.{count-done, count-more, countFrom}
 use Rattle.layout.proofs.UpTo.{length-upTo}
 use Rattle.layout.proofs.TablePages.{pagesFrom, pages-stop, pages-more, pages-done}
 use Rattle.layout.proofs.table.judge_pages.Statement.{statement}
 use Rattle.layout.proofs.table.judge_pages.Tie as tie
 
 abbrev Inv-loop : tie.InvT-loop
-Inv-loop format image first second count page₀ t₀ page t =
+Inv-loop format image first second count mended₀ page₀ t₀ mended page t =
     (t ≤ 2 * count)
+    × (wrapped (mended + countFrom (mendedChunks format image) (tableNames (first ++ second) count) t) ≡ wrapped (mended₀ + countFrom (mendedChunks format image) (tableNames (first ++ second) count) 0))
     × ((s : Superblock) → pagesFrom format image (tableNames (first ++ second) count) (ok s) 0 ≡ pagesFrom format image (tableNames (first ++ second) count) (ok s) t)
 
 abbrev μ-loop : tie.MeasureT-loop
-μ-loop format image first second count page₀ t₀ page t = 2 * count - t
+μ-loop format image first second count mended₀ page₀ t₀ mended page t = 2 * count - t
 
 loop-holds : tie.Need-loop-holds Inv-loop μ-loop
-loop-holds c = (omega arith, λ s. refl)
+loop-holds c = (omega arith, refl, λ s. refl)
 
 mul-loop : tie.Need-mul-loop Inv-loop μ-loop
 mul-loop c = omega arith
@@ -36,16 +39,18 @@ mul-loop c = omega arith
 table-page-requires : tie.Need-table-page-requires Inv-loop μ-loop
 table-page-requires c κs = search needs
 
-read-page-requires : tie.Need-read-page-requires Inv-loop μ-loop
-read-page-requires c κs = search needs
+read-counted-requires : tie.Need-read-counted-requires Inv-loop μ-loop
+read-counted-requires c κs = search needs
 
 returns : tie.Need-returns Inv-loop μ-loop
 returns c =
-    let a = c .before .before .before .before .before .before .before .args in
+    let paged = c .before .before .before .before in
+    let l = paged .before .before .loop in
+    let a = paged .before .before .before .before .args in
     let f : ℕ → ℕ = λ i. word (now (a .first) ++ now (a .second)) (4 * i) in
-    let inside : c .before .before .before .before .before .loop .t < 2 * length (upTo f (a .count)) = omega (arith, length-upTo f (a .count)) in
-    let gone = read-none (pageAt (a .format) (now (a .image)) (c .before .before .before .table-page .result)) (c .before .read-page .ensures) (not-true _ (c .if1 .taken)) in
-    λ s. sym (c .before .before .before .before .before .loop .inv .1 s ∙ pages-stop (a .format) (now (a .image)) (upTo f (a .count)) (ok s) (c .before .before .before .before .before .loop .t) inside (rw (c .before .before .before .table-page .ensures) at gone) ∙ rw (c .before .before .before .table-page .ensures))
+    let inside : l .t < 2 * length (upTo f (a .count)) = omega (arith, length-upTo f (a .count)) in
+    let gone = read-none (pageAt (a .format) (now (a .image)) (paged .table-page .result)) (c .before .read-counted .ensures .0) (not-true _ (c .if1 .taken)) in
+    (λ s. sym (l .inv .2 s ∙ pages-stop (a .format) (now (a .image)) (upTo f (a .count)) (ok s) (l .t) inside (rw (paged .table-page .ensures) at gone) ∙ rw (paged .table-page .ensures)), tt)
 
 add-t : tie.Need-add-t Inv-loop μ-loop
 add-t c = omega arith
@@ -55,17 +60,26 @@ loop-less c = omega arith
 
 loop-again : tie.Need-loop-again Inv-loop μ-loop
 loop-again c =
-    let a = c .before .before .before .before .before .before .before .args in
+    let paged = c .before .before .before .before in
+    let l = paged .before .before .loop in
+    let a = paged .before .before .before .before .args in
     let f : ℕ → ℕ = λ i. word (now (a .first) ++ now (a .second)) (4 * i) in
-    let inside : c .before .before .before .before .before .loop .t < 2 * length (upTo f (a .count)) = omega (arith, length-upTo f (a .count)) in
-    let there = read-some (pageAt (a .format) (now (a .image)) (c .before .before .before .table-page .result)) (c .before .read-page .ensures) (not-false _ (c .if1 .left)) in
-    (omega arith, λ s. c .before .before .before .before .before .loop .inv .1 s ∙ pages-more (a .format) (now (a .image)) (upTo f (a .count)) (ok s) (c .before .before .before .before .before .loop .t) inside (rw (c .before .before .before .table-page .ensures) at there))
+    let inside : l .t < 2 * length (upTo f (a .count)) = omega (arith, length-upTo f (a .count)) in
+    let there = read-some (pageAt (a .format) (now (a .image)) (paged .table-page .result)) (c .before .read-counted .ensures .0) (not-false _ (c .if1 .left)) in (
+      omega arith,
+      count-more (mendedChunks (a .format) (now (a .image))) (upTo f (a .count)) (now (a .mended)) (l .mended) (l .t) inside (rw (paged .table-page .ensures) at (c .before .read-counted .ensures .1)) (l .inv .1),
+      λ s. l .inv .2 s ∙ pages-more (a .format) (now (a .image)) (upTo f (a .count)) (ok s) (l .t) inside (rw (paged .table-page .ensures) at there),
+    )
 
 returns-2 : tie.Need-returns-2 Inv-loop μ-loop
 returns-2 c =
     let a = c .before .before .before .args in
+    let l = c .before .loop in
     let names = tableNames (now (a .first) ++ now (a .second)) (a .count) in
-    λ s. sym (c .before .loop .inv .1 s ∙ pages-done (a .format) (now (a .image)) names (ok s) (c .before .loop .t) (omega (arith, length-upTo (λ i. word (now (a .first) ++ now (a .second)) (4 * i)) (a .count))))
+    let all : 2 * length names ≤ l .t = omega (arith, length-upTo (λ i. word (now (a .first) ++ now (a .second)) (4 * i)) (a .count)) in (
+      λ s. sym (l .inv .2 s ∙ pages-done (a .format) (now (a .image)) names (ok s) (l .t) all),
+      count-done (mendedChunks (a .format) (now (a .image))) names (now (a .mended)) (l .mended) (l .t) all (l .inv .1),
+    )
 
 pub judge-pages-spec : {M : Type 1} → statement M
 judge-pages-spec =
@@ -76,7 +90,7 @@ judge-pages-spec =
     loop-holds
     mul-loop
     table-page-requires
-    read-page-requires
+    read-counted-requires
     returns
     add-t
     loop-less

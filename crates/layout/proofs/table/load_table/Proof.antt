@@ -48,8 +48,8 @@ load-words-requires : tie.Need-load-words-requires
 load-words-requires c κs =
     let a = c .before .before .before .before .before .before .before .before .before .before .before .before .args in
     let g = open-facts (a .s .geometry .format) (now (a .image)) (a .s) (c .before .before .before .before .before .before .before .before .before .before .before .before .pre .0) in
-    let one = c .before .before .before .before .before .before .read-page .ensures .buffer ∙ read-data _ _ (g .first-read) in
-    let two = c .before .before .before .before .read-page2 .ensures .buffer ∙ read-data _ _ (g .second-read) in
+    let one = c .before .before .before .before .before .before .read-page .ensures .0 .buffer ∙ read-data _ _ (g .first-read) in
+    let two = c .before .before .before .before .read-page2 .ensures .0 .buffer ∙ read-data _ _ (g .second-read) in
     (omega (arith, g .room, g .most), omega arith, found (now (a .image)) (a .s) g _ _ one two)
 
 same-length : tie.Need-same-length
@@ -59,8 +59,8 @@ returns : tie.Need-returns
 returns c =
     let a = c .before .before .before .before .before .before .before .before .before .before .before .before .before .before .before .args in
     let g = open-facts (a .s .geometry .format) (now (a .image)) (a .s) (c .before .before .before .before .before .before .before .before .before .before .before .before .before .before .before .pre .0) in
-    let one = c .before .before .before .before .before .before .before .before .before .read-page .ensures .buffer ∙ read-data _ _ (g .first-read) in
-    let two = c .before .before .before .before .before .before .before .read-page2 .ensures .buffer ∙ read-data _ _ (g .second-read) in
+    let one = c .before .before .before .before .before .before .before .before .before .read-page .ensures .0 .buffer ∙ read-data _ _ (g .first-read) in
+    let two = c .before .before .before .before .before .before .before .read-page2 .ensures .0 .buffer ∙ read-data _ _ (g .second-read) in
     loaded (now (a .image)) (a .s) g _ _ one two _ _ (c .before .before .load-words .ensures)
 
 pub load-table-spec : {M : Type 1} → statement M

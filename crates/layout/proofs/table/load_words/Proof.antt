@@ -61,7 +61,7 @@ loop-again c =
     let image = now (a .image) in
     let names = tableNames (now (a .first) ++ now (a .second)) (tableClusters (a .end)) in
     let here : Holding format image names (l .c) (joined .page) =
-    ⊎-elim (λ w. just-read format image names (l .c) (w .1 .ensures) (start .pre .2 (l .c / 128) (omega arith)) (w .3 .ensures) (w .4))
+    ⊎-elim (λ w. just-read format image names (l .c) (w .1 .ensures) (start .pre .2 (l .c / 128) (omega arith)) (w .3 .ensures .0) (w .4))
     (λ w. w .1 ∙ l .inv .3 (w .0 .left)) (joined .came) in (
       omega arith,
       word-more format image names (now (a .table)) (l .table) (joined .page) (l .c) (omega arith) here (c .word-at .result) (c .word-at .ensures) (l .inv .1),

@@ -39,21 +39,30 @@ slice-aggregate-put-count-5 c = search needs
 put-count-requires-5 : tie.Need-put-count-requires-5
 put-count-requires-5 c κs = search needs
 
+slice-aggregate-put-count-6 : tie.Need-slice-aggregate-put-count-6
+slice-aggregate-put-count-6 c = search needs
+
+put-count-requires-6 : tie.Need-put-count-requires-6
+put-count-requires-6 c κs = search needs
+
 same-length : tie.Need-same-length
 same-length c = search needs
 
 returns : tie.Need-returns
 unfolding countsText
 returns c =
-    let held = c .before .before in
+    let mended = c .before .before in
+    let held = mended .before .before .before .before .before in
     let orphaned = held .before .before .before .before .before in
     let reached = orphaned .before .before .before .before .before in
     let free = reached .before .before .before .before .before in
     let card = free .before .before .before .before .before in
     let small = card .before .before .before .before .before .good .0 in
     wrote-append (omega (arith, small))
+    (wrote-append (omega (arith, small))
     (wrote-append (omega (arith, small)) (wrote-append (omega (arith, small)) (wrote-append (omega (arith, small)) (card .put-count .ensures) (free .put-count2 .ensures)) (reached .put-count3 .ensures)) (orphaned .put-count4 .ensures))
-    (held .put-count5 .ensures)
+    (held .put-count5 .ensures))
+    (mended .put-count6 .ensures)
 
 pub put-counts-spec : {M : Type 1} → statement M
 put-counts-spec =
@@ -70,5 +79,7 @@ put-counts-spec =
     put-count-requires-4
     slice-aggregate-put-count-5
     put-count-requires-5
+    slice-aggregate-put-count-6
+    put-count-requires-6
     same-length
     returns)

@@ -17,7 +17,7 @@ same-length : tie.Need-same-length
 same-length c = search needs
 
 returns : tie.Need-returns
-returns c = search needs
+returns c = (c .before .before .read-in .ensures .0, c .before .before .read-in .ensures .1)
 
 pub read-words-spec : {M : Type 1} → statement M
 read-words-spec = tie.close (tie.spec slice-aggregate-read-in read-in-requires same-length returns)

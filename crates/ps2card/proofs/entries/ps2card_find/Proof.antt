@@ -1,5 +1,6 @@
 -- What the find in the image's format tells, in numbers and fields.
 use mathlib.Core.Path.{_∙_, ap, refl, sym}
+use Rattle.layout.specs.Mended.{mendedOf}
 use Rattle.lookup.specs.Answers.{entryOr, toldOutcome}
 use Rattle.lookup.specs.Find.{findOf}
 use Rattle.model.specs.Check.{fault}
@@ -39,18 +40,24 @@ hand-out-requires c κs = search needs
 
 returns : tie.Need-returns
 returns c =
-    rw (unknown-so (fault 1 0) (λ f. findOf f (c .before .before .before .before .before .before .before .args .image .now) (c .before .before .before .before .before .before .before .args .path .now)) (c .before .before .before .before .before .before .before .args .format) (c .before .before .before .before .format-of .ensures) (c .before .before .enum-told .given .1)) (c .tell-refusal .ensures .0, (c .tell-refusal .ensures .1, (refl, (refl, (refl, (refl, (refl, (refl, (refl, refl)))))))))
+    let a = c .before .before .before .before .before .before .before .args in
+    rw (unknown-so (fault 1 0) (λ f. findOf f (a .image .now) (a .path .now)) (a .format) (c .before .before .before .before .format-of .ensures) (c .before .before .enum-told .given .1)) (c .tell-refusal .ensures .0, (c .tell-refusal .ensures .1, (refl, (refl, (refl, (refl, (refl, (refl, (refl, (refl, refl))))))))))
 
 returns-2 : tie.Need-returns-2
 returns-2 c =
-    let e = known-so (fault 1 0) (λ f. findOf f (c .before .before .before .before .before .before .before .before .before .before .before .before .args .image .now) (c .before .before .before .before .before .before .before .before .before .before .before .before .args .path .now)) (c .before .before .before .before .before .before .before .before .before .before .before .before .args .format) (c .before .before .before .before .before .before .before .before .before .format-of .ensures) (c .before .before .before .before .before .before .before .named .given .1) ∙ told-refused (λ (d : Entry). tt) (sym (ap toldOutcome (c .before .before .before .outcome .given .1)) ∙ c .before .before .before .before .before .find .ensures .refusal) in
-    rw e (c .tell-refusal2 .ensures .0, (c .tell-refusal2 .ensures .1, (refl, (refl, (refl, (refl, (refl, (refl, (refl, refl)))))))))
+    let a = c .before .before .before .before .before .before .before .before .before .before .before .before .before .args in
+    let refused = told-refused (λ (d : Entry). tt) (sym (ap toldOutcome (c .before .before .before .outcome .given .1)) ∙ c .before .before .before .before .before .find .ensures .0 .refusal) in
+    rw (known-so (fault 1 0) (λ f. findOf f (a .image .now) (a .path .now)) (a .format) (c .before .before .before .before .before .before .before .before .before .before .format-of .ensures) (c .before .before .before .before .before .before .before .before .named .given .1) ∙ refused)
+    (c .tell-refusal2 .ensures .0, (c .tell-refusal2 .ensures .1, (rw refused at (c .before .before .before .before .before .find .ensures .1), (refl, (refl, (refl, (refl, (refl, (refl, (refl, refl))))))))))
 
 returns-3 : tie.Need-returns-3
 returns-3 c =
-    let e = told-value (λ (d : Entry). tt) (sym (ap toldOutcome (c .before .before .before .before .before .before .before .before .before .before .enum-told2 .given .1)) ∙ c .before .before .before .before .before .before .before .before .before .before .before .before .find .ensures .refusal) in
-    let d = c .before .before .before .before .before .before .before .before .before .before .before .before .find .ensures .entry ∙ ap entryOr (e .1) in
-    rw (known-so (fault 1 0) (λ f. findOf f (c .before .before .before .before .before .before .before .before .before .before .before .before .before .before .before .before .before .before .before .args .image .now) (c .before .before .before .before .before .before .before .before .before .before .before .before .before .before .before .before .before .before .before .args .path .now)) (c .before .before .before .before .before .before .before .before .before .before .before .before .before .before .before .before .before .before .before .args .format) (c .before .before .before .before .before .before .before .before .before .before .before .before .before .before .before .before .format-of .ensures) (c .before .before .before .before .before .before .before .before .before .before .before .before .before .before .named .given .1) ∙ e .1) (refl, (refl, rw d at (c .hand-out .ensures)))
+    let a = c .before .before .before .before .before .before .before .before .before .before .before .before .before .before .before .before .before .before .before .before .args in
+    let e = told-value (λ (d : Entry). tt) (sym (ap toldOutcome (c .before .before .before .before .before .before .before .before .before .before .enum-told2 .given .1)) ∙ c .before .before .before .before .before .before .before .before .before .before .before .before .find .ensures .0 .refusal) in
+    let d = c .before .before .before .before .before .before .before .before .before .before .before .before .find .ensures .0 .entry ∙ ap entryOr (e .1) in
+    let mended = known-so 0 (λ f. mendedOf f (a .image .now)) (a .format) (c .before .before .before .before .before .before .before .before .before .before .before .before .before .before .before .before .before .format-of .ensures) (c .before .before .before .before .before .before .before .before .before .before .before .before .before .before .before .named .given .1) in
+    rw (known-so (fault 1 0) (λ f. findOf f (a .image .now) (a .path .now)) (a .format) (c .before .before .before .before .before .before .before .before .before .before .before .before .before .before .before .before .before .format-of .ensures) (c .before .before .before .before .before .before .before .before .before .before .before .before .before .before .before .named .given .1) ∙ e .1)
+    (refl, (refl, (rw (e .1) at (c .before .before .before .before .before .before .before .before .before .before .before .before .find .ensures .1) ∙ sym mended, rw d at (c .hand-out .ensures))))
 
 pub ps2card-find-spec : {M : Type 1} → statement M
 ps2card-find-spec =

@@ -2,6 +2,7 @@
 use mathlib.Core.Path.{_∙_, ap, refl, sym}
 use lib.ListN.{length}
 use Rattle.lookup.specs.Answers.{toldRead}
+use Rattle.lookup.specs.Mended.{readMended}
 use Rattle.lookup.specs.Read.{readOf}
 use Rattle.model.specs.Check.{fault}
 use Rattle.ps2card.proofs.AnswerLaws.{told-refused, told-value}
@@ -36,23 +37,29 @@ enum-known-copied c = search needs
 
 returns : tie.Need-returns
 returns c =
-    rw (unknown-so (fault 1 0) (λ f. readOf f (c .before .before .before .before .before .before .before .before .args .image .now) (c .before .before .before .before .before .before .before .before .args .path .now) (c .before .before .before .before .before .before .before .before .args .offset) (length (c .before .before .before .before .before .before .before .before .args .out .now))) (c .before .before .before .before .before .before .before .before .args .format) (c .before .before .before .before .format-of .ensures) (c .before .before .enum-told .given .1)) (c .tell-refusal .ensures .0, (c .tell-refusal .ensures .1, (refl, refl)))
+    let a = c .before .before .before .before .before .before .before .before .args in
+    rw (unknown-so (fault 1 0) (λ f. readOf f (a .image .now) (a .path .now) (a .offset) (length (a .out .now))) (a .format) (c .before .before .before .before .format-of .ensures) (c .before .before .enum-told .given .1)) (c .tell-refusal .ensures .0, (c .tell-refusal .ensures .1, (refl, (refl, refl))))
 
 same-length : tie.Need-same-length
 same-length c = search needs
 
 returns-2 : tie.Need-returns-2
 returns-2 c =
-    let e = told-refused length (sym (ap toldRead (c .before .before .before .refusal .given .1)) ∙ c .before .before .before .before .before .before .before .read .ensures .count) in
-    rw (known-so (fault 1 0) (λ f. readOf f (c .before .before .before .before .before .before .before .before .before .before .before .before .before .before .before .before .args .image .now) (c .before .before .before .before .before .before .before .before .before .before .before .before .before .before .before .before .args .path .now) (c .before .before .before .before .before .before .before .before .before .before .before .before .before .before .before .before .args .offset) (length (c .before .before .before .before .before .before .before .before .before .before .before .before .before .before .before .before .args .out .now))) (c .before .before .before .before .before .before .before .before .before .before .before .before .before .before .before .before .args .format) (c .before .before .before .before .before .before .before .before .before .before .before .before .format-of .ensures) (c .before .before .before .before .before .before .before .before .before .before .named .given .1) ∙ e) (c .tell-refusal2 .ensures .0, (c .tell-refusal2 .ensures .1, (refl, rw e at (c .before .before .before .before .before .before .before .read .ensures .buffer))))
+    let a = c .before .before .before .before .before .before .before .before .before .before .before .before .before .before .before .before .before .args in
+    let refused = told-refused length (sym (ap toldRead (c .before .before .before .refusal .given .1)) ∙ c .before .before .before .before .before .before .before .read .ensures .0 .count) in
+    rw (known-so (fault 1 0) (λ f. readOf f (a .image .now) (a .path .now) (a .offset) (length (a .out .now))) (a .format) (c .before .before .before .before .before .before .before .before .before .before .before .before .before .format-of .ensures) (c .before .before .before .before .before .before .before .before .before .before .before .named .given .1) ∙ refused)
+    (c .tell-refusal2 .ensures .0, (c .tell-refusal2 .ensures .1, (refl, (rw refused at (c .before .before .before .before .before .before .before .read .ensures .1), rw refused at (c .before .before .before .before .before .before .before .read .ensures .0 .buffer)))))
 
 same-length-2 : tie.Need-same-length-2
 same-length-2 c = search needs
 
 returns-3 : tie.Need-returns-3
 returns-3 c =
-    let e = told-value length (sym (ap toldRead (c .before .copied .given .1)) ∙ c .before .before .before .before .before .read .ensures .count) in
-    rw (known-so (fault 1 0) (λ f. readOf f (c .before .before .before .before .before .before .before .before .before .before .before .before .before .before .args .image .now) (c .before .before .before .before .before .before .before .before .before .before .before .before .before .before .args .path .now) (c .before .before .before .before .before .before .before .before .before .before .before .before .before .before .args .offset) (length (c .before .before .before .before .before .before .before .before .before .before .before .before .before .before .args .out .now))) (c .before .before .before .before .before .before .before .before .before .before .before .before .before .before .args .format) (c .before .before .before .before .before .before .before .before .before .before .format-of .ensures) (c .before .before .before .before .before .before .before .before .named .given .1) ∙ e .1) (refl, (refl, (e .2, rw (e .1) at (c .before .before .before .before .before .read .ensures .buffer))))
+    let a = c .before .before .before .before .before .before .before .before .before .before .before .before .before .before .before .args in
+    let e = told-value length (sym (ap toldRead (c .before .copied .given .1)) ∙ c .before .before .before .before .before .read .ensures .0 .count) in
+    let mended = known-so 0 (λ f. readMended f (a .image .now) (a .path .now) (a .offset) (length (a .out .now))) (a .format) (c .before .before .before .before .before .before .before .before .before .before .before .format-of .ensures) (c .before .before .before .before .before .before .before .before .before .named .given .1) in
+    rw (known-so (fault 1 0) (λ f. readOf f (a .image .now) (a .path .now) (a .offset) (length (a .out .now))) (a .format) (c .before .before .before .before .before .before .before .before .before .before .before .format-of .ensures) (c .before .before .before .before .before .before .before .before .before .named .given .1) ∙ e .1)
+    (refl, (refl, (e .2, (rw (e .1) at (c .before .before .before .before .before .read .ensures .1) ∙ sym mended, rw (e .1) at (c .before .before .before .before .before .read .ensures .0 .buffer)))))
 
 pub ps2card-read-spec : {M : Type 1} → statement M
 ps2card-read-spec =

@@ -1,5 +1,6 @@
 -- The walk of a directory's inside: the model's walk, slot by slot.
 -- The loop keeps where the walk stands: sound so far, and what is left of the slots gives what the whole inside gives; or refused.
+-- The count at the loop's begin has the first two entries already, so that the whole is any that the walk stood in there.
 use Prim.Native.Nat.{_*_, _+_, _-_, _<_, _≤_, _^_, ℕ}
 use mathlib.Core.Bool.{Bool, _&&_, false, true}
 use mathlib.Core.Logic.{⊎-elim}
@@ -11,8 +12,10 @@ use borrow.Fn.Kinds.{In}
 use borrow.Fn.PlainCycle.{Measures, and, falls, is}
 use lib.Dec.{ltb}
 use Rattle.layout.specs.See.{onImage, viewBy}
+use Rattle.model.specs.Check.{Marks, Result}
 use Rattle.model.proofs.Equality.{and-l, and-r}
 use Rattle.reached.specs.Marks.{Sound, marksOf}
+use Rattle.tree.specs.Mended.{mendedPage}
 use Rattle.tree.specs.Met.{Grows, Knows}
 use Rattle.tree.specs.Slots.{clusterAt}
 use Rattle.tree.specs.Walk.{Tells, enteredLook, insideOf}
@@ -43,15 +46,15 @@ ended left told sound h e f = let none : left ≤ 0 = ltb-false 0 left (go (ltb 
     go true q = q
     go false q = refl
 
-abbrev μ-walk-dir : Measures 3 walk-dir-kinds.ps ℕ
-μ-walk-dir κs a = a .1 .1 .1 .1 .1 .1 .1 .0
+abbrev μ-walk-dir : Measures 4 walk-dir-kinds.ps ℕ
+μ-walk-dir κs a = a .1 .1 .1 .1 .1 .1 .1 .1 .0
 
-abbrev walk-dir-at : ℕ → In 3 walk-dir-kinds.ps
-walk-dir-at t = and 3 walk-dir-kinds.ps (is 3 walk-dir-kinds.ps μ-walk-dir t) walk-dir.Pre
+abbrev walk-dir-at : ℕ → In 4 walk-dir-kinds.ps
+walk-dir-at t = and 4 walk-dir-kinds.ps (is 4 walk-dir-kinds.ps μ-walk-dir t) walk-dir.Pre
 
-abbrev walk-dir-below : ℕ → In 3 walk-dir-kinds.ps
+abbrev walk-dir-below : ℕ → In 4 walk-dir-kinds.ps
 walk-dir-below t =
-    and 3 walk-dir-kinds.ps (falls 3 walk-dir-kinds.ps _<_ μ-walk-dir t) walk-dir.Pre
+    and 4 walk-dir-kinds.ps (falls 4 walk-dir-kinds.ps _<_ μ-walk-dir t) walk-dir.Pre
 
 -- what it may use of the functions that it calls
 abbrev calls : ℕ → walk-dir-lts.Claims
@@ -79,12 +82,13 @@ calls t = (
 )
 
 abbrev Inv-loop : walk-dir-lts.InvT-loop
-Inv-loop image table geometry cells₀ first entries below v₀ start r₀ c₀ k₀ left₀ cells v r c k left =
-    Stands (viewBy geometry table image) geometry below table start c k left (onImage geometry (insideOf (viewBy geometry table image) below table first entries (marksOf r₀))) v r
+Inv-loop image table geometry cells₀ mended₀ first entries below v₀ start r₀ c₀ k₀ left₀ cells mended v r c k left =
+    ((whole : Result (Marks × ℕ)) → Stands (viewBy geometry table image) (mendedPage geometry image) geometry below table start c₀ k₀ left₀ whole v₀ r₀ mended₀
+    → Stands (viewBy geometry table image) (mendedPage geometry image) geometry below table start c k left whole v r mended)
     × (c ≡ clusterAt table start k) × (k + left ≡ left₀) × Knows (viewBy geometry table image) table first start k cells × Grows cells₀ cells
 
 abbrev μ-loop : walk-dir-lts.MeasureT-loop
-μ-loop image table geometry cells₀ first entries below v₀ start r₀ c₀ k₀ left₀ cells v r c k left = left
+μ-loop image table geometry cells₀ mended₀ first entries below v₀ start r₀ c₀ k₀ left₀ cells mended v r c k left = left
 
 judge-dots-requires : (t : ℕ) → walk-dir-lts.Need-judge-dots-requires (calls t) (walk-dir-at t) walk-dir.Post Inv-loop μ-loop
 judge-dots-requires t c κs = search needs
@@ -97,9 +101,9 @@ slots-of-requires t c κs = search needs
 
 loop-holds : (t : ℕ) → walk-dir-lts.Need-loop-holds (calls t) (walk-dir-at t) walk-dir.Post Inv-loop μ-loop
 loop-holds t c =
-    let s = c .before .before .before .before .before in
+    let s = c .before .before .before .before .before .before in
     let v = viewBy (s .args .geometry) (s .args .table .now) (s .args .image .now) in (
-      inside-stands v (s .args .geometry) (s .args .below) (s .args .table .now) (s .args .first) (s .args .entries) (s .args .reached) (s .pre .1 .1) _ (c .before .before .judge-dots .ensures) (c .before .next-of .result) (c .slots-of .result) (c .before .next-of .ensures) (c .slots-of .ensures),
+      λ whole h. h,
       cluster-start _ _,
       omega arith,
       knows-none v (s .args .table .now) (s .args .first) (c .before .next-of .result) (s .args .cells .now) (s .pre .1 .2),
@@ -110,7 +114,7 @@ is-sound-requires : (t : ℕ) → walk-dir-lts.Need-is-sound-requires (calls t) 
 is-sound-requires t c κs = search needs
 
 look-at-requires : (t : ℕ) → walk-dir-lts.Need-look-at-requires (calls t) (walk-dir-at t) walk-dir.Post Inv-loop μ-loop
-look-at-requires t c κs = (c .before .before .before .before .before .before .before .before .before .pre .1 .0, c .before .before .before .loop .inv .1, c .before .before .before .loop .inv .3)
+look-at-requires t c κs = (c .before .before .before .before .before .before .before .before .before .before .before .pre .1 .0, c .before .before .before .before .loop .inv .1, c .before .before .before .before .loop .inv .3)
 
 task-of-requires : (t : ℕ) → walk-dir-lts.Need-task-of-requires (calls t) (walk-dir-at t) walk-dir.Post Inv-loop μ-loop
 task-of-requires t c κs = search needs
@@ -122,17 +126,18 @@ sound-by-requires : (t : ℕ) → walk-dir-lts.Need-sound-by-requires (calls t) 
 sound-by-requires t c κs = search needs
 
 -- a directory that is entered: another level is left below, and its chain keeps the record sound
-entered : (t : ℕ) (c : walk-dir-lts.After-walk-dir-arg (calls t) (walk-dir-at t) walk-dir.Post Inv-loop μ-loop)
-    → (0 < c .before .before .before .before .before .before .before .before .before .before .before .before .before .before .before .before .before .before .before .args .below) × Sound (c .before .before .before .before .before .before .walk-chain .result .reached)
+entered : (t : ℕ) (c : walk-dir-lts.After-walk-dir-arg2 (calls t) (walk-dir-at t) walk-dir.Post Inv-loop μ-loop)
+    → (0 < c .before .before .before .before .before .before .before .before .before .before .before .before .before .before .before .before .before .before .before .before .before .before .args .below) × Sound (c .before .before .before .before .before .before .before .walk-chain .result .reached)
 entered t c =
-    let s = c .before .before .before .before .before .before .before .before .before .before .before .before .before .before .before .before .before .before .before in
+    let s = c .before .before .before .before .before .before .before .before .before .before .before .before .before .before .before .before .before .before .before .before .before .before in
     let v = viewBy (s .args .geometry) (s .args .table .now) (s .args .image .now) in
-    let w = c .before .before .before .before .before .before .before .before .before .before .before .before .before .loop in
-    let task = c .before .before .before .before .before .before .before .before .task-of .ensures in
-    let sound = sym (c .before .before .before .before .before .before .before .before .before .before .before .before .is-sound .ensures) ∙ and-r (ltb 0 (w .left)) (c .before .before .before .before .before .before .before .before .before .before .before .before .is-sound .result) (c .before .before .before .before .before .before .before .before .before .before .before .if1 .taken) in
-    let whole = onImage (s .args .geometry) (insideOf v (s .args .below) (s .args .table .now) (s .args .first) (s .args .entries) (marksOf (s .args .reached))) in
-    let stands = stands-sound v (s .args .geometry) (s .args .below) (s .args .table .now) (c .before .before .before .before .before .before .before .before .before .before .before .before .before .before .before .next-of .result) (w .c) (w .k) (w .left) whole (w .v) (w .r) (w .inv .0) sound in
-    let go = task-inside (s .args .table .now) (s .pre .1 .0) v (λ n. refl) (s .args .geometry) (s .args .below) (w .r) (stands .1) (c .before .before .before .before .before .before .walk-chain .result) (c .before .before .before .before .before .before .before .before .before .look-at .result) (rw task at (c .before .before .before .before .before .before .before .if2 .taken)) (rw task at (c .before .before .before .before .before .before .walk-chain .ensures)) (rw task at (c .before .if3 .taken)) in
+    let mend = mendedPage (s .args .geometry) (s .args .image .now) in
+    let w = c .before .before .before .before .before .before .before .before .before .before .before .before .before .before .before .loop in
+    let task = c .before .before .before .before .before .before .before .before .before .task-of .ensures in
+    let sound = sym (c .before .before .before .before .before .before .before .before .before .before .before .before .before .before .is-sound .ensures) ∙ and-r (ltb 0 (w .left)) (c .before .before .before .before .before .before .before .before .before .before .before .before .before .before .is-sound .result) (c .before .before .before .before .before .before .before .before .before .before .before .before .before .if1 .taken) in
+    let stands = stands-sound v mend (s .args .geometry) (s .args .below) (s .args .table .now) (c .before .before .before .before .before .before .before .before .before .before .before .before .before .before .before .before .before .next-of .result) (w .c) (w .k) (w .left) (onImage (s .args .geometry) (insideOf v mend (s .args .below) (s .args .table .now) (s .args .first) (s .args .entries) (marksOf (s .args .reached)) (s .args .mended .now))) (w .v) (w .r) (w .mended)
+    (w .inv .0 _ (inside-stands v mend (s .args .geometry) (s .args .below) (s .args .table .now) (s .args .first) (s .args .entries) (s .args .reached) (s .args .mended .now) (s .pre .1 .1) _ (c .before .before .before .before .before .before .before .before .before .before .before .before .before .before .before .before .before .before .judge-dots .ensures .0) _ (c .before .before .before .before .before .before .before .before .before .before .before .before .before .before .before .before .before .before .judge-dots .ensures .1) (c .before .before .before .before .before .before .before .before .before .before .before .before .before .before .before .before .before .next-of .result) (c .before .before .before .before .before .before .before .before .before .before .before .before .before .before .before .before .slots-of .result) (c .before .before .before .before .before .before .before .before .before .before .before .before .before .before .before .before .before .next-of .ensures) (c .before .before .before .before .before .before .before .before .before .before .before .before .before .before .before .before .slots-of .ensures))) sound in
+    let go = task-inside (s .args .table .now) (s .pre .1 .0) v mend (λ n. refl) (s .args .geometry) (s .args .below) (w .r) (stands .1) 0 (c .before .before .before .before .before .before .before .walk-chain .result) (c .before .before .before .before .before .before .before .before .before .before .look-at .result) (rw task at (c .before .before .before .before .before .before .before .before .if2 .taken)) (rw task at (c .before .before .before .before .before .before .before .walk-chain .ensures)) (rw task at (c .before .before .if3 .taken)) in
     (go .0, go .1)
 
 sub-walk-dir : (t : ℕ) → walk-dir-lts.Need-sub-walk-dir (calls t) (walk-dir-at t) walk-dir.Post Inv-loop μ-loop
@@ -140,54 +145,62 @@ sub-walk-dir t c = omega (arith, (entered t c) .0)
 
 walk-dir-requires : (t : ℕ) → walk-dir-lts.Need-walk-dir-requires (calls t) (walk-dir-at t) walk-dir.Post Inv-loop μ-loop
 walk-dir-requires t c κs =
-    let s = c .before .before .before .before .before .before .before .before .before .before .before .before .before .before .before .before .before .before .before in
+    let s = c .before .before .before .before .before .before .before .before .before .before .before .before .before .before .before .before .before .before .before .before .before .before in
     let v = viewBy (s .args .geometry) (s .args .table .now) (s .args .image .now) in
-    let filled = (knows-on v (s .args .table .now) (s .args .first) _ _ _ _ _ _ (c .before .before .before .before .before .before .before .before .before .before .before .before .before .loop .inv .4) (c .before .before .before .before .before .before .before .before .before .look-at .ensures .1) (grows-self _)) .1 in
+    let filled = (knows-on v (s .args .table .now) (s .args .first) _ _ _ _ _ _ (c .before .before .before .before .before .before .before .before .before .before .before .before .before .before .before .loop .inv .4) (c .before .before .before .before .before .before .before .before .before .before .look-at .ensures .1 .0) (grows-self _)) .1 in
     (omega (arith, (entered t c) .0, s .pre .0), (s .pre .1 .0, (entered t c) .1, filled .room ∙ s .pre .1 .2))
 
 cluster-after-requires : (t : ℕ) → walk-dir-lts.Need-cluster-after-requires (calls t) (walk-dir-at t) walk-dir.Post Inv-loop μ-loop
 cluster-after-requires t c κs = search needs
 
 add-k : (t : ℕ) → walk-dir-lts.Need-add-k (calls t) (walk-dir-at t) walk-dir.Post Inv-loop μ-loop
-add-k t c = omega (arith, c .before .before .before .before .before .before .before .loop .inv .2)
+add-k t c =
+    let w = c .before .before .before .before .before .before .before .before .loop in
+    let counted = c .before .before .before .before .before .before .before .before .before .slots-of in
+    omega (arith, w .inv .2, ltb-true 0 (w .left) (and-l (ltb 0 (w .left)) _ (c .before .before .before .before .before .before .if1 .taken)), counted .ok)
 
 sub-left : (t : ℕ) → walk-dir-lts.Need-sub-left (calls t) (walk-dir-at t) walk-dir.Post Inv-loop μ-loop
-sub-left t c = let w = c .before .before .before .before .before .before .before .loop in omega (arith, ltb-true 0 (w .left) (and-l (ltb 0 (w .left)) _ (c .before .before .before .before .before .if1 .taken)))
+sub-left t c = let w = c .before .before .before .before .before .before .before .before .loop in omega (arith, ltb-true 0 (w .left) (and-l (ltb 0 (w .left)) _ (c .before .before .before .before .before .before .if1 .taken)))
 
 loop-less : (t : ℕ) → walk-dir-lts.Need-loop-less (calls t) (walk-dir-at t) walk-dir.Post Inv-loop μ-loop
-loop-less t c = let w = c .before .before .before .before .before .before .before .loop in omega (arith, ltb-true 0 (w .left) (and-l (ltb 0 (w .left)) _ (c .before .before .before .before .before .if1 .taken)))
+loop-less t c = let w = c .before .before .before .before .before .before .before .before .loop in omega (arith, ltb-true 0 (w .left) (and-l (ltb 0 (w .left)) _ (c .before .before .before .before .before .before .if1 .taken)))
 
 loop-again : (t : ℕ) → walk-dir-lts.Need-loop-again (calls t) (walk-dir-at t) walk-dir.Post Inv-loop μ-loop
 loop-again t c =
-    let s = c .before .before .before .before .before .before .before .before .before .before .before .before .before in
+    let s = c .before .before .before .before .before .before .before .before .before .before .before .before .before .before .before in
     let g = s .args .geometry in
     let tb = s .args .table .now in
+    let b = s .args .below in
     let v = viewBy g tb (s .args .image .now) in
-    let w = c .before .before .before .before .before .before .before .loop in
+    let mend = mendedPage g (s .args .image .now) in
+    let w = c .before .before .before .before .before .before .before .before .loop in
     let seen = c .before .before .before .look-at in
+    let joined = c .before .if2 in
+    let count = seen .last .1 .1 .1 .1 .1 .1 .1 .1 .0 in
     let task = c .before .before .task-of .ensures in
-    let more = ltb-true 0 (w .left) (and-l (ltb 0 (w .left)) _ (c .before .before .before .before .before .if1 .taken)) in
-    let sound = sym (c .before .before .before .before .before .before .is-sound .ensures) ∙ and-r (ltb 0 (w .left)) (c .before .before .before .before .before .before .is-sound .result) (c .before .before .before .before .before .if1 .taken) in
-    let whole = onImage g (insideOf v (s .args .below) tb (s .args .first) (s .args .entries) (marksOf (s .args .reached))) in
-    let stands = stands-sound v g (s .args .below) tb (c .before .before .before .before .before .before .before .before .before .next-of .result) (w .c) (w .k) (w .left) whole (w .v) (w .r) (w .inv .0) sound in
-    let told : Tells (enteredLook v g (s .args .below) tb (marksOf (w .r)) (seen .result)) (c .before .if2 .v) (c .before .if2 .r) =
-    ⊎-elim
+    let more = ltb-true 0 (w .left) (and-l (ltb 0 (w .left)) _ (c .before .before .before .before .before .before .if1 .taken)) in
+    let sound = sym (c .before .before .before .before .before .before .before .is-sound .ensures) ∙ and-r (ltb 0 (w .left)) (c .before .before .before .before .before .before .before .is-sound .result) (c .before .before .before .before .before .before .if1 .taken) in
+    let told : Sound (w .r) → Tells (enteredLook v mend g b tb (marksOf (w .r)) count (seen .result)) (joined .v) (joined .r) (joined .mended) =
+    λ kept. ⊎-elim
     (λ z.
-    let go = task-inside tb (s .pre .1 .0) v (λ n. refl) g (s .args .below) (w .r) (stands .1) (z .1 .result) (seen .result) (rw task at (z .0 .taken)) (rw task at (z .1 .ensures)) (rw task at (z .6 .taken)) in
-    rw (z .11, z .12) (go .2 _ _ (rw task at (z .8 .ensures .0))))
+    let go = task-inside tb (s .pre .1 .0) v mend (λ n. refl) g b (w .r) kept count (z .1 .result) (seen .result) (rw task at (z .0 .taken)) (rw task at (z .1 .ensures)) (rw task at (z .6 .taken)) in
+    rw (z .12, z .13, z .14) (go .2 _ _ _ (rw task at (z .9 .ensures .0))))
     (⊎-elim
-    (λ z. rw (z .8, z .9, z .3 .ensures) (task-chain tb (s .pre .1 .0) v (λ n. refl) g (s .args .below) (w .r) (stands .1) (z .1 .result) (seen .result) (rw task at (z .0 .taken)) (rw task at (z .1 .ensures)) (rw task at (z .6 .left))))
-    (λ z. rw (z .2, z .3, task) (task-idle tb (s .pre .1 .0) v (λ n. refl) g (s .args .below) (w .r) (stands .1) (seen .result) (rw task at (z .0 .left)))))
-    (c .before .if2 .came) in
-    let cells : Knows v tb (s .args .first) (c .before .before .before .before .before .before .before .before .before .next-of .result) (w .k + 1) (c .before .if2 .cells) × Grows (s .args .cells .now) (c .before .if2 .cells) =
+    (λ z. rw (z .8, z .9, z .10, z .3 .ensures) (task-chain tb (s .pre .1 .0) v mend (λ n. refl) g b (w .r) kept count (z .1 .result) (seen .result) (rw task at (z .0 .taken)) (rw task at (z .1 .ensures)) (rw task at (z .6 .left))))
+    (λ z. rw (z .2, z .3, z .4, task) (task-idle tb (s .pre .1 .0) v mend (λ n. refl) g b (w .r) kept count (seen .result) (rw task at (z .0 .left)))))
+    (joined .came) in
+    let cells : Knows v tb (s .args .first) (c .before .before .before .before .before .before .before .before .before .before .next-of .result) (w .k + 1) (joined .cells) × Grows (s .args .cells .now) (joined .cells) =
     ⊎-elim
-    (λ z. rw (z .10) (knows-on v tb (s .args .first) _ _ _ _ _ _ (w .inv .4) (seen .ensures .1) (z .8 .ensures .1)))
+    (λ z. rw (z .11) (knows-on v tb (s .args .first) _ _ _ _ _ _ (w .inv .4) (seen .ensures .1 .0) (z .9 .ensures .1)))
     (⊎-elim
-    (λ z. rw (z .7) (knows-on v tb (s .args .first) _ _ _ _ _ _ (w .inv .4) (seen .ensures .1) (grows-self _)))
-    (λ z. rw (z .1) (knows-on v tb (s .args .first) _ _ _ _ _ _ (w .inv .4) (seen .ensures .1) (grows-self _))))
-    (c .before .if2 .came) in (
-      rw (c .cluster-after .ensures) (slot-on v g (s .args .below) tb (λ n. refl) (c .before .before .before .before .before .before .before .before .before .next-of .result) (w .c) (w .k) (w .left) _ (w .r) (stands .0) more (w .inv .1) (seen .result) (seen .ensures .0) (c .before .if2 .v) (c .before .if2 .r) told),
-      cluster-step tb (c .before .before .before .before .before .before .before .before .before .next-of .result) (w .c) (w .k) _ (w .inv .1) (c .cluster-after .ensures),
+    (λ z. rw (z .7) (knows-on v tb (s .args .first) _ _ _ _ _ _ (w .inv .4) (seen .ensures .1 .0) (grows-self _)))
+    (λ z. rw (z .1) (knows-on v tb (s .args .first) _ _ _ _ _ _ (w .inv .4) (seen .ensures .1 .0) (grows-self _))))
+    (joined .came) in (
+      λ whole h.
+          let here = stands-sound v mend g b tb (c .before .before .before .before .before .before .before .before .before .before .next-of .result) (w .c) (w .k) (w .left) whole (w .v) (w .r) (w .mended) (w .inv .0 whole h) sound in
+          rw (c .cluster-after .ensures)
+          (slot-on v mend g b tb (λ n. refl) (c .before .before .before .before .before .before .before .before .before .before .next-of .result) (w .c) (w .k) (w .left) whole (w .r) (w .mended) (here .0) more (w .inv .1) (seen .result) (seen .ensures .0) count (seen .ensures .1 .1) (joined .v) (joined .r) (joined .mended) (told (here .1))),
+      cluster-step tb (c .before .before .before .before .before .before .before .before .before .before .next-of .result) (w .c) (w .k) _ (w .inv .1) (c .cluster-after .ensures),
       omega (arith, w .inv .2, more),
       cells .0,
       cells .1,
@@ -195,10 +208,14 @@ loop-again t c =
 
 returns : (t : ℕ) → walk-dir-lts.Need-returns (calls t) (walk-dir-at t) walk-dir.Post Inv-loop μ-loop
 returns t c =
-    let s = c .before .before .before .before .before .before .before .before in
+    let s = c .before .before .before .before .before .before .before .before .before in
     let v = viewBy (s .args .geometry) (s .args .table .now) (s .args .image .now) in
-    let w = c .before .before .loop in
-    (stands-end v (s .args .geometry) (s .args .below) (s .args .table .now) _ (w .c) (w .k) (w .left) _ (w .v) (w .r) (w .inv .0) (ended (w .left) _ _ (c .if1 .left) (c .before .is-sound .ensures)), w .inv .4)
+    let mend = mendedPage (s .args .geometry) (s .args .image .now) in
+    let w = c .before .before .loop in (
+      stands-end v mend (s .args .geometry) (s .args .below) (s .args .table .now) _ (w .c) (w .k) (w .left) _ (w .v) (w .r) (w .mended)
+          (w .inv .0 _ (inside-stands v mend (s .args .geometry) (s .args .below) (s .args .table .now) (s .args .first) (s .args .entries) (s .args .reached) (s .args .mended .now) (s .pre .1 .1) _ (c .before .before .before .before .before .judge-dots .ensures .0) _ (c .before .before .before .before .before .judge-dots .ensures .1) (c .before .before .before .before .next-of .result) (c .before .before .before .slots-of .result) (c .before .before .before .before .next-of .ensures) (c .before .before .before .slots-of .ensures))) (ended (w .left) _ _ (c .if1 .left) (c .before .is-sound .ensures)),
+      w .inv .4,
+    )
 
 pub +walk-dir-spec : {M : Type 1} → statement M
 +walk-dir-spec =

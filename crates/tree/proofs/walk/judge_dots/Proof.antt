@@ -6,7 +6,8 @@ use borrow.Author.Tests.{not-false, not-true}
 use Rattle.layout.specs.See.{viewBy}
 use Rattle.model.specs.Check.{judgeDot}
 use Rattle.model.specs.Names.{dotDotName, dotName}
-use Rattle.tree.proofs.TellLaws.{dots-go, dots-stop}
+use Rattle.tree.specs.Mended.{mendedPage}
+use Rattle.tree.proofs.TellLaws.{adds-stop, adds-two, dots-go, dots-stop}
 use borrow.Author.Needs.{needs}
 use Rattle.tree.proofs.walk.judge_dots.Statement.{statement}
 use Rattle.tree.proofs.walk.judge_dots.Tie as tie
@@ -25,10 +26,12 @@ is-sound-requires c κs = search needs
 
 returns : tie.Need-returns
 returns c =
-    let v = viewBy (c .before .before .before .before .before .before .args .geometry) (c .before .before .before .before .before .before .args .table .now) (c .before .before .before .before .before .before .args .image .now) in
-    let f = c .before .before .before .before .before .before .args .first in
+    let a = c .before .before .before .before .before .before .before .args in
+    let v = viewBy (a .geometry) (a .table .now) (a .image .now) in
+    let f = a .first in
     let p : f * 2 ≡ 2 * f = omega arith in
-    dots-stop (c .before .before .before .before .before .before .args .geometry) (λ x. judgeDot v dotDotName (2 * f + 1) (v .entry (2 * f + 1))) (judgeDot v dotName (2 * f) (v .entry (2 * f))) (c .before .before .judge-dot .result) (rw p at (c .before .before .judge-dot .ensures)) (sym (c .before .is-sound .ensures) ∙ not-true _ (c .if1 .taken))
+    let bad = sym (c .before .is-sound .ensures) ∙ not-true _ (c .if1 .taken) in
+    (dots-stop (a .geometry) (λ x. judgeDot v dotDotName (2 * f + 1) (v .entry (2 * f + 1))) (judgeDot v dotName (2 * f) (v .entry (2 * f))) (c .before .before .judge-dot .result) (rw p at (c .before .before .judge-dot .ensures .0)) bad, adds-stop (c .before .before .judge-dot .result) _ _ _ bad)
 
 add-judge-dot : tie.Need-add-judge-dot
 add-judge-dot c = search needs
@@ -41,10 +44,15 @@ judge-dot-requires-2 c κs = search needs
 
 returns-2 : tie.Need-returns-2
 returns-2 c =
-    let v = viewBy (c .before .before .before .before .before .before .before .before .args .geometry) (c .before .before .before .before .before .before .before .before .args .table .now) (c .before .before .before .before .before .before .before .before .args .image .now) in
-    let f = c .before .before .before .before .before .before .before .before .args .first in
+    let a = c .before .before .before .before .before .before .before .before .before .before .args in
+    let v = viewBy (a .geometry) (a .table .now) (a .image .now) in
+    let f = a .first in
     let p : f * 2 ≡ 2 * f = omega arith in
-    dots-go (c .before .before .before .before .before .before .before .before .args .geometry) (λ x. judgeDot v dotDotName (2 * f + 1) (v .entry (2 * f + 1))) (judgeDot v dotName (2 * f) (v .entry (2 * f))) (c .before .before .before .before .judge-dot .result) (c .judge-dot2 .result) (rw p at (c .before .before .before .before .judge-dot .ensures)) (sym (c .before .before .before .is-sound .ensures) ∙ not-false _ (c .before .before .if1 .left)) (rw p at (c .judge-dot2 .ensures))
+    let mend = mendedPage (a .geometry) (a .image .now) in
+    let good = sym (c .before .before .before .before .is-sound .ensures) ∙ not-false _ (c .before .before .before .if1 .left) in (
+      dots-go (a .geometry) (λ x. judgeDot v dotDotName (2 * f + 1) (v .entry (2 * f + 1))) (judgeDot v dotName (2 * f) (v .entry (2 * f))) (c .before .before .before .before .before .judge-dot .result) (c .judge-dot2 .result) (rw p at (c .before .before .before .before .before .judge-dot .ensures .0)) good (rw p at (c .judge-dot2 .ensures .0)),
+      adds-two (c .before .before .before .before .before .judge-dot .result) (c .judge-dot2 .result) (a .mended .now) (mend (2 * f)) (mend (2 * f + 1)) _ _ good (rw p at (c .before .before .before .before .before .judge-dot .ensures .1)) (rw p at (c .judge-dot2 .ensures .1)),
+    )
 
 pub judge-dots-spec : {M : Type 1} → statement M
 judge-dots-spec =
