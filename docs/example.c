@@ -54,9 +54,11 @@ static void time_in_japan(uint8_t *bytes) {
 static void show_directory(const char *path) {
     ps2card_entry entry;
     uint32_t slot = 2, found = 0;
-    size_t page = 0;
+    size_t page = 0, mended;
     for (;;) {
-        accepted(path, ps2card_step_entry(format, image, image_length, TEXT(path), slot, &page, &found, &slot, &entry),
+        accepted(path,
+                 ps2card_step_entry(format, image, image_length, TEXT(path), slot, &page, &found, &slot, &entry,
+                                    &mended),
                  page);
         if (!found) {
             return;
@@ -71,13 +73,14 @@ static void show_directory(const char *path) {
 static void put_note(void) {
     static const char note[] = "Written by the example of ps2card.h.\n";
     uint8_t now[8], back[sizeof note];
-    size_t page = 0, count = 0;
+    size_t page = 0, count = 0, mended;
     time_in_japan(now);
     accepted("make /EXAMPLE", ps2card_make_dir(format, image, image_length, TEXT("/EXAMPLE"), now, &page), page);
     accepted("create", ps2card_create(format, image, image_length, TEXT("/EXAMPLE/NOTE"), now, TEXT(note), &page),
              page);
     accepted("read",
-             ps2card_read(format, image, image_length, TEXT("/EXAMPLE/NOTE"), 0, back, sizeof back, &page, &count),
+             ps2card_read(format, image, image_length, TEXT("/EXAMPLE/NOTE"), 0, back, sizeof back, &page, &count,
+                          &mended),
              page);
     printf("note %s\n", count == strlen(note) && memcmp(back, note, count) == 0 ? "kept" : "differs");
 }
@@ -112,8 +115,8 @@ int main(int count, char **words) {
     fclose(file);
 
     accepted("check", ps2card_check_counts(format, image, image_length, &page, &counts), page);
-    printf("%lu clusters, %lu free, %lu held back\n", (unsigned long)counts.clusters, (unsigned long)counts.free,
-           (unsigned long)counts.held);
+    printf("%lu clusters, %lu free, %lu held back, %lu chunks mended\n", (unsigned long)counts.clusters,
+           (unsigned long)counts.free, (unsigned long)counts.held, (unsigned long)counts.mended);
     show_directory("/");
     put_note();
     show_listing();

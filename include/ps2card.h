@@ -5,23 +5,30 @@
  *
  * Link: x86-64 Linux, any compiler of C99 or C++11:  cc program.c -lps2card
  *   where `./install --prefix DIR` put it:           cc program.c $(pkg-config --cflags --libs ps2card)
- *   The archive needs memcpy and memset of the C library, and no other.
+ *   The archive needs memcpy, memmove and memset of the C library, and no other.
  *
  * What the caller owes: a pointer with a length lends so many bytes, at any address; a pointer to one number lends that
  *   number, aligned as C asks; time, created and modified are 8 bytes, name is 32 bytes; no two of the things lent
  *   overlap, unless both are only read.
- * NULL: image, path, bytes and out may be NULL where their length is 0. No other pointer may be NULL, page included.
+ * NULL: image, path, bytes and out may be NULL where their length is 0. No other pointer may be NULL, page and mended
+ *   included.
  * Threads: no state is kept. Calls may run at once, on one image too as long as none of them changes it.
  *
  * format: how the image holds its pages (enum ps2card_format), as the caller says. It is never guessed: some lengths
  *   are a card's in both. A raw page is 512 bytes of data and 16 spare bytes, with the codes that find wrong bits; a
  *   plain one is the 512 bytes alone, as emulators keep them. A cluster is two pages. Answers, refusals and their order
- *   are the same in both formats; but a plain page has no code, so that none is unreadable.
+ *   are the same in both formats; but a plain page has no code, so that none is unreadable or corrected.
  * image, image_length: the image, of any content and length. A card has 32 to 65,536 clusters, in steps of 8: an image
  *   of any other length than 1,056 bytes for each of them, or 1,024 where it is plain, is refused. No length is right
  *   for a number that names no format. Every call but the two conversions checks the whole card first.
  * The check reads the superblock, the table and every directory, but NO FILE DATA: a card that it accepts may have
  *   files with unreadable pages. Only ps2card_read of all of a file's bytes shows that they can be read.
+ * mended: how many chunks were corrected in the pages that the call needed, each page counted once. A raw page has four
+ *   chunks of 128 bytes, each with its code; one is corrected where a single bit of it or of its code is wrong. All
+ *   calls that tell the count need the pages that the check needs: page 0, both pages of the indirect cluster and of
+ *   every cluster of the table, and the page of every entry of every directory, its first two and dead ones too. A read
+ *   also needs the pages that it copies from. On a plain image the count is 0. NOTHING IS REPAIRED: the image stays as
+ *   it is, and the next call corrects the same bits again. Changes and conversions tell no such count.
  * Room: a change takes free clusters, the lowest first. A card of 8,192 clusters has a reserved tail, as on consoles:
  *   its allocatable clusters from index 8,000 on. No other card has a tail. Every card lists its bad erase blocks, of 8
  *   clusters each, in 32 words at 0xD0 of its first page, 0xFFFFFFFF for none. No change takes a new cluster in the
@@ -50,9 +57,9 @@
 #include <stddef.h>
 #include <stdint.h>
 
-#define PS2CARD_VERSION "0.5.0"
+#define PS2CARD_VERSION "0.6.0"
 /* 10,000 for each major, 100 for each minor version, and the patch. */
-#define PS2CARD_VERSION_NUMBER 500
+#define PS2CARD_VERSION_NUMBER 600
 
 /* Clusters of the largest card. */
 #define PS2CARD_MOST_CLUSTERS 65536
@@ -117,36 +124,40 @@ extern "C" {
  *   reached     in the chain of a directory or a file
  *   orphaned    not free in the table, and in no chain
  *   held        held back: free in the table, but in the reserved tail or in a bad block, so that no change takes them
- * The four add up to the allocatable clusters.
- * Refusals: 1 to 7. Untouched on a refusal: clusters, free, reached, orphaned, held.
+ * The four add up to the allocatable clusters. mended tells how many chunks were corrected in the pages that the check
+ * needs.
+ * Refusals: 1 to 7. Untouched on a refusal: clusters, free, reached, orphaned, held, mended.
  * Stack: at most 1,200 KiB. */
 uint32_t ps2card_check(uint32_t format, const uint8_t *image, size_t image_length, size_t *page, uint32_t *clusters,
-                       size_t *free, size_t *reached, size_t *orphaned, size_t *held);
+                       size_t *free, size_t *reached, size_t *orphaned, size_t *held, size_t *mended);
 
 /* Finds the entry at a path, for the root its first one, and hands out its fields: ps2card_find_entry below has them as
- * a struct.
- * Refusals: 1 to 10. Untouched on a refusal: every field.
+ * a struct. mended tells the same as that of the check.
+ * Refusals: 1 to 10. Untouched on a refusal: every field and mended.
  * Stack: at most 1,200 KiB. */
 uint32_t ps2card_find(uint32_t format, const uint8_t *image, size_t image_length, const uint8_t *path,
                       size_t path_length, size_t *page, uint16_t *mode, uint32_t *length, uint8_t *created,
-                      uint32_t *first, uint32_t *dir_entry, uint8_t *modified, uint32_t *attribute, uint8_t *name);
+                      uint32_t *first, uint32_t *dir_entry, uint8_t *modified, uint32_t *attribute, uint8_t *name,
+                      size_t *mended);
 
 /* Finds the first live entry of a directory from a slot on, never before slot 2: found is 1, at its slot, and its
  * fields are handed out, by ps2card_step_entry below as a struct. At the end found is 0, and at and the fields stay as
- * they were.
- * Refusals: 1 to 10. Untouched on a refusal: found, at and every field.
+ * they were. mended tells the same as that of the check, at the end too.
+ * Refusals: 1 to 10. Untouched on a refusal: found, at, every field and mended.
  * Stack: at most 1,200 KiB. */
 uint32_t ps2card_step(uint32_t format, const uint8_t *image, size_t image_length, const uint8_t *path,
                       size_t path_length, uint32_t slot, size_t *page, uint32_t *found, uint32_t *at, uint16_t *mode,
                       uint32_t *length, uint8_t *created, uint32_t *first, uint32_t *dir_entry, uint8_t *modified,
-                      uint32_t *attribute, uint8_t *name);
+                      uint32_t *attribute, uint8_t *name, size_t *mended);
 
 /* Copies a file's bytes from an offset on into out, until the file or out ends; count tells how many. The rest of out
- * stays as it was.
- * Refusals: 1 to 10, 15; 2 also for a page with a byte to copy. Untouched on a refusal: out and count.
+ * stays as it was. mended tells the same as that of the check, and besides how many chunks were corrected in the pages
+ * that the bytes came from: none where count is 0.
+ * Refusals: 1 to 10, 15; 2 also for a page with a byte to copy. Untouched on a refusal: out, count and mended.
  * Stack: at most 1,200 KiB. */
 uint32_t ps2card_read(uint32_t format, const uint8_t *image, size_t image_length, const uint8_t *path,
-                      size_t path_length, size_t offset, uint8_t *out, size_t out_length, size_t *page, size_t *count);
+                      size_t path_length, size_t offset, uint8_t *out, size_t out_length, size_t *page, size_t *count,
+                      size_t *mended);
 
 /* Writes the listing into out, as much of it as fits. The answer is the whole text's length, without a zero at the end:
  * a call with out_length 0 tells how much room it needs. The rest of out stays as it was. The lines, each with a
@@ -156,6 +167,7 @@ uint32_t ps2card_read(uint32_t format, const uint8_t *image, size_t image_length
  *   reached COUNT
  *   orphaned COUNT
  *   held COUNT
+ *   mended COUNT
  *   d ENTRIES PATH       a directory; its first two entries and dead ones count too
  *   f BYTES PATH         a file
  * the last two for each entry in tree order: slot order, a directory before its inside; the root has no line. On a
@@ -217,7 +229,7 @@ uint32_t ps2card_to_raw(const uint8_t *image, size_t image_length, uint8_t *out,
 /* What the check counts. */
 typedef struct ps2card_counts {
     uint32_t clusters;
-    size_t free, reached, orphaned, held;
+    size_t free, reached, orphaned, held, mended;
 } ps2card_counts;
 
 /* A directory entry. */
@@ -236,24 +248,25 @@ typedef struct ps2card_entry {
 static inline uint32_t ps2card_check_counts(uint32_t format, const uint8_t *image, size_t image_length, size_t *page,
                                             ps2card_counts *counts) {
     return ps2card_check(format, image, image_length, page, &counts->clusters, &counts->free, &counts->reached,
-                         &counts->orphaned, &counts->held);
+                         &counts->orphaned, &counts->held, &counts->mended);
 }
 
-/* ps2card_find with an entry. Untouched on a refusal: entry. */
+/* ps2card_find with an entry. Untouched on a refusal: entry and mended. */
 static inline uint32_t ps2card_find_entry(uint32_t format, const uint8_t *image, size_t image_length,
-                                          const uint8_t *path, size_t path_length, size_t *page, ps2card_entry *entry) {
+                                          const uint8_t *path, size_t path_length, size_t *page, ps2card_entry *entry,
+                                          size_t *mended) {
     return ps2card_find(format, image, image_length, path, path_length, page, &entry->mode, &entry->length,
                         entry->created, &entry->first, &entry->dir_entry, entry->modified, &entry->attribute,
-                        entry->name);
+                        entry->name, mended);
 }
 
-/* ps2card_step with an entry. Untouched on a refusal: found, at and entry; at the end: at and entry. */
+/* ps2card_step with an entry. Untouched on a refusal: found, at, entry and mended; at the end: at and entry. */
 static inline uint32_t ps2card_step_entry(uint32_t format, const uint8_t *image, size_t image_length,
                                           const uint8_t *path, size_t path_length, uint32_t slot, size_t *page,
-                                          uint32_t *found, uint32_t *at, ps2card_entry *entry) {
+                                          uint32_t *found, uint32_t *at, ps2card_entry *entry, size_t *mended) {
     return ps2card_step(format, image, image_length, path, path_length, slot, page, found, at, &entry->mode,
                         &entry->length, entry->created, &entry->first, &entry->dir_entry, entry->modified,
-                        &entry->attribute, entry->name);
+                        &entry->attribute, entry->name, mended);
 }
 
 /* Whether an entry is a directory; what find and step hand out is a file otherwise. */

@@ -16,6 +16,8 @@ pub struct Counts {
     /// Held back: those that the table has as free, but that no change takes, because they lie in the reserved tail of a
     /// card of 8,192 clusters, from index 8,000 on, or in an erase block that the card lists as bad.
     pub held: usize,
+    /// Chunks of 128 bytes that were mended, as [`Mended`](crate::Mended) says, in the pages that the check needs.
+    pub mended: usize,
 }
 
 /// A card: an image and its format. The image may be any bytes; every call checks it first and answers a refusal where

@@ -2,7 +2,7 @@
 //!
 //! A [`Card`] is an image of any bytes, owned or borrowed, in a [`Format`] that the caller says: each call checks it
 //! first, so none has to be checked before. A call answers, or tells a [`Refusal`] and leaves the image and every buffer
-//! as they were.
+//! as they were. How many chunks with a wrong bit were mended for an answer is told by [`Counts`] and [`Mended`].
 //!
 //! ```
 //! use ps2card::{Card, Format, Refusal, Stamp};
@@ -38,6 +38,7 @@ mod fresh;
 pub mod image_file;
 mod listing;
 mod look;
+mod mended;
 mod refusal;
 mod stamp;
 
@@ -48,5 +49,6 @@ pub use card::{Card, CardMut, CardRef, Counts};
 pub use entry::{Entry, Kind};
 pub use format::{allowed_clusters, Format, MOST_BYTES, MOST_CLUSTERS, STANDARD_CLUSTERS};
 pub use listing::Line;
+pub use mended::Mended;
 pub use refusal::Refusal;
 pub use stamp::Stamp;

@@ -1,6 +1,8 @@
 //! The listing taken apart: a card's tree in one call.
 
-use crate::{Card, Kind, Refusal};
+use std::str::FromStr;
+
+use crate::{Card, Kind, Mended, Refusal};
 
 /// An entry of the tree, as a line of the listing has it.
 #[derive(Clone, Debug, PartialEq, Eq)]
@@ -40,9 +42,29 @@ impl<B: AsRef<[u8]>> Card<B> {
     /// # Ok::<(), ps2card::Refusal>(())
     /// ```
     pub fn tree(&self) -> Result<Vec<Line>, Refusal> {
-        let text = self.list()?;
-        Ok(text.split(|&byte| byte == b'\n').filter_map(parse).collect())
+        self.tree_mended().map(|listed| listed.answer)
     }
+
+    /// [`Card::tree`], with the chunks that were mended, as the listing has them.
+    ///
+    /// ```
+    /// use ps2card::{Card, Format, Stamp};
+    ///
+    /// let mut image = Card::fresh(Format::Raw, 56, &Stamp::now())?.into_image();
+    /// image[0] ^= 1; // One bit in page 0.
+    /// assert_eq!(Card::raw(image).tree_mended()?.chunks, 1);
+    /// # Ok::<(), ps2card::Refusal>(())
+    /// ```
+    pub fn tree_mended(&self) -> Result<Mended<Vec<Line>>, Refusal> {
+        let text = self.list()?;
+        let lines = || text.split(|&byte| byte == b'\n');
+        let chunks = lines().find_map(|line| number(line.strip_prefix(b"mended ")?)).unwrap_or(0);
+        Ok(Mended { answer: lines().filter_map(parse).collect(), chunks })
+    }
+}
+
+fn number<T: FromStr>(digits: &[u8]) -> Option<T> {
+    std::str::from_utf8(digits).ok()?.parse().ok()
 }
 
 /// A line `f LENGTH PATH` or `d LENGTH PATH`; nothing for the counts.
@@ -52,8 +74,7 @@ fn parse(line: &[u8]) -> Option<Line> {
         None => (Kind::Directory, line.strip_prefix(b"d ")?),
     };
     let blank = rest.iter().position(|&byte| byte == b' ')?;
-    let length = std::str::from_utf8(&rest[..blank]).ok()?.parse().ok()?;
-    Some(Line { kind, length, path: rest[blank + 1..].to_vec() })
+    Some(Line { kind, length: number(&rest[..blank])?, path: rest[blank + 1..].to_vec() })
 }
 
 #[cfg(test)]
@@ -66,6 +87,6 @@ mod tests {
         assert_eq!((line.kind, line.length, line.path.as_slice()), (Kind::File, 1500, &b"/SAVE/A B"[..]));
         assert_eq!(line.parent(), b"/SAVE");
         assert_eq!(parse(b"d 3 /SAVE").expect("a directory").parent(), b"/");
-        assert!([&b"card 56"[..], b"free 24", b"held 0", b""].iter().all(|line| parse(line).is_none()));
+        assert!([&b"card 56"[..], b"free 24", b"mended 0", b""].iter().all(|line| parse(line).is_none()));
     }
 }

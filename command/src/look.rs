@@ -7,8 +7,8 @@ use crate::{Card, Counts, Entry, Refusal};
 
 /// Bytes of the longest line of an entry in the listing: kind, number and path, two blanks and the line's end.
 const MOST_LINE: usize = 1 + 10 + 256 + 3;
-/// Room for the lines of the counts.
-const COUNT_LINES: usize = 64;
+/// Room for the lines of the counts, each with the most that a card can have: its clusters, four chunks of each page.
+const COUNT_LINES: usize = "card 65536\nfree 65536\nreached 65536\norphaned 65536\nheld 65536\nmended 524288\n".len();
 
 impl<B: AsRef<[u8]>> Card<B> {
     /// The check, with its counts. It reads no file data: only a read of a file tells whether its bytes are readable.
@@ -33,7 +33,7 @@ impl<B: AsRef<[u8]>> Card<B> {
     pub fn check(&self) -> Result<Counts, Refusal> {
         let image = self.image();
         let (mut counts, mut page) = (Counts::default(), 0);
-        // SAFETY: pointer and length are those of one slice, which is only read; the six numbers are places of their
+        // SAFETY: pointer and length are those of one slice, which is only read; the seven numbers are places of their
         // own, and all of them outlive the call.
         let number = unsafe {
             calls::ps2card_check(
@@ -46,6 +46,7 @@ impl<B: AsRef<[u8]>> Card<B> {
                 &mut counts.reached,
                 &mut counts.orphaned,
                 &mut counts.held,
+                &mut counts.mended,
             )
         };
         verdict(number, page).map(|()| counts)
@@ -63,29 +64,7 @@ impl<B: AsRef<[u8]>> Card<B> {
     /// # Ok::<(), Refusal>(())
     /// ```
     pub fn find(&self, path: &[u8]) -> Result<Entry, Refusal> {
-        let image = self.image();
-        let (mut entry, mut page) = (Entry::default(), 0);
-        // SAFETY: image and path are one slice each, with its length, and only read; the times are arrays of 8 bytes
-        // and the name one of 32, as the header asks; every output is a place of its own and outlives the call.
-        let number = unsafe {
-            calls::ps2card_find(
-                self.format.number(),
-                image.as_ptr(),
-                image.len(),
-                path.as_ptr(),
-                path.len(),
-                &mut page,
-                &mut entry.mode,
-                &mut entry.length,
-                entry.created.0.as_mut_ptr(),
-                &mut entry.first,
-                &mut entry.dir_entry,
-                entry.modified.0.as_mut_ptr(),
-                &mut entry.attribute,
-                entry.name_field.as_mut_ptr(),
-            )
-        };
-        verdict(number, page).map(|()| entry)
+        self.find_mended(path).map(|found| found.answer)
     }
 
     /// The first live entry of a directory from a slot on, never before slot 2, with its slot; nothing at the end.
@@ -101,32 +80,7 @@ impl<B: AsRef<[u8]>> Card<B> {
     /// # Ok::<(), ps2card::Refusal>(())
     /// ```
     pub fn step(&self, path: &[u8], slot: u32) -> Result<Option<(u32, Entry)>, Refusal> {
-        let image = self.image();
-        let mut entry = Entry::default();
-        let (mut page, mut found, mut at) = (0, 0, 0);
-        // SAFETY: as in `find`, with the slot by value and two more numbers that are places of their own.
-        let number = unsafe {
-            calls::ps2card_step(
-                self.format.number(),
-                image.as_ptr(),
-                image.len(),
-                path.as_ptr(),
-                path.len(),
-                slot,
-                &mut page,
-                &mut found,
-                &mut at,
-                &mut entry.mode,
-                &mut entry.length,
-                entry.created.0.as_mut_ptr(),
-                &mut entry.first,
-                &mut entry.dir_entry,
-                entry.modified.0.as_mut_ptr(),
-                &mut entry.attribute,
-                entry.name_field.as_mut_ptr(),
-            )
-        };
-        verdict(number, page).map(|()| (found != 0).then_some((at, entry)))
+        self.step_mended(path, slot).map(|stepped| stepped.answer)
     }
 
     /// Every live entry of a directory after its first two, in slot order. Each is a step with a check of its own:
@@ -155,34 +109,12 @@ impl<B: AsRef<[u8]>> Card<B> {
     /// # Ok::<(), Refusal>(())
     /// ```
     pub fn read(&self, path: &[u8], offset: usize, buffer: &mut [u8]) -> Result<usize, Refusal> {
-        let image = self.image();
-        let (mut page, mut count) = (0, 0);
-        // SAFETY: image and path are one slice each, with its length, and only read; the buffer is borrowed mutably, so
-        // it overlaps neither; both numbers are places of their own. All outlive the call.
-        let number = unsafe {
-            calls::ps2card_read(
-                self.format.number(),
-                image.as_ptr(),
-                image.len(),
-                path.as_ptr(),
-                path.len(),
-                offset,
-                buffer.as_mut_ptr(),
-                buffer.len(),
-                &mut page,
-                &mut count,
-            )
-        };
-        verdict(number, page).map(|()| count)
+        self.read_mended(path, offset, buffer).map(|read| read.answer)
     }
 
     /// A file's bytes from an offset on, at most so many.
     pub fn bytes(&self, path: &[u8], offset: usize, most: usize) -> Result<Vec<u8>, Refusal> {
-        // No file has more bytes than the image.
-        let mut bytes = vec![0; most.min(self.image().len())];
-        let count = self.read(path, offset, &mut bytes)?;
-        bytes.truncate(count);
-        Ok(bytes)
+        self.bytes_mended(path, offset, most).map(|read| read.answer)
     }
 
     /// The listing: the counts, then every entry in tree order, a line each.
@@ -193,7 +125,8 @@ impl<B: AsRef<[u8]>> Card<B> {
     /// let mut card = Card::fresh(Format::Raw, 56, &Stamp::now())?;
     /// card.make_dir(b"/SAVE", &Stamp::now())?;
     /// card.create(b"/SAVE/A", &Stamp::now(), &[0; 1500])?;
-    /// assert_eq!(card.list()?, b"card 56\nfree 24\nreached 6\norphaned 0\nheld 0\nd 3 /SAVE\nf 1500 /SAVE/A\n");
+    /// let counts = "card 56\nfree 24\nreached 6\norphaned 0\nheld 0\nmended 0\n";
+    /// assert_eq!(card.list()?, format!("{counts}d 3 /SAVE\nf 1500 /SAVE/A\n").as_bytes());
     /// # Ok::<(), ps2card::Refusal>(())
     /// ```
     pub fn list(&self) -> Result<Vec<u8>, Refusal> {

@@ -35,7 +35,7 @@ impl At {
     /// What `check` tells of a bench card, with nothing orphaned.
     #[track_caller]
     fn have(&self, free: usize, reached: usize, held: usize) {
-        let counts = format!("card 56\nfree {free}\nreached {reached}\norphaned 0\nheld {held}\n");
+        let counts = format!("card 56\nfree {free}\nreached {reached}\norphaned 0\nheld {held}\nmended 0\n");
         assert_eq!(self.folder.run(&["check", "card"]).text(), format!("card: OK, {free} KB free\n{counts}"));
     }
 
@@ -117,11 +117,11 @@ fn beside_the_tail() {
         at.folder.write("just", &vec![7; 7_990 * 1024]);
         at.refused(&["create", "card", "/A", "more"], 12);
         at.run(&["create", "card", "/A", "just"]);
-        let counts = "card 8192\nfree 0\nreached 7992\norphaned 0\nheld 143\n";
+        let counts = "card 8192\nfree 0\nreached 7992\norphaned 0\nheld 143\nmended 0\n";
         assert_eq!(at.run(&["list", "card"]), format!("{counts}f 8181760 /A\n").as_bytes());
         at.refused(&["mkdir", "card", "/D"], 12);
         at.run(&["rm", "card", "/A"]);
-        let counts = "card 8192\nfree 7990\nreached 2\norphaned 0\nheld 143\n";
+        let counts = "card 8192\nfree 7990\nreached 2\norphaned 0\nheld 143\nmended 0\n";
         assert_eq!(at.run(&["list", "card"]), counts.as_bytes());
     }
 }
@@ -226,7 +226,7 @@ fn converted_cards() {
     let at = At::of(worn(Raw, &[END, 2, END, 4, 6]));
     at.run(&["convert", "card", "plain", "--to-plain"]);
     at.run(&["convert", "plain", "again", "--to-raw"]);
-    let counts = "card 56\nfree 10\nreached 8\norphaned 0\nheld 12\n";
+    let counts = "card 56\nfree 10\nreached 8\norphaned 0\nheld 12\nmended 0\n";
     for (name, option) in [("card", None), ("plain", Some("--plain")), ("again", None)] {
         let words: Vec<&str> = ["list", name].into_iter().chain(option).collect();
         assert_eq!(at.run(&words), format!("{counts}f 4000 /F\nd 3 /D\nf 0 /D/old\n").as_bytes());

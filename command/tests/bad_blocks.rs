@@ -22,7 +22,7 @@ fn apart() -> Layout {
 fn have(folder: &Folder, format: Format, card: Assembly, [free, reached, held]: [usize; 3]) {
     let (clusters, image) = (card.layout.clusters, card.finish());
     folder.write("card", &image);
-    let counts = format!("card {clusters}\nfree {free}\nreached {reached}\norphaned 0\nheld {held}\n");
+    let counts = format!("card {clusters}\nfree {free}\nreached {reached}\norphaned 0\nheld {held}\nmended 0\n");
     assert_eq!(folder.run(&["check", "card"]).text(), format!("card: OK, {free} KB free\n{counts}"));
     assert_eq!(folder.run(&["list", "card"]).text(), counts);
     let told = Card::new(in_wrapper(format), image).check().expect("an accepted card");
@@ -76,7 +76,7 @@ fn chains_in_a_bad_block() {
         // Table words that are free, whatever their low bits say.
         [(8, 0), (10, 9)].into_iter().for_each(|(cluster, word)| card.table[cluster] = word);
         folder.write("card", &card.finish());
-        let counts = "card 56\nfree 19\nreached 6\norphaned 1\nheld 4\n";
+        let counts = "card 56\nfree 19\nreached 6\norphaned 1\nheld 4\nmended 0\n";
         assert_eq!(folder.run(&["check", "card"]).text(), format!("card: OK, 19 KB free\n{counts}"));
         assert_eq!(folder.run(&["list", "card"]).text(), format!("{counts}f 3000 /F\nd 2 /D\n"));
     }

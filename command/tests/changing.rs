@@ -155,7 +155,7 @@ fn bench_card_of(format: Format) {
     folder.write("save", &[1; 1500]);
     folder.run(&["mkdir", "card", "/SAVE"]).done();
     folder.run(&["create", "card", "/SAVE/A", "save"]).done();
-    let listing = "card 56\nfree 24\nreached 6\norphaned 0\nheld 0\nd 3 /SAVE\nf 1500 /SAVE/A\n";
+    let listing = "card 56\nfree 24\nreached 6\norphaned 0\nheld 0\nmended 0\nd 3 /SAVE\nf 1500 /SAVE/A\n";
     assert_eq!(folder.run(&["list", "card"]).text(), listing);
 }
 

@@ -4,7 +4,7 @@ mod common;
 
 use std::collections::{BTreeMap, BTreeSet};
 
-use common::{raw_stamp, unreadable_pages, Folder};
+use common::{mended, raw_stamp, unreadable_pages, Folder};
 use reader::build::requests::random_change;
 use reader::build::{self, random, samples, scribble};
 use reader::rng::Rng;
@@ -73,6 +73,14 @@ fn time(time: &[u8; 8]) -> String {
     }
 }
 
+/// What is said of chunks that were mended on each card: in its check, and in the files that both cards have.
+fn worn(cards: [Card; 2]) -> String {
+    let trees: [Tree; 2] = cards.map(|(format, image)| reader::tree(format, image).expect("an accepted card"));
+    let is_file = |path: &[u8]| trees.iter().all(|tree| tree.get(path).is_some_and(|item| !item.is_directory));
+    let chunks = |(format, image)| mended::in_check(format, image) + mended::in_files(format, image, is_file);
+    mended::line("a", chunks(cards[0])) + &mended::line("b", chunks(cards[1]))
+}
+
 /// How the command is told which of the two is plain.
 fn told(formats: [Format; 2]) -> &'static [&'static str] {
     match formats {
@@ -101,7 +109,7 @@ fn judge(folder: &Folder, cards: [Card; 2], seen: &mut BTreeMap<String, usize>) 
         } else {
             assert_eq!(text.lines().collect::<Vec<_>>(), lines);
         }
-        assert_eq!((given.status, given.err.as_str()), (i32::from(!lines.is_empty()), ""));
+        assert_eq!((given.status, given.err), (i32::from(!lines.is_empty()), worn(cards)));
         let word = |line: &String| line.split(' ').next().expect("a word").to_string();
         let same = if lines.is_empty() { vec!["same".to_string()] } else { Vec::new() };
         lines.iter().map(word).chain(same).for_each(|word| *seen.entry(word).or_default() += 1);

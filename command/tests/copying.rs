@@ -5,7 +5,7 @@ mod common;
 use std::fs::{self, File};
 use std::os::unix::fs::symlink;
 
-use common::{Folder, Outcome, USUAL};
+use common::{mended, Folder, Outcome, USUAL};
 use reader::build::{self, random, Assembly};
 use reader::Format::{Plain, Raw};
 use reader::{Format, Piece, Refusal};
@@ -30,10 +30,11 @@ fn get_all_of(format: Format, cards: u64) -> usize {
         let given = folder.run(&["get", "card", "/", "out"]);
         if broken {
             assert!(given.status == 1 && given.err.starts_with("refused 2 "), "{given:?}");
+            assert_eq!(given.err.matches('\n').count(), 1, "{given:?}");
             assert!(!folder.path("out").exists());
             continue;
         }
-        given.done();
+        given.mending("card", mended::in_check(format, &image) + mended::in_files(format, &image, |_| true));
         whole += 1;
         let mut files = 0;
         for (path, item) in &tree {

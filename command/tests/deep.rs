@@ -157,7 +157,7 @@ fn deeper_cards() {
         for levels in 1..=7 {
             folder.write("card", &nested(format, levels));
             let (free, reached) = (29 - 2 * levels, 2 * levels + 1);
-            let counts = format!("card 56\nfree {free}\nreached {reached}\norphaned 0\nheld 0\n");
+            let counts = format!("card 56\nfree {free}\nreached {reached}\norphaned 0\nheld 0\nmended 0\n");
             assert_eq!(folder.run(&["check", "card"]).text(), format!("card: OK, {free} KB free\n{counts}"));
         }
         for levels in [8, 9] {

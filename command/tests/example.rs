@@ -33,7 +33,8 @@ fn example_is_right_in(format: Format, folder: &Folder, program: &Program) {
     let text = run(&["card", "changed"]).text();
     let changed = Card::new(format, folder.read("changed"));
     let listing = String::from_utf8(changed.list().expect("a card")).expect("text");
-    assert_eq!(text, format!("56 clusters, 24 free, 0 held back\ndirectory 3 SAVE\nnote kept\n{listing}"));
+    let counts = "56 clusters, 24 free, 0 held back, 0 chunks mended";
+    assert_eq!(text, format!("{counts}\ndirectory 3 SAVE\nnote kept\n{listing}"));
     assert!(listing.ends_with("d 3 /EXAMPLE\nf 37 /EXAMPLE/NOTE\n"), "{listing}");
     assert_eq!(folder.read("card"), card.image());
     // The time is Japan's, of the run.
@@ -142,7 +143,7 @@ fn null_with_length_zero() {
         for line in ["to_plain 1 1", "to_raw 1 1", "to_plain_out 23 23", "to_raw_out 23 23"] {
             assert!(text.lines().any(|told| told == line), "{line}: {text}");
         }
-        for line in ["read 0 0", "count 0 0", "read_directory 10 10"] {
+        for line in ["read 0 0", "count 0 0", "mended 0 0", "read_directory 10 10", "mended_directory 77 77"] {
             assert!(text.lines().any(|told| told == line), "{line}: {text}");
         }
     }

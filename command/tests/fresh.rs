@@ -14,7 +14,7 @@ fn standard_card() {
         let folder = Folder::of(format);
         folder.run(&["new", "card", "--stamp", USUAL]).done();
         assert!(folder.read("card") == build::standard(format));
-        let counts = "card 8192\nfree 7999\nreached 1\norphaned 0\nheld 135\n";
+        let counts = "card 8192\nfree 7999\nreached 1\norphaned 0\nheld 135\nmended 0\n";
         assert_eq!(folder.run(&["check", "card"]).text(), format!("card: OK, 7999 KB free\n{counts}"));
         assert_eq!(folder.run(&["list", "card"]).text(), counts);
         assert_eq!(folder.names(), ["card"]);
@@ -93,7 +93,7 @@ fn large_cards() {
         let folder = Folder::of(format);
         for (clusters, free) in [(8_200, 8_142), (65_528, 65_247), (65_536, 65_255)] {
             folder.run(&["new", "card", &clusters.to_string()]).done();
-            let counts = format!("card {clusters}\nfree {free}\nreached 1\norphaned 0\nheld 0\n");
+            let counts = format!("card {clusters}\nfree {free}\nreached 1\norphaned 0\nheld 0\nmended 0\n");
             assert_eq!(folder.run(&["check", "card"]).text(), format!("card: OK, {free} KB free\n{counts}"));
             assert_eq!(
                 fs::metadata(folder.path("card")).expect("a file").len(),
@@ -109,7 +109,7 @@ fn large_cards() {
 fn smallest_card() {
     let folder = Folder::new();
     folder.run(&["new", "card", "32"]).done();
-    let counts = "card: OK, 5 KB free\ncard 32\nfree 5\nreached 1\norphaned 0\nheld 0\n";
+    let counts = "card: OK, 5 KB free\ncard 32\nfree 5\nreached 1\norphaned 0\nheld 0\nmended 0\n";
     assert_eq!(folder.run(&["check", "card"]).text(), counts);
     folder.write("fits", &[3; 4 * 1024]);
     folder.run(&["create", "card", "/A", "fits"]).done();

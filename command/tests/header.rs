@@ -5,8 +5,8 @@ mod c;
 mod common;
 
 use common::{in_wrapper, Folder};
-use ps2card::{Card, Counts, Entry, Format, Kind, Refusal, Stamp};
-use reader::build::{self, Assembly, Layout};
+use ps2card::{Card, Counts, Entry, Format, Kind, Mended, Refusal, Stamp};
+use reader::build::{self, scribble, Assembly, Layout};
 
 /// What stands in an output before a call of the C program.
 const UNTOUCHED: usize = 77;
@@ -66,34 +66,38 @@ impl Script {
     }
 
     fn counted(&mut self, answer: &Result<Counts, Refusal>) {
-        let counts = answer.map_or([UNTOUCHED; 5], |c| [c.clusters as usize, c.free, c.reached, c.orphaned, c.held]);
+        let counted = |c: Counts| [c.clusters as usize, c.free, c.reached, c.orphaned, c.held, c.mended];
+        let counts = answer.map_or([UNTOUCHED; 6], counted);
         self.say(format!("check {} {}\n", told(answer), counts.map(|count| count.to_string()).join(" ")));
     }
 
     fn find(&mut self, path: &str) {
-        let answer = self.card.find(path.as_bytes());
+        let answer = self.card.find_mended(path.as_bytes());
         // The bytes of no entry: no directory's bit among them, and no zero in the name.
-        let (directory, length) = match &answer {
-            Ok(entry) => (i32::from(entry.kind() == Kind::Directory), entry.name().len()),
-            Err(_) => (0, 32),
+        let (mended, directory, length, entry) = match &answer {
+            Ok(Mended { answer, chunks }) => {
+                (*chunks, i32::from(answer.kind() == Kind::Directory), answer.name().len(), Some(answer))
+            }
+            Err(_) => (UNTOUCHED, 0, 32, None),
         };
-        self.say(format!("find {} {directory} {length}{}", told(&answer), fields(answer.as_ref().ok())));
+        self.say(format!("find {} {mended} {directory} {length}{}", told(&answer), fields(entry)));
     }
 
     fn step(&mut self, path: &str, slot: u32) {
-        let answer = self.card.step(path.as_bytes(), slot);
-        let (found, at, entry) = match &answer {
-            Ok(Some((at, entry))) => (1, *at as usize, Some(entry)),
-            Ok(None) => (0, UNTOUCHED, None),
-            Err(_) => (UNTOUCHED, UNTOUCHED, None),
+        let answer = self.card.step_mended(path.as_bytes(), slot);
+        let (mended, found, at, entry) = match &answer {
+            Ok(Mended { answer: Some((at, entry)), chunks }) => (*chunks, 1, *at as usize, Some(entry)),
+            Ok(Mended { answer: None, chunks }) => (*chunks, 0, UNTOUCHED, None),
+            Err(_) => (UNTOUCHED, UNTOUCHED, UNTOUCHED, None),
         };
-        self.say(format!("step {} {found} {at}{}", told(&answer), fields(entry)));
+        self.say(format!("step {} {mended} {found} {at}{}", told(&answer), fields(entry)));
     }
 
     fn read(&mut self, path: &str, offset: usize) {
         let mut out = [UNTOUCHED as u8; 16];
-        let answer = self.card.read(path.as_bytes(), offset, &mut out);
-        self.say(format!("read {} {} {}\n", told(&answer), answer.unwrap_or(UNTOUCHED), hex(&out)));
+        let answer = self.card.read_mended(path.as_bytes(), offset, &mut out);
+        let (mended, count) = answer.map_or((UNTOUCHED, UNTOUCHED), |read| (read.chunks, read.answer));
+        self.say(format!("read {} {mended} {count} {}\n", told(&answer), hex(&out)));
     }
 
     fn list(&mut self) {
@@ -172,7 +176,8 @@ impl Script {
 }
 
 /// C through the header and Rust through the wrapper tell the same and leave the same image, in both formats, on a small
-/// card, on one that lists a bad block and on one with a reserved tail, and however C is compiled.
+/// card, on one that lists a bad block, on one with a reserved tail and on one with wrong bits, and however C is
+/// compiled.
 #[test]
 fn c_program() {
     for way in c::WAYS {
@@ -181,14 +186,19 @@ fn c_program() {
         for format in reader::Format::BOTH {
             let mut worn = Assembly::with_root(format, Layout::bench());
             worn.superblock[0x14C..0x150].copy_from_slice(&2_u32.to_le_bytes());
+            // One in a page that the changes leave, two in pages of the root that they write.
+            let mut flipped = build::bench(format);
+            let flips = if format == reader::Format::Raw { &[(0, 3, 5), (20, 0, 1030), (21, 2, 700)][..] } else { &[] };
+            flips.iter().for_each(|&(page, chunk, bit)| scribble::flip(format, &mut flipped, page, chunk, bit));
             let cards = [
-                (build::bench(format), "56 29 1 0 0"),
-                (worn.finish(), "56 21 1 0 8"),
-                (build::standard(format), "8192 7999 1 0 135"),
+                (build::bench(format), "56 29 1 0 0 0".to_string()),
+                (worn.finish(), "56 21 1 0 8 0".to_string()),
+                (build::standard(format), "8192 7999 1 0 135 0".to_string()),
+                (flipped, format!("56 29 1 0 0 {}", flips.len())),
             ];
             for (image, counts) in cards {
                 let text = same(&folder, &program, format, &image);
-                let checks = format!("check 0 77 {counts}\ncheck 1 77 77 77 77 77 77\n");
+                let checks = format!("check 0 77 {counts}\ncheck 1 77 77 77 77 77 77 77\n");
                 assert!(text.starts_with(&checks), "{way:?} {format:?}: {text}");
             }
         }
@@ -209,7 +219,7 @@ fn same(folder: &Folder, program: &c::Program, format: reader::Format, image: &[
     assert_eq!(program.run(folder, &words).text(), text);
     assert!(folder.read("changed") == card.image() && folder.read("changed") != image);
     assert!(folder.read("converted") == other.expect("it is readable").image());
-    let listed = ["list", "card", "free", "reached", "orphaned", "held", "d", "f"];
+    let listed = ["list", "card", "free", "reached", "orphaned", "held", "mended", "d", "f"];
     let calls = text.lines().filter(|line| !listed.contains(&word(line, 0)));
     let numbers: Vec<u32> = calls.map(|line| word(line, 1).parse().expect("a number")).collect();
     for number in [0, 1, 9, 10, 11, 13, 14, 15, 23] {

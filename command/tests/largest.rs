@@ -11,7 +11,7 @@ use reader::Refusal;
 
 /// What `check` prints of the card.
 fn counts(free: usize, reached: usize) -> String {
-    format!("card: OK, {free} KB free\ncard 65536\nfree {free}\nreached {reached}\norphaned 0\nheld 0\n")
+    format!("card: OK, {free} KB free\ncard 65536\nfree {free}\nreached {reached}\norphaned 0\nheld 0\nmended 0\n")
 }
 
 #[test]

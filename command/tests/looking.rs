@@ -4,16 +4,17 @@ mod common;
 
 use std::fs::File;
 
-use common::Folder;
+use common::{mended, Folder};
 use reader::build::{self, bad, good, random};
 use reader::content::lines;
 use reader::Format::{Plain, Raw};
 use reader::{Counts, Entry, Format, Refusal};
 
 fn counts(format: Format, image: &[u8]) -> String {
-    let Counts { clusters, free, reached, orphaned, held } = reader::check(format, image).expect("an accepted card");
+    let Counts { clusters, free, reached, orphaned, held, .. } =
+        reader::check(format, image).expect("an accepted card");
     let of_table = format!("free {free}\nreached {reached}\norphaned {orphaned}\nheld {held}\n");
-    format!("card: OK, {free} KB free\ncard {clusters}\n{of_table}")
+    format!("card: OK, {free} KB free\ncard {clusters}\n{of_table}mended {}\n", mended::in_check(format, image))
 }
 
 #[test]
@@ -162,16 +163,18 @@ fn everything(format: Format, cards: u64) -> (usize, usize) {
     for seed in 0..cards {
         let image = random::random(format, seed).image;
         folder.write("card", &image);
+        let worn = mended::in_check(format, &image);
         for line in lines(format, &image).expect("an accepted card") {
             let path = std::str::from_utf8(&line.path).expect("names are ASCII");
-            let text = folder.run(&["find", "card", path]).text();
+            let text = folder.run(&["find", "card", path]).mending("card", worn);
+            let text = String::from_utf8(text).expect("text");
             assert_eq!(text, fields(&line.entry));
             invalid += usize::from(text.contains("created 0x"));
             if line.item.is_directory {
-                steps(format, &folder, &image, path);
+                steps(format, &folder, &image, path, worn);
                 folder.run(&["read", "card", path]).refused(Refusal::number(10));
             } else {
-                broken += usize::from(!reads(format, &folder, &image, path, line.entry.length as usize));
+                broken += usize::from(!reads(format, &folder, &image, path, line.entry.length as usize, worn));
                 folder.run(&["step", "card", path, "0"]).refused(Refusal::number(10));
             }
         }
@@ -179,11 +182,12 @@ fn everything(format: Format, cards: u64) -> (usize, usize) {
     (invalid, broken)
 }
 
-/// Every step through a directory.
-fn steps(format: Format, folder: &Folder, image: &[u8], path: &str) {
+/// Every step through a directory; so many chunks are mended in the check.
+fn steps(format: Format, folder: &Folder, image: &[u8], path: &str, worn: usize) {
     let mut slot = 0;
     loop {
-        let text = folder.run(&["step", "card", path, &slot.to_string()]).text();
+        let text = folder.run(&["step", "card", path, &slot.to_string()]).mending("card", worn);
+        let text = String::from_utf8(text).expect("text");
         match reader::step(format, image, path.as_bytes(), slot).expect("a directory") {
             Some((at, entry)) => {
                 let name = String::from_utf8_lossy(entry.name().expect("a name")).into_owned();
@@ -196,14 +200,15 @@ fn steps(format: Format, folder: &Folder, image: &[u8], path: &str) {
 }
 
 /// A file whole, in part, from its end and from beyond it; false where a page of it is unreadable.
-fn reads(format: Format, folder: &Folder, image: &[u8], path: &str, length: usize) -> bool {
+fn reads(format: Format, folder: &Folder, image: &[u8], path: &str, length: usize, worn: usize) -> bool {
     let mut readable = true;
+    let worn = |offset: usize, count: usize| worn + mended::in_read(format, image, path.as_bytes(), offset, count);
     for (offset, count) in [(0, length), (length / 2, 7), (length, 5), (length + 1, 1)] {
         let mut bytes = vec![0; count];
         let (from, most) = (offset.to_string(), count.to_string());
         let given = folder.run(&["read", "card", path, &from, &most]);
         match reader::read(format, image, path.as_bytes(), offset, &mut bytes) {
-            Ok(count) => assert_eq!(given.done(), &bytes[..count]),
+            Ok(count) => assert_eq!(given.mending("card", worn(offset, count)), &bytes[..count]),
             Err(refusal) => {
                 readable &= refusal.number != 2;
                 given.refused(refusal);
@@ -212,7 +217,7 @@ fn reads(format: Format, folder: &Folder, image: &[u8], path: &str, length: usiz
     }
     let mut bytes = vec![0; length];
     match reader::read(format, image, path.as_bytes(), 0, &mut bytes) {
-        Ok(_) => assert_eq!(folder.run(&["read", "card", path]).done(), bytes),
+        Ok(_) => assert_eq!(folder.run(&["read", "card", path]).mending("card", worn(0, length)), bytes),
         Err(refusal) => folder.run(&["read", "card", path]).refused(refusal),
     }
     readable

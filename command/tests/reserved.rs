@@ -13,7 +13,7 @@ use reader::{Format, Refusal};
 
 /// Counts of a card on which nothing is orphaned.
 fn counts(clusters: u32, free: usize, reached: usize, held: usize) -> Counts {
-    Counts { clusters, free, reached, orphaned: 0, held }
+    Counts { clusters, free, reached, orphaned: 0, held, mended: 0 }
 }
 
 /// A card in a folder, and what the reader makes of it.
@@ -28,7 +28,7 @@ impl Both {
     #[track_caller]
     fn have(&self, free: usize, reached: usize, held: usize) {
         assert!(self.folder.read("card") == self.image);
-        let of_table = format!("free {free}\nreached {reached}\norphaned 0\nheld {held}\n");
+        let of_table = format!("free {free}\nreached {reached}\norphaned 0\nheld {held}\nmended 0\n");
         let told = format!("card: OK, {free} KB free\ncard 8192\n{of_table}");
         assert_eq!(self.folder.run(&["check", "card"]).text(), told);
         let listing = self.folder.run(&["list", "card"]).text();

@@ -171,6 +171,38 @@ fn bad_blocks() {
     }
 }
 
+/// A wrong bit in each page of a card by itself: which pages count in the calls that tell the count.
+#[test]
+fn mended_pages() {
+    says(
+        HEADER,
+        "All calls that tell the count need the pages that the check needs: page 0, both pages of the indirect cluster and of every cluster of the table, and the page of every entry of every directory, its first two and dead ones too. A read also needs the pages that it copies from. On a plain image the count is 0.",
+    );
+    let mut card = fresh();
+    card.create(b"/f", &time(), &[7; 600]).expect("a file");
+    card.create(b"/dead", &time(), b"").expect("a file");
+    card.delete(b"/dead").expect("a file");
+    // The superblock, the indirect cluster, the table, the root with its four slots in two clusters, of which one is
+    // dead; then the file, of which a read of its last 100 bytes copies from the second page alone.
+    let (check, file, last) = ([0, 16, 17, 18, 19, 20, 21, 22, 23], [24, 25], [25]);
+    for page in 0..112 {
+        let mut worn = card.clone().into_image();
+        worn[528 * page + 300] ^= 0x10;
+        let worn = Card::raw(worn);
+        let by_check = usize::from(check.contains(&page));
+        assert_eq!(worn.check().expect("a card").mended, by_check, "page {page}");
+        assert_eq!(worn.find_mended(b"/f").expect("a file").chunks, by_check, "page {page}");
+        let steps = [2, 3].map(|slot| worn.step_mended(b"/", slot).expect("the root"));
+        assert_eq!(steps.map(|step| (step.answer.is_some(), step.chunks)), [(true, by_check), (false, by_check)]);
+        let read = |offset: usize, most: usize| worn.bytes_mended(b"/f", offset, most).expect("a file").chunks;
+        assert_eq!(read(0, 600), by_check + usize::from(file.contains(&page)), "page {page}");
+        assert_eq!(read(512, 100), by_check + usize::from(last.contains(&page)), "page {page}");
+        assert_eq!([read(600, 100), read(0, 0)], [by_check; 2], "page {page}");
+        let plain = worn.to_plain().expect("readable pages");
+        assert_eq!((plain.check().expect("a card").mended, plain.list()), (0, card.list()));
+    }
+}
+
 #[test]
 fn times() {
     says(HEADER, "zero, second, minute, hour, day, month, year in two bytes, low one first");
@@ -186,7 +218,7 @@ fn times() {
 
 #[test]
 fn listing() {
-    let counts = ["card CLUSTERS", "free COUNT", "reached COUNT", "orphaned COUNT", "held COUNT"];
+    let counts = ["card CLUSTERS", "free COUNT", "reached COUNT", "orphaned COUNT", "held COUNT", "mended COUNT"];
     let lines: Vec<&str> = counts.into_iter().chain(["d ENTRIES PATH", "f BYTES PATH"]).collect();
     lines.iter().for_each(|line| says(HEADER, line));
     let mut card = fresh();
@@ -200,7 +232,7 @@ fn listing() {
     for (told, words) in told.iter().zip(&words) {
         assert_eq!((told[0], told.len()), (words[0], words.len()));
     }
-    assert_eq!((&told[5][1..], &told[6][1..]), (&["3", "/d"][..], &["4", "/d/f"][..]));
+    assert_eq!((&told[6][1..], &told[7][1..]), (&["3", "/d"][..], &["4", "/d/f"][..]));
 }
 
 /// The proved program, as `rt check list` and `rt ci` build it.

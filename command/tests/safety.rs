@@ -66,7 +66,7 @@ fn two_stations() {
     }
     let listing = folder.run(&["list", "card"]).text();
     assert!(names.iter().all(|name| listing.contains(&format!("d 2 {name}\n"))), "{listing}");
-    assert_eq!((listing.lines().count(), folder.names()), (45, vec!["card".to_string()]));
+    assert_eq!((listing.lines().count(), folder.names()), (46, vec!["card".to_string()]));
 }
 
 /// A change waits for the lock, and then sees what its holder did.
@@ -104,7 +104,7 @@ fn permissions_and_links() {
         assert_eq!((now.uid(), now.gid()), (was.uid(), was.gid()));
     }
     assert!(fs::symlink_metadata(folder.path("link")).expect("there").is_symlink());
-    assert_eq!(folder.run(&["list", "card"]).text().lines().count(), 9);
+    assert_eq!(folder.run(&["list", "card"]).text().lines().count(), 10);
 }
 
 /// What a cut left beside the image, even a link to elsewhere, is in nobody's way and is not written through.

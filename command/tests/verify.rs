@@ -4,7 +4,7 @@ mod common;
 
 use std::fs;
 
-use common::{converted, unreadable_pages, Folder};
+use common::{converted, mended, unreadable_pages, Folder};
 use reader::build::{self, bad, random, scribble};
 use reader::rng::Rng;
 use reader::Format::{Plain, Raw};
@@ -70,7 +70,10 @@ fn random_cards_of(format: Format, cards: u64) -> [usize; 4] {
         let (lines, unreadable) = expected(format, &image, b"");
         let given = folder.run(&["verify", "card"]);
         assert_eq!(given.out.escape_ascii().to_string(), lines.escape_ascii().to_string(), "seed {seed}");
-        assert_eq!(named(&given.err, "card"), unreadable, "seed {seed}");
+        // At the end, what was mended: each readable page once, however often it was in the range of a read.
+        let worn = mended::in_check(format, &image) + mended::in_files(format, &image, |_| true);
+        let refusals = given.err.strip_suffix(&mended::line("card", worn));
+        assert_eq!(refusals.map(|text| named(text, "card")).as_ref(), Some(&unreadable), "seed {seed}: {}", given.err);
         assert_eq!(given.status, i32::from(!unreadable.is_empty()), "seed {seed}");
         *(if unreadable.is_empty() { &mut whole } else { &mut broken }) += 1;
         sums += lines.iter().filter(|&&byte| byte == b'\n').count();
@@ -148,7 +151,7 @@ fn several_images() {
     assert_eq!(given.out, expected(Raw, &good, b"good/").0);
 
     let given = folder.feed(&[b"check", b"-", b"bad", b"good"], &torn);
-    let counts = "card 56\nfree 24\nreached 6\norphaned 0\nheld 0\n";
+    let counts = "card 56\nfree 24\nreached 6\norphaned 0\nheld 0\nmended 0\n";
     let text = format!("standard input: OK, 24 KB free\n{counts}good: OK, 24 KB free\n{counts}");
     assert_eq!((given.status, String::from_utf8(given.out).expect("text")), (1, text));
     assert!(given.err.starts_with("refused 6: ") && given.err.ends_with(" (bad)\n"), "{}", given.err);

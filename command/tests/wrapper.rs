@@ -104,6 +104,29 @@ fn check_reads_no_file_data() {
     assert_eq!(card.bytes(b"/F", 0, 512).map(|bytes| bytes.len()), Ok(512));
 }
 
+/// Each bit of a chunk by itself: 1,024 of its data and 20 of its code are mended; 4 of the code and the 32 behind the
+/// codes of the page are ignored.
+#[test]
+fn mended_bits() {
+    let sound = build::bench(Raw);
+    for (page, chunk) in [(0, 1), (18, 0), (21, 3)] {
+        let (data, code, rest) = (528 * page + 128 * chunk, 528 * page + 512 + 3 * chunk, 528 * page + 524);
+        let ignored = [0x88, 0x80, 0x80];
+        let masks = (data..data + 128).map(|byte| (byte, 0xFF)).chain((0..3).map(|at| (code + at, !ignored[at])));
+        let mut mended = 0;
+        for (byte, mask) in masks.chain((rest..rest + 4).map(|byte| (byte, 0))) {
+            for bit in 0..8 {
+                let mut image = sound.clone();
+                image[byte] ^= 1 << bit;
+                let chunks = Card::raw(image).check().expect("a card").mended;
+                assert_eq!(chunks, usize::from(mask >> bit & 1 == 1), "byte {byte}, bit {bit}");
+                mended += chunks;
+            }
+        }
+        assert_eq!(mended, 1_044);
+    }
+}
+
 /// Both errors go where any error goes, with words.
 #[test]
 fn errors() {

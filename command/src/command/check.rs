@@ -24,14 +24,15 @@ fn check(format: Format, name: &Path) -> Result<(), Failure> {
     let counts = Image::load(format, name)?.check()?;
     // A cluster has 1,024 bytes, so that the free ones, which a change can take, are the free room in KB.
     let text = format!(
-        "{}: OK, {} KB free\ncard {}\nfree {}\nreached {}\norphaned {}\nheld {}\n",
+        "{}: OK, {} KB free\ncard {}\nfree {}\nreached {}\norphaned {}\nheld {}\nmended {}\n",
         shown(name),
         counts.free,
         counts.clusters,
         counts.free,
         counts.reached,
         counts.orphaned,
-        counts.held
+        counts.held,
+        counts.mended
     );
     print(text.as_bytes())
 }

@@ -48,12 +48,16 @@ fn compare(call: &Call) -> Result<(), Failure> {
         }
         output::advance();
     }
-    if pair.differs {
-        return Err(Failure::Told(REFUSED));
+    if !pair.differs {
+        let files = trees[0].values().filter(|line| line.kind == Kind::File).count();
+        let what = if call.asked(Opt::BytesOnly) { "the same files and bytes" } else { "the same" };
+        print(format!("{what}: {files} files, {} directories\n", trees[0].len() - files).as_bytes())?;
     }
-    let files = trees[0].values().filter(|line| line.kind == Kind::File).count();
-    let what = if call.asked(Opt::BytesOnly) { "the same files and bytes" } else { "the same" };
-    print(format!("{what}: {files} files, {} directories\n", trees[0].len() - files).as_bytes())
+    pair.images.iter().for_each(Image::tell_mended);
+    match pair.differs {
+        true => Err(Failure::Told(REFUSED)),
+        false => Ok(()),
+    }
 }
 
 /// A card's tree by path, the root too.
@@ -102,7 +106,7 @@ impl Pair<'_> {
     /// Two files: their bytes, all of which must be readable to be the same.
     fn files(&mut self, lines: [&Line; 2]) -> Result<(), Failure> {
         let path = &lines[0].path;
-        let read = |place: usize| file(&self.images[place].card, path, lines[place].length as usize);
+        let read = |place: usize| file(&self.images[place], path, lines[place].length as usize);
         let files = [read(0), read(1)];
         for (place, letter) in ["A", "B"].into_iter().enumerate() {
             for refusal in files[place].as_ref().err().into_iter().flatten() {

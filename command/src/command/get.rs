@@ -11,7 +11,7 @@ use ps2card::image_file::{absent, sync_folder, Growing, Notice};
 use ps2card::{Entry, Kind};
 
 use super::image::Image;
-use super::{print, say, Command};
+use super::{look, print, say, Command};
 use crate::arguments::{Call, Opt, Syntax};
 use crate::failure::Failure;
 use crate::{host_time, output};
@@ -24,7 +24,7 @@ pub const GET: Command = Command {
         options: &[Opt::Plain],
         help: include_str!("../help/get.txt"),
     },
-    run: get,
+    run: |call| look(call, |image| get(image, call)),
 };
 
 /// One file or directory to make on the host, below the copy's own name; what is a file has bytes.
@@ -34,8 +34,7 @@ struct Copy {
     modified: Option<SystemTime>,
 }
 
-fn get(call: &Call) -> Result<(), Failure> {
-    let image = Image::load(call.format(), call.image())?;
+fn get(image: &Image, call: &Call) -> Result<(), Failure> {
     let (path, to) = (call.bytes(1), call.file(2));
     let entry = image.find(path)?;
     if to == Path::new("-") {
@@ -45,8 +44,8 @@ fn get(call: &Call) -> Result<(), Failure> {
     absent(to).map_err(failed)?;
     // All is read before anything is written.
     let copies = match entry.kind() {
-        Kind::File => vec![copy(&image, path, PathBuf::new(), &entry)?],
-        Kind::Directory => tree(&image, path, &entry)?,
+        Kind::File => vec![copy(image, path, PathBuf::new(), &entry)?],
+        Kind::Directory => tree(image, path, &entry)?,
     };
     write(&copies, to).map_err(failed)?;
     if let Err(error) = sync_folder(to) {

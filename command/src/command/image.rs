@@ -2,8 +2,9 @@
 
 use std::path::Path;
 
-use ps2card::{image_file, Card, Counts, Entry, Format, Line, Refusal};
+use ps2card::{image_file, Card, Counts, Entry, Format, Line, Mended, Refusal};
 
+use super::mended::Tally;
 use super::{size_hint, standard_input, PLAIN};
 use crate::failure::Failure;
 
@@ -12,6 +13,7 @@ pub struct Image<'a> {
     pub card: Card,
     /// The option that says that it is plain.
     option: &'static str,
+    mended: Tally,
 }
 
 impl<'a> Image<'a> {
@@ -26,7 +28,8 @@ impl<'a> Image<'a> {
             true => standard_input().map(|image| Card::new(format, image)),
             false => image_file::load(format, name),
         };
-        Ok(Image { name, card: card.map_err(|error| Failure::host("read", name, error))?, option })
+        let card = card.map_err(|error| Failure::host("read", name, error))?;
+        Ok(Image { name, card, option, mended: Tally::default() })
     }
 
     pub fn check(&self) -> Result<Counts, Failure> {
@@ -38,21 +41,41 @@ impl<'a> Image<'a> {
     }
 
     pub fn tree(&self) -> Result<Vec<Line>, Failure> {
-        self.card.tree().map_err(|refusal| self.refused(refusal))
+        self.looked(self.card.tree_mended()).map_err(|refusal| self.refused(refusal))
     }
 
     pub fn find(&self, path: &[u8]) -> Result<Entry, Failure> {
-        self.card.find(path).map_err(|refusal| self.refused_on(refusal, path))
+        self.looked(self.card.find_mended(path)).map_err(|refusal| self.refused_on(refusal, path))
     }
 
     pub fn step(&self, path: &[u8], slot: u32) -> Result<Option<(u32, Entry)>, Failure> {
-        self.card.step(path, slot).map_err(|refusal| self.refused_on(refusal, path))
+        self.looked(self.card.step_mended(path, slot)).map_err(|refusal| self.refused_on(refusal, path))
+    }
+
+    fn looked<T>(&self, answer: Result<Mended<T>, Refusal>) -> Result<T, Refusal> {
+        answer.map(|Mended { answer, chunks }| {
+            self.mended.look(chunks);
+            answer
+        })
     }
 
     /// A file's bytes from an offset on, at most so many, on a card that was checked before: an unreadable page is
-    /// then the file's.
+    /// then the file's. No two reads of a file may have a page in common: what is mended there would count twice.
+    pub fn read(&self, path: &[u8], offset: usize, most: usize) -> Result<Vec<u8>, Refusal> {
+        self.card.bytes_mended(path, offset, most).map(|Mended { answer, chunks }| {
+            self.mended.read(chunks);
+            answer
+        })
+    }
+
+    /// The same, with the image's name in the refusal.
     pub fn bytes(&self, path: &[u8], offset: usize, most: usize) -> Result<Vec<u8>, Failure> {
-        self.card.bytes(path, offset, most).map_err(|refusal| self.refused_at(refusal, path))
+        self.read(path, offset, most).map_err(|refusal| self.refused_at(refusal, path))
+    }
+
+    /// Says what was mended in all that was read. A command that is refused says nothing of it.
+    pub fn tell_mended(&self) {
+        self.mended.tell(self.name);
     }
 
     fn refused(&self, refusal: Refusal) -> Failure {

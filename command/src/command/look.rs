@@ -1,7 +1,7 @@
 //! The commands that are one look each: list, find, step, read.
 
 use super::image::Image;
-use super::{print, Command};
+use super::{look, print, Command};
 use crate::arguments::{Call, Opt, Syntax};
 use crate::failure::Failure;
 
@@ -24,7 +24,7 @@ pub const FIND: Command = Command {
         options: &[Opt::Plain],
         help: include_str!("../help/find.txt"),
     },
-    run: find,
+    run: |call| look(call, |image| find(image, call)),
 };
 
 pub const STEP: Command = Command {
@@ -49,8 +49,8 @@ pub const READ: Command = Command {
     run: read,
 };
 
-fn find(call: &Call) -> Result<(), Failure> {
-    let entry = Image::load(call.format(), call.image())?.find(call.bytes(1))?;
+fn find(image: &Image, call: &Call) -> Result<(), Failure> {
+    let entry = image.find(call.bytes(1))?;
     let mut text = format!(
         "mode 0x{:04x}\nlength {}\ncreated {}\nmodified {}\nfirst {}\ndir_entry {}\nattribute {}\nname ",
         entry.mode, entry.length, entry.created, entry.modified, entry.first, entry.dir_entry, entry.attribute
@@ -63,16 +63,17 @@ fn find(call: &Call) -> Result<(), Failure> {
 
 fn step(call: &Call) -> Result<(), Failure> {
     let slot = call.number(2, "SLOT")?.unwrap_or(0);
-    match Image::load(call.format(), call.image())?.step(call.bytes(1), slot)? {
+    look(call, |image| match image.step(call.bytes(1), slot)? {
         Some((at, entry)) => print(&[format!("slot {at} ").as_bytes(), entry.name(), b"\n"].concat()),
         None => print(b"end\n"),
-    }
+    })
 }
 
 fn read(call: &Call) -> Result<(), Failure> {
     let (path, offset) = (call.bytes(1), call.number(2, "OFFSET")?.unwrap_or(0));
     let most = call.number(3, "COUNT")?.unwrap_or(usize::MAX);
-    let image = Image::load(call.format(), call.image())?;
-    let length = image.find(path)?.length as usize;
-    print(&image.bytes(path, offset, most.min(length))?)
+    look(call, |image| {
+        let length = image.find(path)?.length as usize;
+        print(&image.bytes(path, offset, most.min(length))?)
+    })
 }

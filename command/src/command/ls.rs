@@ -5,7 +5,7 @@ use std::collections::HashMap;
 use ps2card::{Kind, Line};
 
 use super::image::Image;
-use super::{print, Command};
+use super::{look, print, Command};
 use crate::arguments::{Call, Opt, Syntax};
 use crate::failure::Failure;
 use crate::output;
@@ -18,7 +18,7 @@ pub const LS: Command = Command {
         options: &[Opt::Long, Opt::Plain],
         help: include_str!("../help/ls.txt"),
     },
-    run: ls,
+    run: |call| look(call, |image| ls(image, call)),
 };
 
 /// One entry: kind, size, the time where it is asked for, name.
@@ -29,8 +29,7 @@ struct Row {
     name: String,
 }
 
-fn ls(call: &Call) -> Result<(), Failure> {
-    let image = Image::load(call.format(), call.image())?;
+fn ls(image: &Image, call: &Call) -> Result<(), Failure> {
     let path: &[u8] = if call.has(1) { call.bytes(1) } else { b"/" };
     let long = call.asked(Opt::Long);
     let entry = image.find(path)?;
@@ -40,7 +39,7 @@ fn ls(call: &Call) -> Result<(), Failure> {
         return show(&[Row { kind: Kind::File, size, time, name }]);
     }
     let tree = image.tree()?;
-    let rows = rows(&image, &tree, path, long)?;
+    let rows = rows(image, &tree, path, long)?;
     match rows.is_empty() {
         true => print(format!("{} is empty\n", path.escape_ascii()).as_bytes()),
         false => show(&rows),

@@ -9,6 +9,7 @@ mod get;
 mod image;
 mod look;
 mod ls;
+mod mended;
 mod put;
 mod verify;
 
@@ -22,6 +23,7 @@ use ps2card::{Card, Format, Refusal};
 use crate::arguments::{Call, Syntax};
 use crate::failure::{shown, Failure};
 use crate::output;
+use image::Image;
 
 /// A command: how it is called, and what it does.
 pub struct Command {
@@ -53,6 +55,14 @@ pub const ALL: &[&Command] = &[
 /// Writes to standard output.
 pub fn print(bytes: &[u8]) -> Result<(), Failure> {
     output::print(bytes).map_err(Failure::of_output)
+}
+
+/// Runs a command that looks at one image, and says at the end what was mended on the way.
+fn look(call: &Call, run: impl FnOnce(&Image) -> Result<(), Failure>) -> Result<(), Failure> {
+    let image = Image::load(call.format(), call.image())?;
+    run(&image)?;
+    image.tell_mended();
+    Ok(())
 }
 
 /// The bytes of a host file; `-` is standard input.

@@ -3,7 +3,7 @@
 use std::os::unix::ffi::OsStrExt;
 use std::path::Path;
 
-use ps2card::{Card, Format, Kind, Refusal};
+use ps2card::{Format, Kind, Refusal};
 
 use super::check::each;
 use super::image::Image;
@@ -29,7 +29,7 @@ fn verify(format: Format, name: &Path, one_of_several: bool) -> Result<(), Failu
     output::expect(tree.iter().filter(|line| line.kind == Kind::File).count());
     let mut whole = true;
     for line in tree.iter().filter(|line| line.kind == Kind::File) {
-        let bytes = match file(&image.card, &line.path, line.length as usize) {
+        let bytes = match file(&image, &line.path, line.length as usize) {
             Ok(bytes) => bytes,
             Err(refusals) => {
                 refusals.into_iter().for_each(|refusal| {
@@ -47,6 +47,7 @@ fn verify(format: Format, name: &Path, one_of_several: bool) -> Result<(), Failu
         print(&sum_line(&bytes, &path))?;
         output::advance();
     }
+    image.tell_mended();
     match whole {
         true => Ok(()),
         false => Err(Failure::Told(REFUSED)),
@@ -70,20 +71,21 @@ fn sum_line(bytes: &[u8], path: &[u8]) -> Vec<u8> {
 }
 
 /// All bytes of a file on a checked card; where pages of it are unreadable, a refusal for each of them.
-pub fn file(card: &Card, path: &[u8], length: usize) -> Result<Vec<u8>, Vec<Refusal>> {
-    match card.bytes(path, 0, length) {
+pub fn file(image: &Image, path: &[u8], length: usize) -> Result<Vec<u8>, Vec<Refusal>> {
+    match image.read(path, 0, length) {
         Ok(bytes) => Ok(bytes),
-        Err(Refusal::UnreadablePage(_)) => Err(unreadable(card, path, length)),
+        Err(Refusal::UnreadablePage(_)) => Err(unreadable(image, path, length)),
         Err(refusal) => Err(vec![refusal]),
     }
 }
 
 /// Every unreadable page of a file, in its order. A read tells the first in its range: ranges that grow twofold, and
-/// then halve, find each with few reads.
-fn unreadable(card: &Card, path: &[u8], length: usize) -> Vec<Refusal> {
+/// then halve, find each with few reads. They are of whole pages, and the next begins where one that was read ends, so
+/// that every readable page is read once.
+fn unreadable(image: &Image, path: &[u8], length: usize) -> Vec<Refusal> {
     const PAGE: usize = 512;
     let pages = length.div_ceil(PAGE);
-    let read = |from: usize, to: usize| card.bytes(path, from * PAGE, (to - from) * PAGE);
+    let read = |from: usize, to: usize| image.read(path, from * PAGE, (to - from) * PAGE);
     let (mut refusals, mut from, mut step) = (Vec::new(), 0, 1);
     while from < pages {
         let to = pages.min(from + step);

@@ -12,7 +12,7 @@ pub const RAW: u32 = 0;
 pub const PLAIN: u32 = 1;
 
 extern "C" {
-    /// Checks a card and counts its clusters.
+    /// Checks a card and counts its clusters, and the chunks that were mended.
     pub fn ps2card_check(
         format: u32,
         image: *const u8,
@@ -23,6 +23,7 @@ extern "C" {
         reached: *mut usize,
         orphaned: *mut usize,
         held: *mut usize,
+        mended: *mut usize,
     ) -> u32;
 
     /// The entry at a path.
@@ -41,6 +42,7 @@ extern "C" {
         modified: *mut u8,
         attribute: *mut u32,
         name: *mut u8,
+        mended: *mut usize,
     ) -> u32;
 
     /// The first live entry of a directory from a slot on.
@@ -62,6 +64,7 @@ extern "C" {
         modified: *mut u8,
         attribute: *mut u32,
         name: *mut u8,
+        mended: *mut usize,
     ) -> u32;
 
     /// Copies bytes of a file.
@@ -76,6 +79,7 @@ extern "C" {
         out_length: usize,
         page: *mut usize,
         count: *mut usize,
+        mended: *mut usize,
     ) -> u32;
 
     /// Writes the listing and answers its whole length.

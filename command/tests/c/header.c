@@ -38,43 +38,46 @@ static void print_entry(const ps2card_entry *e) {
 }
 
 static void check(size_t length) {
-    ps2card_counts c = {UNTOUCHED, UNTOUCHED, UNTOUCHED, UNTOUCHED, UNTOUCHED};
+    ps2card_counts c = {UNTOUCHED, UNTOUCHED, UNTOUCHED, UNTOUCHED, UNTOUCHED, UNTOUCHED};
     size_t page = UNTOUCHED;
     uint32_t number = ps2card_check_counts(format, image, length, &page, &c);
-    printf("check %lu %lu %lu %lu %lu %lu %lu\n", (unsigned long)number, (unsigned long)page,
+    printf("check %lu %lu %lu %lu %lu %lu %lu %lu\n", (unsigned long)number, (unsigned long)page,
            (unsigned long)c.clusters, (unsigned long)c.free, (unsigned long)c.reached, (unsigned long)c.orphaned,
-           (unsigned long)c.held);
+           (unsigned long)c.held, (unsigned long)c.mended);
 }
 
 static void find(const char *path) {
     ps2card_entry e;
-    size_t page = UNTOUCHED;
+    size_t page = UNTOUCHED, mended = UNTOUCHED;
     uint32_t number;
     memset(&e, UNTOUCHED, sizeof e);
-    number = ps2card_find_entry(format, image, image_length, text(path), strlen(path), &page, &e);
-    printf("find %lu %lu %d %lu", (unsigned long)number, (unsigned long)page, ps2card_is_directory(&e),
-           (unsigned long)ps2card_name_length(&e));
+    number = ps2card_find_entry(format, image, image_length, text(path), strlen(path), &page, &e, &mended);
+    printf("find %lu %lu %lu %d %lu", (unsigned long)number, (unsigned long)page, (unsigned long)mended,
+           ps2card_is_directory(&e), (unsigned long)ps2card_name_length(&e));
     print_entry(&e);
 }
 
 static void step(const char *path, uint32_t slot) {
     ps2card_entry e;
-    size_t page = UNTOUCHED;
+    size_t page = UNTOUCHED, mended = UNTOUCHED;
     uint32_t found = UNTOUCHED, at = UNTOUCHED, number;
     memset(&e, UNTOUCHED, sizeof e);
-    number = ps2card_step_entry(format, image, image_length, text(path), strlen(path), slot, &page, &found, &at, &e);
-    printf("step %lu %lu %lu %lu", (unsigned long)number, (unsigned long)page, (unsigned long)found, (unsigned long)at);
+    number = ps2card_step_entry(format, image, image_length, text(path), strlen(path), slot, &page, &found, &at, &e,
+                                &mended);
+    printf("step %lu %lu %lu %lu %lu", (unsigned long)number, (unsigned long)page, (unsigned long)mended,
+           (unsigned long)found, (unsigned long)at);
     print_entry(&e);
 }
 
 static void read_some(const char *path, size_t offset) {
     uint8_t out[16];
-    size_t page = UNTOUCHED, count = UNTOUCHED;
+    size_t page = UNTOUCHED, count = UNTOUCHED, mended = UNTOUCHED;
     uint32_t number;
     memset(out, UNTOUCHED, sizeof out);
-    number =
-        ps2card_read(format, image, image_length, text(path), strlen(path), offset, out, sizeof out, &page, &count);
-    printf("read %lu %lu %lu ", (unsigned long)number, (unsigned long)page, (unsigned long)count);
+    number = ps2card_read(format, image, image_length, text(path), strlen(path), offset, out, sizeof out, &page, &count,
+                          &mended);
+    printf("read %lu %lu %lu %lu ", (unsigned long)number, (unsigned long)page, (unsigned long)mended,
+           (unsigned long)count);
     print_hex(out, sizeof out);
     printf("\n");
 }

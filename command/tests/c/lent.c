@@ -1,10 +1,14 @@
 /* What may be NULL: every call with NULL where a length is 0, beside the same call with a pointer to a byte of its own;
  * and what is no format: every call with such a number, beside the same call with no image at all.
- * Usage: lent IMAGE. Prints a line for each pair: what was lent, and both answers, which must be equal. */
+ * Usage: lent IMAGE, one without wrong bits. Prints a line for each pair: what was lent, and both answers, which must be
+ * equal. */
 #include <stdio.h>
 #include <string.h>
 
 #include "ps2card.h"
+
+/* What stands in a count before a call. */
+enum { UNTOUCHED = 77 };
 
 static uint8_t image[PS2CARD_MOST_BYTES], spare[1];
 static size_t image_length;
@@ -19,18 +23,30 @@ static void pair(const char *name, size_t with_null, size_t with_byte) {
     differ |= with_null != with_byte;
 }
 
+/* An answer, whose call was lent a count of mended chunks: written exactly where the call is accepted. */
+static uint32_t counted(uint32_t number, size_t *mended) {
+    differ |= *mended != (number == PS2CARD_DONE ? 0 : (size_t)UNTOUCHED);
+    *mended = UNTOUCHED;
+    return number;
+}
+
 /* The calls that look: a slice each of image and path, NULL or not. */
 static void looks(uint32_t format, const uint8_t *im, size_t im_length, const uint8_t *path, size_t path_length,
                   size_t *answers) {
     ps2card_entry entry;
     ps2card_counts counts;
-    size_t page = 0, count = 0;
-    uint32_t found, at;
+    size_t page = 0, count = 0, mended = UNTOUCHED;
+    uint32_t found, at, number;
     uint8_t out[4];
-    answers[0] = ps2card_check_counts(format, im, im_length, &page, &counts);
-    answers[1] = ps2card_find_entry(format, im, im_length, path, path_length, &page, &entry);
-    answers[2] = ps2card_step_entry(format, im, im_length, path, path_length, 2, &page, &found, &at, &entry);
-    answers[3] = ps2card_read(format, im, im_length, path, path_length, 0, out, sizeof out, &page, &count);
+    counts.mended = UNTOUCHED;
+    number = ps2card_check_counts(format, im, im_length, &page, &counts);
+    answers[0] = counted(number, &counts.mended);
+    number = ps2card_find_entry(format, im, im_length, path, path_length, &page, &entry, &mended);
+    answers[1] = counted(number, &mended);
+    number = ps2card_step_entry(format, im, im_length, path, path_length, 2, &page, &found, &at, &entry, &mended);
+    answers[2] = counted(number, &mended);
+    number = ps2card_read(format, im, im_length, path, path_length, 0, out, sizeof out, &page, &count, &mended);
+    answers[3] = counted(number, &mended);
     answers[4] = ps2card_list(format, im, im_length, out, sizeof out);
 }
 
@@ -53,7 +69,8 @@ static void pairs(const char *name, const size_t *with_null, const size_t *with_
 
 int main(int words_count, char **words) {
     FILE *input = words_count == 2 ? fopen(words[1], "rb") : NULL;
-    size_t a[5], b[5], b_looks[5], page = 0, count = 77, no_count = 77, plain_length;
+    size_t a[5], b[5], b_looks[5], page = 0, count = UNTOUCHED, no_count = UNTOUCHED, plain_length;
+    size_t mended = UNTOUCHED, no_mended = UNTOUCHED;
     uint8_t kept[sizeof spare];
     if (!input) {
         return 2;
@@ -107,15 +124,21 @@ int main(int words_count, char **words) {
     pair("replace",
          ps2card_replace(PS2CARD_RAW, image, image_length, file, sizeof file, time_of_change, NULL, 0, &page),
          ps2card_replace(PS2CARD_RAW, image, image_length, other, sizeof other, time_of_change, spare, 0, &page));
-    pair("read", ps2card_read(PS2CARD_RAW, image, image_length, file, sizeof file, 0, NULL, 0, &page, &no_count),
-         ps2card_read(PS2CARD_RAW, image, image_length, other, sizeof other, 0, spare, 0, &page, &count));
+    pair("read",
+         ps2card_read(PS2CARD_RAW, image, image_length, file, sizeof file, 0, NULL, 0, &page, &no_count, &no_mended),
+         ps2card_read(PS2CARD_RAW, image, image_length, other, sizeof other, 0, spare, 0, &page, &count, &mended));
     pair("count", no_count, count);
+    pair("mended", no_mended, mended);
     pair("list", ps2card_list(PS2CARD_RAW, image, image_length, NULL, 0),
          ps2card_list(PS2CARD_RAW, image, image_length, spare, 0));
     pair("make_dir",
          ps2card_make_dir(PS2CARD_RAW, image, image_length, directory, sizeof directory, time_of_change, &page), 0);
+    no_mended = mended = UNTOUCHED;
     pair("read_directory",
-         ps2card_read(PS2CARD_RAW, image, image_length, directory, sizeof directory, 0, NULL, 0, &page, &no_count),
-         ps2card_read(PS2CARD_RAW, image, image_length, directory, sizeof directory, 0, spare, 0, &page, &count));
+         ps2card_read(PS2CARD_RAW, image, image_length, directory, sizeof directory, 0, NULL, 0, &page, &no_count,
+                      &no_mended),
+         ps2card_read(PS2CARD_RAW, image, image_length, directory, sizeof directory, 0, spare, 0, &page, &count,
+                      &mended));
+    pair("mended_directory", no_mended, mended);
     return differ || memcmp(kept, spare, sizeof spare) != 0;
 }

@@ -18,7 +18,7 @@ static const uint8_t time_of_change[8] = {0, 56, 34, 12, 29, 2, 0xD0, 0x07};
 
 /* What the calls write. */
 static struct {
-    size_t page, a, b, c, d;
+    size_t page, a, b, c, d, mended;
     uint32_t clusters, found, at, length, first, dir_entry, attribute;
     uint16_t mode;
     uint8_t created[8], modified[8], name[32];
@@ -31,18 +31,21 @@ static struct {
 #define PATH(text) (const uint8_t *)(text), sizeof(text) - 1
 
 static uint32_t check(void) {
-    return ps2card_check(format, work, image_length, &out.page, &out.clusters, &out.a, &out.b, &out.c, &out.d);
+    return ps2card_check(format, work, image_length, &out.page, &out.clusters, &out.a, &out.b, &out.c, &out.d,
+                         &out.mended);
 }
 static uint32_t find(void) {
     return ps2card_find(format, work, image_length, PATH(DEEPEST "/file"), &out.page, &out.mode, &out.length, out.created,
-                        &out.first, &out.dir_entry, out.modified, &out.attribute, out.name);
+                        &out.first, &out.dir_entry, out.modified, &out.attribute, out.name, &out.mended);
 }
 static uint32_t step(void) {
     return ps2card_step(format, work, image_length, PATH(DEEPEST), 2, &out.page, &out.found, &out.at, &out.mode,
-                        &out.length, out.created, &out.first, &out.dir_entry, out.modified, &out.attribute, out.name);
+                        &out.length, out.created, &out.first, &out.dir_entry, out.modified, &out.attribute, out.name,
+                        &out.mended);
 }
 static uint32_t read_file(void) {
-    return ps2card_read(format, work, image_length, PATH(DEEPEST "/file"), 1, bytes, sizeof bytes, &out.page, &out.a);
+    return ps2card_read(format, work, image_length, PATH(DEEPEST "/file"), 1, bytes, sizeof bytes, &out.page, &out.a,
+                        &out.mended);
 }
 static uint32_t list(void) {
     return ps2card_list(format, work, image_length, bytes, sizeof bytes) == 0;

@@ -1,6 +1,8 @@
 //! What the tests of the command share: a folder of their own, and runs of the command.
 #![allow(dead_code)]
 
+pub mod mended;
+
 use std::ffi::OsStr;
 use std::fs;
 use std::io::Write;
@@ -40,6 +42,13 @@ impl Outcome {
     #[track_caller]
     pub fn done(self) -> Vec<u8> {
         assert_eq!((self.status, self.err.as_str()), (0, ""));
+        self.out
+    }
+
+    /// It did what it was asked, and said of an image how many chunks were mended, where any were; its output.
+    #[track_caller]
+    pub fn mending(self, image: &str, chunks: usize) -> Vec<u8> {
+        assert_eq!((self.status, self.err), (0, mended::line(image, chunks)));
         self.out
     }
 
