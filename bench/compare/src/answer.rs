@@ -7,6 +7,8 @@ pub type Broken = String;
 
 /// What stands in the page's number before a call: no card has such a page.
 pub const NO_PAGE: usize = usize::MAX - 1;
+/// What stands in the count of mended chunks before a call: no card has so many.
+pub const NO_MENDED: usize = usize::MAX - 7;
 
 /// Acceptance, or the refusal with the returned number: one that the call may give, and with every output kept
 /// that must be. `others_stay` says that all outputs but the page are as they were.

@@ -8,8 +8,8 @@ use crate::format::Number;
 
 /// How many bytes were copied; nothing where the call is refused.
 pub fn read(format: Format, image: &[u8], path: &[u8], offset: usize, out: &mut [u8]) -> Option<usize> {
-    let (mut page, mut count) = (0, 0);
-    // SAFETY: pointers and lengths are those of slices that do not overlap, and both numbers live here.
+    let (mut page, mut count, mut mended) = (0, 0, 0);
+    // SAFETY: pointers and lengths are those of slices that do not overlap, and the numbers live here.
     let number = unsafe {
         ps2card_read(
             Number::from(format).0,
@@ -22,6 +22,7 @@ pub fn read(format: Format, image: &[u8], path: &[u8], offset: usize, out: &mut 
             out.len(),
             &mut page,
             &mut count,
+            &mut mended,
         )
     };
     (number == 0).then_some(count)

@@ -14,14 +14,14 @@ mod lent;
 pub mod listing;
 pub mod lookup;
 
-use answer::{verdict, Broken, NO_PAGE};
+use answer::{verdict, Broken, NO_MENDED, NO_PAGE};
 use format::Number;
 use ps2card_sys::ps2card_check;
 use reader::{Counts, Refusal};
 
 pub use change::{create, delete, make_dir, remove_dir, replace};
 pub use convert::{to_plain, to_raw};
-pub use lookup::{find, read, step};
+pub use lookup::{find, find_mended, read, read_mended, step, step_mended};
 
 /// The refusals of the check.
 const REFUSALS: [u32; 7] = [1, 2, 3, 4, 5, 6, 7];
@@ -35,6 +35,7 @@ struct Outputs {
     reached: usize,
     orphaned: usize,
     held: usize,
+    mended: usize,
 }
 
 const UNTOUCHED: Outputs = Outputs {
@@ -44,15 +45,16 @@ const UNTOUCHED: Outputs = Outputs {
     reached: usize::MAX - 4,
     orphaned: usize::MAX - 5,
     held: usize::MAX - 6,
+    mended: NO_MENDED,
 };
 
 impl Outputs {
     /// The answer for a returned number, if every output that must stay has stayed.
     fn answer(self, number: u32) -> Result<Result<Counts, Refusal>, Broken> {
-        let Outputs { page, clusters, free, reached, orphaned, held } = self;
+        let Outputs { page, clusters, free, reached, orphaned, held, mended } = self;
         let counts_stay = Outputs { page: NO_PAGE, ..self } == UNTOUCHED;
         let accepted = verdict(number, &REFUSALS, page, counts_stay)?;
-        Ok(accepted.map(|()| Counts { clusters: clusters as usize, free, reached, orphaned, held }))
+        Ok(accepted.map(|()| Counts { clusters: clusters as usize, free, reached, orphaned, held, mended }))
     }
 }
 
@@ -72,6 +74,7 @@ pub fn check(format: impl Into<Number>, image: &[u8]) -> Result<Counts, Refusal>
             &mut out.reached,
             &mut out.orphaned,
             &mut out.held,
+            &mut out.mended,
         )
     };
     out.answer(number).unwrap_or_else(|broken| panic!("{broken}: {out:?}"))
@@ -81,11 +84,13 @@ pub fn check(format: impl Into<Number>, image: &[u8]) -> Result<Counts, Refusal>
 mod tests {
     use super::*;
 
-    const COUNTS: Outputs = Outputs { page: NO_PAGE, clusters: 56, free: 29, reached: 1, orphaned: 3, held: 5 };
+    const COUNTS: Outputs =
+        Outputs { page: NO_PAGE, clusters: 56, free: 29, reached: 1, orphaned: 3, held: 5, mended: 7 };
 
     #[test]
     fn answers() {
-        assert_eq!(COUNTS.answer(0), Ok(Ok(Counts { clusters: 56, free: 29, reached: 1, orphaned: 3, held: 5 })));
+        let counts = Counts { clusters: 56, free: 29, reached: 1, orphaned: 3, held: 5, mended: 7 };
+        assert_eq!(COUNTS.answer(0), Ok(Ok(counts)));
         assert_eq!(Outputs { page: 9, ..UNTOUCHED }.answer(2), Ok(Err(Refusal::unreadable(9))));
         for number in [1, 3, 4, 5, 6, 7] {
             assert_eq!(UNTOUCHED.answer(number), Ok(Err(Refusal::number(number as u8))));
@@ -101,6 +106,7 @@ mod tests {
             Outputs { reached: 0, ..UNTOUCHED },
             Outputs { orphaned: 0, ..UNTOUCHED },
             Outputs { held: 0, ..UNTOUCHED },
+            Outputs { mended: 0, ..UNTOUCHED },
         ];
         for number in REFUSALS {
             assert!(touched.iter().all(|out| out.answer(number).is_err()), "{number}");

@@ -1,9 +1,10 @@
-//! Find, directory step and file read.
+//! Find, directory step and file read; each has a twin, as in the reader, that tells besides how many chunks were
+//! mended.
 
 use ps2card_sys::{ps2card_find, ps2card_read, ps2card_step};
-use reader::{Entry, Refusal};
+use reader::{Answer, Entry, Refusal};
 
-use crate::answer::{verdict, Broken, NO_PAGE};
+use crate::answer::{verdict, Broken, NO_MENDED, NO_PAGE};
 use crate::format::Number;
 
 /// The refusals of find and step.
@@ -27,19 +28,26 @@ const NO_ENTRY: Entry = Entry {
 struct FindOutputs {
     page: usize,
     entry: Entry,
+    mended: usize,
 }
 
 impl FindOutputs {
-    const UNTOUCHED: FindOutputs = FindOutputs { page: NO_PAGE, entry: NO_ENTRY };
+    const UNTOUCHED: FindOutputs = FindOutputs { page: NO_PAGE, entry: NO_ENTRY, mended: NO_MENDED };
 
-    fn answer(self, number: u32) -> Result<Result<Entry, Refusal>, Broken> {
-        let accepted = verdict(number, &REFUSALS, self.page, self.entry == NO_ENTRY)?;
-        Ok(accepted.map(|()| self.entry))
+    fn answer(self, number: u32) -> Result<Result<Answer<Entry>, Refusal>, Broken> {
+        let all_stay = (&self.entry, self.mended) == (&NO_ENTRY, NO_MENDED);
+        let accepted = verdict(number, &REFUSALS, self.page, all_stay)?;
+        Ok(accepted.map(|()| Answer { value: self.entry, mended: self.mended }))
     }
 }
 
 /// The entry at a path.
 pub fn find(format: impl Into<Number>, image: &[u8], path: &[u8]) -> Result<Entry, Refusal> {
+    find_mended(format, image, path).map(|answer| answer.value)
+}
+
+/// `find` with the count.
+pub fn find_mended(format: impl Into<Number>, image: &[u8], path: &[u8]) -> Result<Answer<Entry>, Refusal> {
     let mut out = FindOutputs::UNTOUCHED;
     let entry = &mut out.entry;
     // SAFETY: each pointer with a length is one slice, which the library only reads; each output is a
@@ -60,6 +68,7 @@ pub fn find(format: impl Into<Number>, image: &[u8], path: &[u8]) -> Result<Entr
             entry.modified.as_mut_ptr(),
             &mut entry.attribute,
             entry.name_field.as_mut_ptr(),
+            &mut out.mended,
         )
     };
     out.clone().answer(number).unwrap_or_else(|broken| panic!("find, {broken}: {out:?}"))
@@ -71,22 +80,25 @@ struct StepOutputs {
     found: u32,
     at: u32,
     entry: Entry,
+    mended: usize,
 }
 
 /// A slot with its entry, or the end of the directory.
 pub type Next = Option<(usize, Entry)>;
 
 impl StepOutputs {
-    const UNTOUCHED: StepOutputs = StepOutputs { page: NO_PAGE, found: 0x5A5A_0006, at: 0x5A5A_0007, entry: NO_ENTRY };
+    const UNTOUCHED: StepOutputs =
+        StepOutputs { page: NO_PAGE, found: 0x5A5A_0006, at: 0x5A5A_0007, entry: NO_ENTRY, mended: NO_MENDED };
 
-    /// The end writes that nothing was found, and no more.
-    fn answer(self, number: u32) -> Result<Result<Next, Refusal>, Broken> {
+    /// The end writes that nothing was found and the count, and no more.
+    fn answer(self, number: u32) -> Result<Result<Answer<Next>, Refusal>, Broken> {
         let entry_stays = (self.at, &self.entry) == (Self::UNTOUCHED.at, &NO_ENTRY);
-        let all_stay = entry_stays && self.found == Self::UNTOUCHED.found;
-        match (verdict(number, &REFUSALS, self.page, all_stay)?, self.found) {
+        let others_stay = (self.found, self.mended) == (Self::UNTOUCHED.found, NO_MENDED);
+        let mended = self.mended;
+        match (verdict(number, &REFUSALS, self.page, entry_stays && others_stay)?, self.found) {
             (Err(refusal), _) => Ok(Err(refusal)),
-            (Ok(()), 1) => Ok(Ok(Some((self.at as usize, self.entry)))),
-            (Ok(()), 0) if entry_stays => Ok(Ok(None)),
+            (Ok(()), 1) => Ok(Ok(Answer { value: Some((self.at as usize, self.entry)), mended })),
+            (Ok(()), 0) if entry_stays => Ok(Ok(Answer { value: None, mended })),
             (Ok(()), 0) => Err("the end changed the slot or a field".into()),
             (Ok(()), found) => Err(format!("found is {found}")),
         }
@@ -95,6 +107,11 @@ impl StepOutputs {
 
 /// The first live entry of a directory from a slot on.
 pub fn step(format: impl Into<Number>, image: &[u8], path: &[u8], slot: u32) -> Result<Next, Refusal> {
+    step_mended(format, image, path, slot).map(|answer| answer.value)
+}
+
+/// `step` with the count.
+pub fn step_mended(format: impl Into<Number>, image: &[u8], path: &[u8], slot: u32) -> Result<Answer<Next>, Refusal> {
     let mut out = StepOutputs::UNTOUCHED;
     let entry = &mut out.entry;
     // SAFETY: as in `find`.
@@ -117,6 +134,7 @@ pub fn step(format: impl Into<Number>, image: &[u8], path: &[u8], slot: u32) -> 
             entry.modified.as_mut_ptr(),
             &mut entry.attribute,
             entry.name_field.as_mut_ptr(),
+            &mut out.mended,
         )
     };
     out.clone().answer(number).unwrap_or_else(|broken| panic!("step, {broken}: {out:?}"))
@@ -129,6 +147,7 @@ const GUARD: usize = 16;
 struct ReadOutputs {
     page: usize,
     count: usize,
+    mended: usize,
     /// The buffer between its guards.
     lent: Vec<u8>,
 }
@@ -136,12 +155,12 @@ struct ReadOutputs {
 impl ReadOutputs {
     fn untouched(buffer: &[u8]) -> ReadOutputs {
         let lent = [&[0xB7; GUARD], buffer, &[0xB8; GUARD]].concat();
-        ReadOutputs { page: NO_PAGE, count: usize::MAX - 6, lent }
+        ReadOutputs { page: NO_PAGE, count: usize::MAX - 6, mended: NO_MENDED, lent }
     }
 
     /// Of the lent bytes only as many as the count says may have changed.
-    fn answer(&self, number: u32, before: &ReadOutputs) -> Result<Result<usize, Refusal>, Broken> {
-        let all_stay = (self.count, &self.lent) == (before.count, &before.lent);
+    fn answer(&self, number: u32, before: &ReadOutputs) -> Result<Result<Answer<usize>, Refusal>, Broken> {
+        let all_stay = (self.count, self.mended, &self.lent) == (before.count, NO_MENDED, &before.lent);
         let accepted = verdict(number, &READ_REFUSALS, self.page, all_stay)?;
         if accepted.is_ok() {
             if self.count > before.lent.len() - 2 * GUARD {
@@ -152,7 +171,7 @@ impl ReadOutputs {
                 return Err(format!("a byte changed beside the {} told", self.count));
             }
         }
-        Ok(accepted.map(|()| self.count))
+        Ok(accepted.map(|()| Answer { value: self.count, mended: self.mended }))
     }
 }
 
@@ -164,6 +183,17 @@ pub fn read(
     offset: usize,
     buffer: &mut [u8],
 ) -> Result<usize, Refusal> {
+    read_mended(format, image, path, offset, buffer).map(|answer| answer.value)
+}
+
+/// `read` with the count.
+pub fn read_mended(
+    format: impl Into<Number>,
+    image: &[u8],
+    path: &[u8],
+    offset: usize,
+    buffer: &mut [u8],
+) -> Result<Answer<usize>, Refusal> {
     let before = ReadOutputs::untouched(buffer);
     let mut out = before.clone();
     let lent = &mut out.lent[GUARD..][..buffer.len()];
@@ -180,6 +210,7 @@ pub fn read(
             lent.len(),
             &mut out.page,
             &mut out.count,
+            &mut out.mended,
         )
     };
     let answer = out.answer(number, &before).unwrap_or_else(|broken| panic!("read, {broken}"));
@@ -215,9 +246,12 @@ mod tests {
         let refused = FindOutputs::UNTOUCHED;
         for entry in touched() {
             let out = FindOutputs { entry: entry.clone(), ..FindOutputs::UNTOUCHED };
-            assert_eq!(out.clone().answer(0), Ok(Ok(entry)));
             assert!(REFUSALS.iter().all(|&number| out.clone().answer(number).is_err()));
+            let told = FindOutputs { mended: 3, ..out };
+            assert_eq!(told.answer(0), Ok(Ok(Answer { value: entry, mended: 3 })));
         }
+        let told = FindOutputs { mended: 0, ..FindOutputs::UNTOUCHED };
+        assert!(REFUSALS.iter().all(|&number| told.clone().answer(number).is_err()));
         assert_eq!(refused.clone().answer(9), Ok(Err(Refusal::number(9))));
         assert!(refused.answer(15).is_err());
     }
@@ -227,15 +261,17 @@ mod tests {
         let untouched = StepOutputs::UNTOUCHED;
         assert_eq!(untouched.clone().answer(10), Ok(Err(Refusal::number(10))));
         assert!(untouched.clone().answer(0).is_err() && untouched.clone().answer(15).is_err());
-        let end = StepOutputs { found: 0, ..untouched.clone() };
-        assert_eq!(end.clone().answer(0), Ok(Ok(None)));
-        assert!(end.clone().answer(9).is_err());
+        let end = StepOutputs { found: 0, mended: 3, ..untouched.clone() };
+        assert_eq!(end.clone().answer(0), Ok(Ok(Answer { value: None, mended: 3 })));
+        assert!(StepOutputs { found: 0, ..untouched.clone() }.answer(9).is_err());
+        assert!(StepOutputs { mended: 0, ..untouched.clone() }.answer(9).is_err());
         assert!(StepOutputs { at: 7, ..end.clone() }.answer(0).is_err());
         assert!(StepOutputs { at: 7, ..untouched }.answer(9).is_err());
         for entry in touched() {
             let out = StepOutputs { entry: entry.clone(), ..end.clone() };
             assert!(out.clone().answer(0).is_err());
-            assert_eq!(StepOutputs { found: 1, at: 7, ..out }.answer(0), Ok(Ok(Some((7, entry)))));
+            let found = StepOutputs { found: 1, at: 7, ..out };
+            assert_eq!(found.answer(0), Ok(Ok(Answer { value: Some((7, entry)), mended: 3 })));
         }
     }
 
@@ -243,17 +279,18 @@ mod tests {
     fn reads() {
         let before = ReadOutputs::untouched(&[1, 2, 3]);
         let copied = |count: usize, at: usize| {
-            let mut out = ReadOutputs { count, ..before.clone() };
+            let mut out = ReadOutputs { count, mended: 3, ..before.clone() };
             out.lent[at] = 0;
             out.answer(0, &before)
         };
-        assert_eq!(copied(2, GUARD + 1), Ok(Ok(2)));
-        assert_eq!(copied(3, GUARD + 2), Ok(Ok(3)));
+        assert_eq!(copied(2, GUARD + 1), Ok(Ok(Answer { value: 2, mended: 3 })));
+        assert_eq!(copied(3, GUARD + 2), Ok(Ok(Answer { value: 3, mended: 3 })));
         assert!(copied(2, GUARD + 2).is_err() && copied(4, GUARD).is_err());
         assert!(copied(3, GUARD - 1).is_err() && copied(3, GUARD + 3).is_err());
         assert!(before.answer(0, &before).is_err());
         assert_eq!(before.answer(15, &before), Ok(Err(Refusal::number(15))));
         assert!(ReadOutputs { count: 0, ..before.clone() }.answer(15, &before).is_err());
+        assert!(ReadOutputs { mended: 0, ..before.clone() }.answer(15, &before).is_err());
         let mut touched = before.clone();
         touched.lent[GUARD] = 0;
         assert!(touched.answer(15, &before).is_err() && before.answer(11, &before).is_err());

@@ -31,7 +31,8 @@ fn places() {
                 put_word(&mut data, at, block);
                 page::write(format, &mut image, 0, &data);
                 let beside = if others == 1 { 2 } else { 0 };
-                let counts = |held| Counts { clusters: 512, free: 479 - held, reached: 1, orphaned: 0, held };
+                let counts =
+                    |held| Counts { clusters: 512, free: 479 - held, reached: 1, orphaned: 0, held, mended: 0 };
                 let expected = answer.map(|held: usize| counts(held + beside)).map_err(Refusal::number);
                 assert_eq!(
                     same(format, &image, "places"),
@@ -101,7 +102,8 @@ fn with_free(format: Format, free: &[usize]) -> Both {
     (1..480).filter(|cluster| !(3..19).contains(cluster)).for_each(|cluster| card.table[cluster] = END_MARK);
     free.iter().for_each(|&cluster| card.table[cluster] = !USED);
     let both = Both::new(format, card.finish());
-    let counts = Counts { clusters: 512, free: free.len(), reached: 1, orphaned: 463 - free.len(), held: 16 };
+    let counts =
+        Counts { clusters: 512, free: free.len(), reached: 1, orphaned: 463 - free.len(), held: 16, mended: 0 };
     assert_eq!(both.counts(), counts);
     both
 }

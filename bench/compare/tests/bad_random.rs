@@ -28,10 +28,11 @@ fn random_lists() {
             let is_wrong = list.iter().any(|&word| word == 0 || word != u32::MAX && word >= blocks as u32);
             let end = layout.alloc_end;
             let held = (1..end).filter(|cluster| listed(layout.alloc_offset + cluster)).count();
+            let free = end - 1 - held;
             let expected = match (is_wrong, named) {
                 (true, _) => Err(Refusal::number(4)),
                 (_, true) => Err(Refusal::number(5)),
-                _ => Ok(Counts { clusters: 8 * blocks, free: end - 1 - held, reached: 1, orphaned: 0, held }),
+                _ => Ok(Counts { clusters: 8 * blocks, free, reached: 1, orphaned: 0, held, mended: 0 }),
             };
             let image = fresh_with(format, layout, &list).finish();
             let answer = tally.same(format, &image, || format!("random list {seed}"));

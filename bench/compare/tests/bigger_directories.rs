@@ -11,7 +11,7 @@ use reader::build::{usual_time, Layout};
 use reader::card::MOST_CLUSTERS;
 use reader::page;
 use reader::rng::Rng;
-use reader::{Change, Counts, Format, Refusal};
+use reader::{Change, Format, Refusal};
 
 const SEVEN: Refusal = Refusal::number(7);
 
@@ -83,7 +83,7 @@ fn greatest(format: Format) {
     const FILES: usize = 130_524;
     let layout = Layout::widest(MOST_CLUSTERS);
     let names = Names::Shuffled.of(FILES);
-    let full = Ok(Counts { clusters: MOST_CLUSTERS, free: 0, reached: layout.alloc_end, orphaned: 0, held: 0 });
+    let full = Ok(layout.counts(layout.alloc_end));
     let first = 2 * layout.alloc_offset;
     let what = || "greatest directory".to_string();
     // All but the last slot, which is the second page of the last cluster.
@@ -116,7 +116,7 @@ fn greatest(format: Format) {
     assert_eq!((next.0, next.1.name()), (70_002, Some(&b"one more"[..])));
     let text = listing::whole(format, &image);
     assert!(text == reader::list(format, &image), "the listings differ");
-    assert_eq!(text.lines().count(), 5 + FILES);
+    assert_eq!(text.lines().count(), 6 + FILES);
 }
 
 #[test]

@@ -7,7 +7,7 @@ use common::lookups::Lookups;
 use reader::build::{fresh, Layout};
 use reader::card::MOST_CLUSTERS;
 use reader::rng::Rng;
-use reader::{Counts, Format};
+use reader::Format;
 
 /// The allocatable clusters of a fresh card.
 const ALL: usize = 65_256;
@@ -18,11 +18,11 @@ fn fresh_card(format: Format) -> Both {
     Both::new(format, fresh(format, MOST_CLUSTERS))
 }
 
-/// Both checks; nothing is ever orphaned here, and nothing held back.
+/// Both checks; nothing is ever orphaned here, held back or mended.
 fn free(both: &Both) -> usize {
     let counts = both.counts();
     let reached = ALL - counts.free;
-    assert_eq!(counts, Counts { clusters: MOST_CLUSTERS, free: counts.free, reached, orphaned: 0, held: 0 });
+    assert_eq!(counts, Layout::fresh(MOST_CLUSTERS).counts(reached));
     counts.free
 }
 
@@ -34,7 +34,10 @@ fn one_file(format: Format) {
     assert_eq!(both.create("/A", &data), 12);
     assert_eq!(both.create("/A", &data[..most]), 0);
     assert_eq!(free(&both), 0);
-    assert_eq!(both.listed(), format!("card 65536\nfree 0\nreached {ALL}\norphaned 0\nheld 0\nf {most} /A\n"));
+    assert_eq!(
+        both.listed(),
+        format!("card 65536\nfree 0\nreached {ALL}\norphaned 0\nheld 0\nmended 0\nf {most} /A\n")
+    );
 
     let mut lookups = Lookups::new(format);
     let mut piece = |offset: usize, size: usize, ours: &[u8]| {
@@ -97,13 +100,13 @@ fn many_files(format: Format) {
     assert_eq!(both.create("/D0/pieces", &bytes(left * 1024 + 1)), 12);
     assert_eq!(both.create("/D0/pieces", &bytes(left * 1024)), 0);
     assert_eq!(free(&both), 0);
-    assert_eq!(both.listed().lines().count(), 5 + 3 + rest.len() + 1);
+    assert_eq!(both.listed().lines().count(), 6 + 3 + rest.len() + 1);
 
     assert_eq!((both.delete("/D0/pieces"), both.remove_dir("/D1")), (0, 13));
     rest.iter().for_each(|path| assert_eq!(both.delete(path), 0));
     directories.iter().for_each(|path| assert_eq!(both.remove_dir(path), 0));
     // The root keeps its five slots.
-    assert_eq!((free(&both), both.listed().lines().count()), (ALL - 3, 5));
+    assert_eq!((free(&both), both.listed().lines().count()), (ALL - 3, 6));
 }
 
 #[test]

@@ -110,7 +110,10 @@ fn filled_emptied_and_filled_again(format: Format) {
     let deleted = both.empty();
     assert_eq!(deleted, 2000 + first);
     // The root keeps its 42 slots; all else is free again.
-    assert_eq!(both.counts(), Counts { clusters: 8192, free: 8000 - 21, reached: 21, orphaned: 0, held: 135 });
+    assert_eq!(
+        both.counts(),
+        Counts { clusters: 8192, free: 8000 - 21, reached: 21, orphaned: 0, held: 135, mended: 0 }
+    );
     let second = both.fill(&mut rng, &[b"/".to_vec()]);
     println!("{first} files created, {deleted} deleted, {second} created");
     assert!(first >= 50 && second >= 100, "{first} {second}");

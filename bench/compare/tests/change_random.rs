@@ -4,12 +4,11 @@
 mod common;
 
 use common::changes::{five, Changes};
-use common::{flip_each_chunk, needed_pages};
+use common::flip_each_chunk;
 use reader::build::random::random;
 use reader::build::requests::random_change;
-use reader::build::scribble;
-use reader::build::usual_time;
 use reader::build::vandal::vandalised;
+use reader::build::{needed, scribble, usual_time};
 use reader::rng::Rng;
 use reader::tree::Checked;
 use reader::{lookup, tree, Change, Format, Tree};
@@ -39,7 +38,7 @@ impl Run {
                 let items = tree(format, &image).expect("an accepted card");
                 grows = grows || items.len() == 1;
                 let change = leaning(&mut rng, &items, grows);
-                wear(format, &mut image, card.layout.indirect, &mut rng);
+                wear(format, &mut image, &mut rng);
                 let what = || format!("random card {seed}, change {number}");
                 let answer = self.changes.apply(&mut image, &change, what);
                 match answer {
@@ -83,7 +82,7 @@ fn leaning(rng: &mut Rng, items: &Tree, grows: bool) -> Change {
 
 /// Flips and junk spare bytes in raw pages; now and then damage where the check does not look, which in a plain page is
 /// other data.
-fn wear(format: Format, image: &mut [u8], indirect: usize, rng: &mut Rng) {
+fn wear(format: Format, image: &mut [u8], rng: &mut Rng) {
     let pages = image.len() / format.page_bytes();
     if format == Format::Raw {
         for _ in 0..rng.below(4) {
@@ -94,7 +93,7 @@ fn wear(format: Format, image: &mut [u8], indirect: usize, rng: &mut Rng) {
     }
     if rng.chance(1, 5) {
         let page = rng.below(pages);
-        if !needed_pages(format, image, indirect).contains(&page) {
+        if !needed::by_check(format, image).contains(&page) {
             scribble::ruin(format, image, page, rng.below(4), rng);
         }
     }

@@ -15,7 +15,7 @@ use reader::{Counts, Format, Refusal};
 #[test]
 fn bench_card() {
     for format in Format::BOTH {
-        let fresh = Counts { clusters: 56, free: 29, reached: 1, orphaned: 0, held: 0 };
+        let fresh = Counts { clusters: 56, free: 29, reached: 1, orphaned: 0, held: 0, mended: 0 };
         assert_eq!(same(format, &bench(format), "bench card"), Ok(fresh));
     }
 }
@@ -119,7 +119,7 @@ fn lengths_of_both_formats() {
         let card = |format, clusters| Assembly::with_root(format, Layout { clusters, ..Layout::bench() }).finish();
         let images = [card(Format::Raw, raw), card(Format::Plain, plain)];
         assert_eq!(images[0].len(), images[1].len());
-        let counts = |clusters| Counts { clusters, free: 29, reached: 1, orphaned: 0, held: 0 };
+        let counts = |clusters| Counts { clusters, free: 29, reached: 1, orphaned: 0, held: 0, mended: 0 };
         assert_eq!(same(Format::Raw, &images[0], "raw as raw"), Ok(counts(raw)));
         assert_eq!(same(Format::Plain, &images[1], "plain as plain"), Ok(counts(plain)));
         assert_eq!(same(Format::Plain, &images[0], "raw as plain"), Err(Refusal::number(4)));
@@ -184,12 +184,12 @@ fn any_address() {
     }
 }
 
-/// Every single flip of page 0 is seen through, every pair in one chunk makes it unreadable.
+/// Every single flip of page 0 is seen through and counted, every pair in one chunk makes it unreadable.
 #[test]
 fn every_flip_and_pair() {
     let format = Format::Raw;
     let mut image = bench(format);
-    let counts = same(format, &image, "bench card");
+    let counts = same(format, &image, "bench card").map(|counts| Counts { mended: 1, ..counts });
     for chunk in 0..4 {
         for one in 0..1044 {
             flip(format, &mut image, 0, chunk, one);

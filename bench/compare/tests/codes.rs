@@ -8,8 +8,8 @@ use reader::build::{standard, usual_time};
 use reader::ecc::CHUNK;
 use reader::page::DATA;
 use reader::tree::Checked;
-use reader::Change;
 use reader::Format::Raw;
+use reader::{Answer, Change};
 
 const PATH: &[u8] = b"/EVERY";
 const CHUNKS: usize = 256 * CHUNK;
@@ -48,10 +48,12 @@ fn card() -> (Vec<u8>, Vec<usize>) {
     (image, pages)
 }
 
-fn read_back(image: &[u8]) {
+/// The file reads as it was written, with so many chunks corrected.
+fn read_back(image: &[u8], mended: usize) {
     let expected = data();
     let mut bytes = vec![0xA5; expected.len()];
-    assert_eq!(compare::read(Raw, image, PATH, 0, &mut bytes), Ok(expected.len()));
+    let answer = compare::read_mended(Raw, image, PATH, 0, &mut bytes);
+    assert_eq!(answer, Ok(Answer { value: expected.len(), mended }));
     assert!(bytes == expected);
 }
 
@@ -63,7 +65,7 @@ fn every_byte_at_every_place() {
         let stored = pages[chunk / 4] + DATA + 3 * (chunk % 4);
         assert_eq!(image[stored..stored + 3], code_of(place, byte), "byte {byte:02X} at {place}");
     }
-    read_back(&image);
+    read_back(&image, 0);
 }
 
 /// Each of the 1,024 data bits in turn, so that each is flipped in 32 of the chunks.
@@ -74,5 +76,5 @@ fn one_flip_in_each() {
         let bit = chunk % (8 * CHUNK);
         image[pages[chunk / 4] + CHUNK * (chunk % 4) + bit / 8] ^= 1 << (bit % 8);
     }
-    read_back(&image);
+    read_back(&image, CHUNKS);
 }

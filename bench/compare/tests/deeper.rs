@@ -158,19 +158,19 @@ fn down_and_up() {
             if expected.is_ok() {
                 made.push(Change::RemoveDir { path: around.clone() });
             }
-            assert_eq!(listed(format, &image).lines().count(), 5 + made.len());
+            assert_eq!(listed(format, &image).lines().count(), 6 + made.len());
         }
         for (left, change) in made.iter().enumerate().rev() {
             let mut copy = image.clone();
             let above = Change::RemoveDir { path: directory_of(change.path()).to_vec() };
             assert_eq!(done(&mut copy, above), if left < 2 { Err(8) } else { Err(13) });
             assert_eq!(done(&mut image, change.clone()), Ok(()));
-            assert_eq!(listed(format, &image).lines().count(), 5 + left);
+            assert_eq!(listed(format, &image).lines().count(), 6 + left);
         }
         // The root keeps its four slots.
         assert_eq!(
             compare::check(format, &image),
-            Ok(Counts { clusters: 56, free: 28, reached: 2, orphaned: 0, held: 0 })
+            Ok(Counts { clusters: 56, free: 28, reached: 2, orphaned: 0, held: 0, mended: 0 })
         );
     }
 }
@@ -215,7 +215,7 @@ fn listing_of_a_wide_and_deep_tree() {
     for format in Format::BOTH {
         let image = wide_and_deep(format);
         let whole = listed(format, &image).into_bytes();
-        assert_eq!(whole.iter().filter(|&&byte| byte == b'\n').count(), 5 + 254 + 43);
+        assert_eq!(whole.iter().filter(|&&byte| byte == b'\n').count(), 6 + 254 + 43);
         let mut rng = Rng::new(254);
         for _ in 0..20 {
             let room = rng.below(whole.len() + 300);

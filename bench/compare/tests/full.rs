@@ -2,12 +2,12 @@
 
 mod common;
 
-use common::{flip_each_chunk, many_flips, needed_pages, same, with_page, Tally};
+use common::{flip_each_chunk, many_flips, same, with_page, Tally};
 use compare::cards::{counts_by_tree, full};
-use reader::build::{crowded, scribble, Layout};
+use reader::build::{crowded, needed, scribble, Layout};
 use reader::page;
 use reader::rng::Rng;
-use reader::{Format, Refusal};
+use reader::{Counts, Format, Refusal};
 
 /// The counts aren't the reader's: they follow from what PCSX2 read.
 #[test]
@@ -23,14 +23,15 @@ fn full_card() {
 fn single_pages(format: Format, seeds: std::ops::Range<u64>) -> Tally {
     let mut image = full(format);
     let counts = counts_by_tree("full-small.tree", &Layout::standard());
-    let needed = needed_pages(format, &image, 8);
+    let needed = needed::by_check(format, &image);
     let mut tally = Tally::default();
     for seed in seeds {
         let mut rng = Rng::new(seed);
-        // Indirect cluster and table come first among the needed pages; they are few, so they get their own draw.
+        // Superblock, indirect cluster and table come first among the needed pages; they are few, so they get their own
+        // draw.
         let page = match rng.below(4) {
             0 => rng.below(image.len() / format.page_bytes()),
-            1 => needed[rng.below(66)],
+            1 => needed[rng.below(67)],
             _ => *rng.pick(&needed),
         };
         let kind = rng.below(7);
@@ -52,7 +53,7 @@ fn single_pages(format: Format, seeds: std::ops::Range<u64>) -> Tally {
         let expected = match (format, kind) {
             _ if !needed.contains(&page) => Ok(counts),
             (Format::Raw, 0..=1) => Err(Refusal::unreadable(page)),
-            (Format::Raw, 2) => Ok(counts),
+            (Format::Raw, 2) => Ok(Counts { mended: 4, ..counts }),
             _ => continue,
         };
         assert_eq!(answer, expected, "{}", what());

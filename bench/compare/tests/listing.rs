@@ -26,7 +26,7 @@ fn trap_cards() {
 
 fn random_cards(format: Format) {
     let lines = |seed| same(format, "random", &random::random(format, seed).image).lines().count();
-    let entries: usize = (0..600).map(|seed| lines(seed) - 5).sum();
+    let entries: usize = (0..600).map(|seed| lines(seed) - 6).sum();
     assert!(entries > 3000, "only {entries} entries");
     let is_accepted = |seed| same(format, "vandalised", &vandal::vandalised(format, seed)).starts_with("card");
     let accepted = (0..600).filter(|&seed| is_accepted(seed)).count();

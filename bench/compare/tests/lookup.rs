@@ -271,8 +271,8 @@ fn any_address() {
         let image = sample(format).finish();
         let answers = |image: &[u8], path: &[u8]| {
             let mut buffer = [7; 900];
-            let read = compare::read(format, image, path, 100, &mut buffer);
-            (compare::find(format, image, path), compare::step(format, image, path, 3), read, buffer)
+            let read = compare::read_mended(format, image, path, 100, &mut buffer);
+            (compare::find_mended(format, image, path), compare::step_mended(format, image, path, 3), read, buffer)
         };
         for path in [&b"/"[..], b"/F", b"/D/D2/D3/deep", b"/no", b"/F/x", b""] {
             let expected = answers(&image, path);

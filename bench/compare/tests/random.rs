@@ -2,10 +2,10 @@
 
 mod common;
 
-use common::{flip_each_chunk, many_flips, mend, needed_of, with_page, Tally};
+use common::{flip_each_chunk, many_flips, mend, with_mended, with_page, Tally};
 use reader::build::random::{random, sized};
-use reader::build::scribble;
 use reader::build::vandal::vandalised;
+use reader::build::{needed, scribble};
 use reader::card::MOST_CLUSTERS;
 use reader::rng::Rng;
 use reader::{Format, Refusal};
@@ -20,12 +20,13 @@ fn raw_cards(seeds: std::ops::Range<u64>) -> Tally {
         assert_eq!(tally.same(format, &card.image, || what("itself")), Ok(card.counts), "{}", what("itself"));
 
         let mut rng = Rng::new(seed ^ 0xF11B5);
-        let needed = needed_of(&card);
+        let needed = needed::by_check(format, &card.image);
         let mut image = card.image;
         for _ in 0..rng.between(1, 20) {
             flip_each_chunk(&mut image, *rng.pick(&needed), &mut rng);
         }
-        assert_eq!(tally.same(format, &image, || what("flipped")), Ok(card.counts), "{}", what("flipped"));
+        let counts = with_mended(format, &image, card.counts);
+        assert_eq!(tally.same(format, &image, || what("flipped")), Ok(counts), "{}", what("flipped"));
 
         let page = *rng.pick(&needed);
         let chunk = rng.below(4);
@@ -50,7 +51,7 @@ fn plain_cards(seeds: std::ops::Range<u64>) -> Tally {
         assert_eq!(tally.same(format, &card.image, || what("itself")), Ok(card.counts), "{}", what("itself"));
 
         let mut rng = Rng::new(seed ^ 0xF11B6);
-        let needed = needed_of(&card);
+        let needed = needed::by_check(format, &card.image);
         let mut image = card.image;
         for _ in 0..rng.between(1, 20) {
             let page = rng.below(image.len() / format.page_bytes());
@@ -118,6 +119,7 @@ fn vandalised_raw_cards() {
             for _ in 0..rng.between(1, 8) {
                 flip_each_chunk(&mut image, rng.below(pages), &mut rng);
             }
+            let answer = answer.map(|counts| with_mended(format, &image, counts));
             assert_eq!(tally.same(format, &image, || format!("vandalised card {seed}, flipped")), answer);
         }
     }

@@ -14,7 +14,7 @@ const BLIND: [&str; 7] = ["model", "fields", "reached", "layout", "tree", "listi
 
 /// What only `page` may say: sizes in bytes, the sealed definitions opened, and the equations that open them.
 const SIZES: [&str; 3] = ["528", "1056", "1_056"];
-const SEALED: [&str; 4] = ["pagesIn", "pageStart", "pageAt", "put"];
+const SEALED: [&str; 5] = ["pagesIn", "pageStart", "pageAt", "mendedAt", "put"];
 const EQUATIONS: [&str; 2] = ["page-is", "put-is"];
 
 fn files(folder: &Path, found: &mut Vec<PathBuf>) {

@@ -47,7 +47,8 @@ fn last_clusters() {
 fn greatest_cards() {
     for format in Format::BOTH {
         let mut both = Both::new(format, crammed(format, Layout::fresh(MOST_CLUSTERS), 8000, 0).finish());
-        let counts = |free| Counts { clusters: 65_536, free, reached: 57_257 - free, orphaned: 7999, held: 0 };
+        let counts =
+            |free| Counts { clusters: 65_536, free, reached: 57_257 - free, orphaned: 7999, held: 0, mended: 0 };
         assert_eq!(both.counts(), counts(57_256));
         assert_eq!(both.create("/A", &bytes(3000)), 0);
         assert_eq!(both.counts(), counts(57_252));
@@ -83,7 +84,7 @@ fn filled(format: Format) {
     // A file of one cluster is refused: at most one is left, for a directory that would have to grow.
     assert!(files.len() >= 20 && left <= 1, "{} {left}", files.len());
     let listed = both.listed();
-    assert!(listed.contains(&format!("\nfree {left}\nreached {}\norphaned 0\nheld 135\n", 8000 - left)));
+    assert!(listed.contains(&format!("\nfree {left}\nreached {}\norphaned 0\nheld 135\nmended 0\n", 8000 - left)));
 
     files.iter().for_each(|path| assert_eq!(both.delete(path), 0));
     directories[1..].iter().for_each(|path| assert_eq!(both.remove_dir(path), 0));
@@ -92,8 +93,8 @@ fn filled(format: Format) {
     assert_eq!(both.create("/all", &bytes(1024 * (8000 - root) + 1)), 12);
     assert_eq!(both.create("/all", &bytes(1024 * (8000 - root))), 0);
     assert_eq!(
-        both.listed().lines().take(5).collect::<Vec<_>>()[1..],
-        ["free 0", "reached 8000", "orphaned 0", "held 135"]
+        both.listed().lines().take(6).collect::<Vec<_>>()[1..],
+        ["free 0", "reached 8000", "orphaned 0", "held 135", "mended 0"]
     );
     both.changes.met([0, 12], 5);
 }
@@ -132,7 +133,7 @@ fn fresh_cards() {
         [(8184, 8126, 0), (8192, 7999, 135), (8200, 8142, 0), (8448, 8389, 0), (65_536, 65_255, 0)]
             .map(|card| (format, card))
     }) {
-        let counts = Counts { clusters, free, reached: 1, orphaned: 0, held };
+        let counts = Counts { clusters, free, reached: 1, orphaned: 0, held, mended: 0 };
         assert_eq!(same(format, &fresh(format, clusters), "fresh card"), Ok(counts));
     }
 }

@@ -1,5 +1,5 @@
 //! A plain card and a raw one with the same data, whose codes all match: the library gives both the same answers to the
-//! same calls, and leaves them the same data.
+//! same calls, with nothing mended, and leaves them the same data.
 
 mod common;
 
@@ -7,7 +7,7 @@ use common::changes::{five, kind, KINDS};
 use common::requests::{random_offset, random_path, random_size, random_slot};
 use common::Tally;
 use compare::cards::{full, full_great};
-use compare::{change, check, find, listing, read, step};
+use compare::{change, check, find_mended, listing, read_mended, step_mended};
 use reader::build::random::{listed, random, tight};
 use reader::build::requests::random_change;
 use reader::build::scribble::junk_spare;
@@ -17,7 +17,7 @@ use reader::card::clusters_of;
 use reader::ecc::{judge, Verdict, CHUNK};
 use reader::page::DATA;
 use reader::rng::Rng;
-use reader::{to_raw, tree, Change, Format, Refusal, Tree};
+use reader::{to_raw, tree, Answer, Change, Format, Refusal, Tree};
 
 /// A raw image and a plain one.
 struct Twins {
@@ -73,6 +73,12 @@ fn has_good_chunks(page: &[u8]) -> bool {
     chunks.all(|(chunk, code)| judge(chunk, [code[0], code[1], code[2]]) == Verdict::Good)
 }
 
+/// What an accepted call says beside its count, which is 0.
+fn unmended<T>(answer: Answer<T>) -> T {
+    assert_eq!(answer.mended, 0);
+    answer.value
+}
+
 /// How often each answer was met.
 #[derive(Default)]
 struct Run {
@@ -85,20 +91,21 @@ struct Run {
 impl Run {
     /// One of each call that looks, at a random path, with random other arguments.
     fn look(&mut self, twins: &Twins, items: &Tree, rng: &mut Rng, what: impl Fn() -> String) {
-        twins.alike(check, &what).expect("an accepted card");
+        let counts = twins.alike(check, &what).expect("an accepted card");
+        assert_eq!(counts.mended, 0, "{}", what());
         twins.alike(listing::whole, &what);
         let path = random_path(rng, items);
-        let found = twins.alike(|format, image| find(format, image, &path), &what);
+        let found = twins.alike(|format, image| find_mended(format, image, &path).map(unmended), &what);
         self.finds.count(&found);
         let length = found.map_or_else(|_| rng.below(3000) as u32, |entry| entry.length);
         let slot = random_slot(rng, length);
-        self.steps.count(&twins.alike(|format, image| step(format, image, &path, slot), &what));
+        self.steps.count(&twins.alike(|format, image| step_mended(format, image, &path, slot).map(unmended), &what));
         let offset = random_offset(rng, length as usize);
         let size = random_size(rng, length as usize, offset);
         let buffer = rng.bytes(size);
         let filled = |format, image: &[u8]| {
             let mut buffer = buffer.clone();
-            (read(format, image, &path, offset, &mut buffer), buffer)
+            (read_mended(format, image, &path, offset, &mut buffer).map(unmended), buffer)
         };
         self.reads.count(&twins.alike(filled, &what).0);
     }
@@ -192,9 +199,9 @@ fn refused_cards() {
         let Err(refusal) = answer else { continue };
         assert_eq!(twins.alike(listing::whole, what), format!("{refusal}\n"), "{}", what());
         let path = *rng.pick(&[&b"/"[..], b"/F", b"/D/x", b"no path"]);
-        assert_eq!(twins.alike(|format, image| find(format, image, path), what), Err(refusal), "{}", what());
-        assert_eq!(twins.alike(|format, image| step(format, image, path, 2), what), Err(refusal), "{}", what());
-        let into_buffer = |format, image: &[u8]| read(format, image, path, 0, &mut [0; 600]);
+        assert_eq!(twins.alike(|format, image| find_mended(format, image, path), what), Err(refusal), "{}", what());
+        assert_eq!(twins.alike(|format, image| step_mended(format, image, path, 2), what), Err(refusal), "{}", what());
+        let into_buffer = |format, image: &[u8]| read_mended(format, image, path, 0, &mut [0; 600]);
         assert_eq!(twins.alike(into_buffer, what), Err(refusal), "{}", what());
         for change in five(path, &usual_time(), b"bytes") {
             assert_eq!(twins.change(&change, what), Err(refusal), "{}", what());

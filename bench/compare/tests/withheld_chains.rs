@@ -171,7 +171,7 @@ fn growth() {
 /// The root's withheld dead slot, and a directory made in another one: `.` names its parent's withheld cluster.
 #[test]
 fn dead_slot_of_the_root() {
-    let full = |clusters, orphaned, held| Counts { clusters, free: 0, reached: 20, orphaned, held };
+    let full = |clusters, orphaned, held| Counts { clusters, free: 0, reached: 20, orphaned, held, mended: 0 };
     for (format, (sample, full)) in in_both([(TAIL, full(8192, 7995, 120)), (LISTED, full(96, 38, 8))]) {
         // `/REST` is gone, its clusters are orphaned.
         let without_rest = |free: &[usize]| {

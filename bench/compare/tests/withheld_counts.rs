@@ -14,10 +14,11 @@ fn counted() {
     let cards = [build::tail::good, build::listed::good, build::listed::with_tail];
     for card in Format::BOTH.into_iter().flat_map(|format| cards.map(|good| good(format)).concat()) {
         assert_eq!(same(card.format, &card.image, card.name), Ok(card.counts), "{:?}, {}", card.format, card.name);
-        let Counts { clusters, free, reached, orphaned, held } = card.counts;
+        let Counts { clusters, free, reached, orphaned, held, mended } = card.counts;
         let end = Checked::of(card.format, &card.image).expect("an accepted card").card.alloc_end;
         assert_eq!(free + reached + orphaned + held, end, "{}", card.name);
-        let head = format!("card {clusters}\nfree {free}\nreached {reached}\norphaned {orphaned}\nheld {held}\n");
+        let clusters = format!("card {clusters}\nfree {free}\nreached {reached}\norphaned {orphaned}\nheld {held}\n");
+        let head = format!("{clusters}mended {mended}\n");
         let text = listing::whole(card.format, &card.image);
         assert!(text == reader::list(card.format, &card.image) && text.starts_with(&head), "{}", card.name);
     }

@@ -7,7 +7,8 @@ use common::both::Both;
 use common::changes::Changes;
 use common::orders::Run;
 use common::room::{create, delete, drawn_pairs_on, make, node, replace, up_to_room};
-use common::{flip_each_chunk, mend, needed_pages};
+use common::{flip_each_chunk, mend};
+use reader::build::needed;
 use reader::build::random::{listed, tight, RandomCard};
 use reader::build::requests::random_change;
 use reader::build::scribble;
@@ -138,7 +139,7 @@ fn sequences(kind: &Kind, format: Format, seeds: std::ops::Range<u64>) {
             let old = Checked::of(format, &both.ours).expect("an accepted card");
             let items = tree(format, &both.ours).expect("an accepted card");
             let change = if rng.chance(1, 6) { random_change(&mut rng, &items) } else { up_to_room(&mut rng, &items) };
-            let needed = needed_pages(format, &both.ours, card.layout.indirect);
+            let needed = needed::by_check(format, &both.ours);
             let withheld = (0..old.card.alloc_end).filter(|&cluster| (kind.is_withheld)(&old.card, cluster));
             let withheld: Vec<usize> =
                 withheld.flat_map(|cluster| [0, 1].map(|at| old.card.page(cluster, at))).collect();

@@ -55,6 +55,8 @@ pub struct Card {
     pub table_clusters: Vec<usize>,
     /// One word for each allocatable cluster.
     pub table: Vec<u32>,
+    /// Corrected chunks in page 0 and in the pages of the indirect cluster and of the table.
+    pub mended: usize,
 }
 
 /// Whether N is allowed: a multiple of 8 from 32 to 65,536.
@@ -74,10 +76,17 @@ pub fn needed(format: Format, image: &[u8], page: usize) -> Result<Data, Refusal
     page::read(format, image, page).ok_or(Refusal::unreadable(page))
 }
 
+/// The same, for each page once in a call: its corrected chunks are added to what the call reports.
+pub fn counted(format: Format, image: &[u8], page: usize, mended: &mut usize) -> Result<Data, Refusal> {
+    let (data, chunks) = page::read_mended(format, image, page).ok_or(Refusal::unreadable(page))?;
+    *mended += chunks.into_iter().filter(|&chunk| chunk).count();
+    Ok(data)
+}
+
 /// Both pages of a card cluster, the first one first.
-fn needed_cluster(format: Format, image: &[u8], cluster: usize) -> Result<Vec<u8>, Refusal> {
-    let first = needed(format, image, 2 * cluster)?;
-    let second = needed(format, image, 2 * cluster + 1)?;
+fn counted_cluster(format: Format, image: &[u8], cluster: usize, mended: &mut usize) -> Result<Vec<u8>, Refusal> {
+    let first = counted(format, image, 2 * cluster, mended)?;
+    let second = counted(format, image, 2 * cluster + 1, mended)?;
     Ok([first, second].concat())
 }
 
@@ -116,7 +125,8 @@ impl Card {
     /// Refusals 1 to 5, and 2 for the pages of superblock, indirect cluster and table.
     pub fn open(format: Format, image: &[u8]) -> Result<Card, Refusal> {
         let clusters = clusters_of(format, image.len()).ok_or(Refusal::number(1))?;
-        let block = needed(format, image, 0)?;
+        let mut mended = 0;
+        let block = counted(format, image, 0, &mut mended)?;
         if block[..28] != FORMAT[..] {
             return Err(Refusal::number(3));
         }
@@ -140,7 +150,7 @@ impl Card {
         };
         let indirect = word(&block, 0x50) as usize;
         judge(&mut names, indirect)?;
-        let indirect_words = needed_cluster(format, image, indirect)?;
+        let indirect_words = counted_cluster(format, image, indirect, &mut mended)?;
         for index in 0..alloc_end.div_ceil(WORDS) {
             judge(&mut names, word(&indirect_words, 4 * index) as usize)?;
         }
@@ -148,11 +158,11 @@ impl Card {
         let table_clusters = names.split_off(1);
         let mut table = Vec::with_capacity(table_clusters.len() * WORDS);
         for &cluster in &table_clusters {
-            let words = needed_cluster(format, image, cluster)?;
+            let words = counted_cluster(format, image, cluster, &mut mended)?;
             table.extend((0..WORDS).map(|index| word(&words, 4 * index)));
         }
         table.truncate(alloc_end);
-        Ok(Card { format, clusters, alloc_offset, alloc_end, bad_blocks, table_clusters, table })
+        Ok(Card { format, clusters, alloc_offset, alloc_end, bad_blocks, table_clusters, table, mended })
     }
 
     /// The image's page index of the first or second page of an allocatable cluster.

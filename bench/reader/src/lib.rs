@@ -28,7 +28,7 @@ pub use content::{tree, Item, Piece, Tree};
 pub use convert::{to_plain, to_raw};
 pub use entry::Entry;
 pub use listing::{list, program, tree_text};
-pub use lookup::{find, read, step};
+pub use lookup::{find, find_mended, read, read_mended, step, step_mended, Answer};
 pub use page::Format;
 pub use tree::{check, Counts};
 

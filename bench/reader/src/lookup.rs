@@ -1,11 +1,22 @@
 //! Finding a path, stepping through a directory, reading a file.
+//!
+//! Each call has a twin that tells besides how many chunks were corrected; a refusal tells none.
 
-use crate::card::needed;
+use crate::card::counted;
 use crate::entry::Entry;
 use crate::page::{Format, DATA};
 use crate::paths;
 use crate::tree::{Checked, Directory, Node};
 use crate::Refusal;
+
+/// A call's answer, and how many chunks were corrected in the pages that it needed, each page counted once.
+///
+/// Every call needs what the check needs; only a read needs more.
+#[derive(Clone, Copy, Debug, PartialEq, Eq)]
+pub struct Answer<T> {
+    pub value: T,
+    pub mended: usize,
+}
 
 /// The node that names lead to from the root, looked up from the left.
 ///
@@ -26,22 +37,49 @@ pub fn names(path: &[u8]) -> Result<Vec<&[u8]>, Refusal> {
 
 /// The entry at a path, for the root its first one.
 pub fn find(format: Format, image: &[u8], path: &[u8]) -> Result<Entry, Refusal> {
-    let checked = Checked::of(format, image)?;
-    Ok(locate(&checked.root, &names(path)?)?.entry.clone())
+    find_mended(format, image, path).map(|answer| answer.value)
 }
 
-/// The first live entry from a slot on, never before slot 2, with its slot; nothing at the end.
-pub fn step(format: Format, image: &[u8], path: &[u8], slot: usize) -> Result<Option<(usize, Entry)>, Refusal> {
+/// `find` with the count.
+pub fn find_mended(format: Format, image: &[u8], path: &[u8]) -> Result<Answer<Entry>, Refusal> {
+    let checked = Checked::of(format, image)?;
+    let value = locate(&checked.root, &names(path)?)?.entry.clone();
+    Ok(Answer { value, mended: checked.mended })
+}
+
+/// A live entry with its slot, or nothing at the end.
+pub type Step = Option<(usize, Entry)>;
+
+/// The first live entry from a slot on, never before slot 2.
+pub fn step(format: Format, image: &[u8], path: &[u8], slot: usize) -> Result<Step, Refusal> {
+    step_mended(format, image, path, slot).map(|answer| answer.value)
+}
+
+/// `step` with the count.
+pub fn step_mended(format: Format, image: &[u8], path: &[u8], slot: usize) -> Result<Answer<Step>, Refusal> {
     let checked = Checked::of(format, image)?;
     let inside = directory(locate(&checked.root, &names(path)?)?)?;
     let next = inside.children.iter().find(|child| child.slot >= slot);
-    Ok(next.map(|child| (child.slot, child.entry.clone())))
+    let value = next.map(|child| (child.slot, child.entry.clone()));
+    Ok(Answer { value, mended: checked.mended })
 }
 
 /// Copies a file's bytes from an offset until file or buffer ends; tells how many.
 ///
 /// An offset beyond the length is 15; the first unreadable page with a byte to copy is 2, last of all.
 pub fn read(format: Format, image: &[u8], path: &[u8], offset: usize, buffer: &mut [u8]) -> Result<usize, Refusal> {
+    read_mended(format, image, path, offset, buffer).map(|answer| answer.value)
+}
+
+/// `read` with the count, to which the pages with a byte to copy add. They are in no other chain, so that the check
+/// hasn't counted them.
+pub fn read_mended(
+    format: Format,
+    image: &[u8],
+    path: &[u8],
+    offset: usize,
+    buffer: &mut [u8],
+) -> Result<Answer<usize>, Refusal> {
     let checked = Checked::of(format, image)?;
     let node = locate(&checked.root, &names(path)?)?;
     if node.inside.is_some() {
@@ -52,15 +90,16 @@ pub fn read(format: Format, image: &[u8], path: &[u8], offset: usize, buffer: &m
         return Err(Refusal::number(15));
     }
     let count = buffer.len().min(length - offset);
+    let mut mended = checked.mended;
     if count == 0 {
-        return Ok(0);
+        return Ok(Answer { value: 0, mended });
     }
     let pages = offset / DATA..=(offset + count - 1) / DATA;
     let mut bytes = Vec::new();
     for index in pages {
         let page = checked.card.slot_page(&node.chain, index);
-        bytes.extend(needed(format, image, page)?);
+        bytes.extend(counted(format, image, page, &mut mended)?);
     }
     buffer[..count].copy_from_slice(&bytes[offset % DATA..][..count]);
-    Ok(count)
+    Ok(Answer { value: count, mended })
 }

@@ -10,9 +10,14 @@ pub const DATA: usize = 512;
 pub const CLUSTER_DATA: usize = 2 * DATA;
 /// Spare bytes after the data of a raw page: three of code for each chunk, then four that are ignored.
 const SPARE: usize = 16;
+/// Chunks in a page.
+pub const CHUNKS: usize = DATA / CHUNK;
 
 /// A page's data.
 pub type Data = [u8; DATA];
+
+/// For each chunk of a page whether it was corrected, in a data bit or in a code bit.
+pub type Mended = [bool; CHUNKS];
 
 /// How the pages lie in an image. The caller says which it is; it is never guessed.
 #[derive(Clone, Copy, Debug, PartialEq, Eq, Hash)]
@@ -54,23 +59,27 @@ impl Format {
 
 /// A page's data as read, or nothing where a chunk is unreadable.
 pub fn read(format: Format, image: &[u8], page: usize) -> Option<Data> {
-    match format {
-        Format::Raw => read_raw(&image[Format::Raw.place(page)]),
-        Format::Plain => Some(image[Format::Plain.place(page)].try_into().expect("a page's data")),
-    }
+    read_mended(format, image, page).map(|(data, _)| data)
 }
 
-fn read_raw(bytes: &[u8]) -> Option<Data> {
-    let (stored, spare) = bytes.split_at(DATA);
+/// The same, and which chunks were corrected; a plain page has no code by which one could be.
+pub fn read_mended(format: Format, image: &[u8], page: usize) -> Option<(Data, Mended)> {
+    let (stored, spare) = image[format.place(page)].split_at(DATA);
     let mut data: Data = stored.try_into().expect("a page's data");
-    for (chunk, code) in data.chunks_mut(CHUNK).zip(spare.chunks(3)) {
+    let mut mended = [false; CHUNKS];
+    for ((chunk, code), mended) in data.chunks_mut(CHUNK).zip(spare.chunks(3)).zip(&mut mended) {
         match ecc::judge(chunk, [code[0], code[1], code[2]]) {
-            Verdict::Good | Verdict::Corrected(Flip::Code { .. }) => {}
-            Verdict::Corrected(Flip::Data { byte, bit }) => chunk[byte] ^= 1 << bit,
+            Verdict::Good => {}
+            Verdict::Corrected(flip) => {
+                *mended = true;
+                if let Flip::Data { byte, bit } = flip {
+                    chunk[byte] ^= 1 << bit;
+                }
+            }
             Verdict::Unreadable => return None,
         }
     }
-    Some(data)
+    Some((data, mended))
 }
 
 /// Writes a page's data; a raw page gets a fresh code, and its spare bytes 12 to 15 stay.
@@ -121,6 +130,7 @@ mod tests {
         for page in 0..5 {
             let data: Data = rng.bytes(512).try_into().expect("a page's data");
             assert_eq!(read(Format::Plain, &before, page).as_ref().map(|data| &data[..]), before.chunks(512).nth(page));
+            assert_eq!(read_mended(Format::Plain, &before, page).map(|(_, mended)| mended), Some([false; 4]));
             let mut image = before.clone();
             write(Format::Plain, &mut image, page, &data);
             let expected = [&before[..512 * page], &data, &before[512 * (page + 1)..]].concat();

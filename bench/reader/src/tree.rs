@@ -3,7 +3,7 @@
 use std::collections::{HashMap, HashSet};
 use std::fmt;
 
-use crate::card::{needed, Card, Link};
+use crate::card::{counted, needed, Card, Link};
 use crate::entry::{Entry, DIRECTORY, FILE, NO_CLUSTER};
 use crate::names;
 use crate::page::Format;
@@ -23,13 +23,16 @@ pub struct Counts {
     pub reached: usize,
     pub orphaned: usize,
     pub held: usize,
+    /// Corrected chunks in the pages that the check needed, each page counted once.
+    pub mended: usize,
 }
 
 impl fmt::Display for Counts {
     /// The first lines of a listing.
     fn fmt(&self, out: &mut fmt::Formatter<'_>) -> fmt::Result {
-        let Counts { clusters, free, reached, orphaned, held } = self;
-        write!(out, "card {clusters}\nfree {free}\nreached {reached}\norphaned {orphaned}\nheld {held}\n")
+        let Counts { clusters, free, reached, orphaned, held, mended } = self;
+        write!(out, "card {clusters}\nfree {free}\nreached {reached}\norphaned {orphaned}\n")?;
+        write!(out, "held {held}\nmended {mended}\n")
     }
 }
 
@@ -64,6 +67,8 @@ pub struct Checked {
     pub card: Card,
     pub root: Node,
     pub reached: HashSet<usize>,
+    /// Corrected chunks in all pages that the check needed.
+    pub mended: usize,
 }
 
 /// Checks a card: its counts, or the first fault met.
@@ -74,10 +79,10 @@ pub fn check(format: Format, image: &[u8]) -> Result<Counts, Refusal> {
 impl Checked {
     pub fn of(format: Format, image: &[u8]) -> Result<Checked, Refusal> {
         let card = Card::open(format, image)?;
-        let mut walk = Walk { image, card: &card, reached: HashSet::new() };
+        let mut walk = Walk { image, card: &card, reached: HashSet::new(), mended: card.mended };
         let root = walk.root()?;
-        let reached = walk.reached;
-        Ok(Checked { card, root, reached })
+        let Walk { reached, mended, .. } = walk;
+        Ok(Checked { card, root, reached, mended })
     }
 
     pub fn counts(&self) -> Counts {
@@ -90,6 +95,7 @@ impl Checked {
             reached: (0..end).filter(is_reached).count(),
             orphaned: (0..end).filter(|cluster| !is_free(cluster) && !is_reached(cluster)).count(),
             held: self.card.held().count(),
+            mended: self.mended,
         }
     }
 }
@@ -98,10 +104,12 @@ struct Walk<'a> {
     image: &'a [u8],
     card: &'a Card,
     reached: HashSet<usize>,
+    mended: usize,
 }
 
 impl Walk<'_> {
-    /// The root: its first page read and judged, then its chain, then every entry.
+    /// The root: its first page read and judged, then its chain, then every entry. That page is the entry at slot 0 and
+    /// is counted there.
     fn root(&mut self) -> Result<Node, Refusal> {
         let page = self.card.page(0, 0);
         let entry = Entry::parse(&needed(self.card.format, self.image, page)?);
@@ -139,7 +147,7 @@ impl Walk<'_> {
         let mut directory = Directory::default();
         for slot in 0..length {
             let page = self.card.slot_page(chain, slot);
-            let entry = Entry::parse(&needed(self.card.format, self.image, page)?);
+            let entry = Entry::parse(&counted(self.card.format, self.image, page, &mut self.mended)?);
             if slot < 2 {
                 if !is_dots(&entry, [b".".as_slice(), b".."][slot]) {
                     return Err(BAD_ENTRY);

@@ -14,7 +14,7 @@ fn free(format: Format, image: &[u8]) -> usize {
 #[test]
 fn fresh_counts() {
     for format in Format::BOTH {
-        let fresh = Counts { clusters: 56, free: 29, reached: 1, orphaned: 0, held: 0 };
+        let fresh = Counts { clusters: 56, free: 29, reached: 1, orphaned: 0, held: 0, mended: 0 };
         assert_eq!(check(format, &bench(format)), Ok(fresh));
         assert_eq!(bench(format)[0xD0..0x150], [0xFF; 0x80]);
     }
@@ -94,7 +94,7 @@ fn offset_at_the_end() {
 #[test]
 fn the_whole_listing() {
     let time = usual_time();
-    let expected = "card 56\nfree 24\nreached 6\norphaned 0\nheld 0\nd 3 /SAVE\nf 1500 /SAVE/A\n";
+    let expected = "card 56\nfree 24\nreached 6\norphaned 0\nheld 0\nmended 0\nd 3 /SAVE\nf 1500 /SAVE/A\n";
     for (format, printed) in [(Format::Raw, expected), (Format::Plain, "refused 1\n")] {
         let mut image = bench(format);
         make_dir(format, &mut image, b"/SAVE", &time).unwrap();
@@ -111,7 +111,7 @@ fn the_program_refuses() {
     longer.push(0);
     assert_eq!(program(&longer), "refused 1\n");
     assert_eq!(program(&reader::build::standard(format)), "refused 1\n");
-    let standard = "card 8192\nfree 7999\nreached 1\norphaned 0\nheld 135\n";
+    let standard = "card 8192\nfree 7999\nreached 1\norphaned 0\nheld 135\nmended 0\n";
     assert_eq!(list(format, &reader::build::standard(format)), standard);
     let mut image = bench(format);
     reader::build::scribble::break_page(format, &mut image, 17);

@@ -37,7 +37,7 @@ fn bench_sample() {
     compare(&image, &std::fs::read_to_string(data("bench-sample.tree")).unwrap());
     let counts = check(RAW, &image).unwrap();
     assert_eq!(check(Format::Plain, &plain(&image)), Ok(counts));
-    assert_eq!(counts, Counts { clusters: 56, free: 22, reached: 8, orphaned: 0, held: 0 });
+    assert_eq!(counts, Counts { clusters: 56, free: 22, reached: 8, orphaned: 0, held: 0, mended: 0 });
 }
 
 #[test]

@@ -124,7 +124,7 @@ fn lookups_agree_with_the_tree() {
         let mut rng = Rng::new(seed);
         let lines = lines(format, &card.image).unwrap();
         let text = list(format, &card.image);
-        assert_eq!(text.lines().count(), 5 + lines.len() - 1);
+        assert_eq!(text.lines().count(), 6 + lines.len() - 1);
         for _ in 0..12 {
             let line = rng.pick(&lines);
             assert_eq!(find(format, &card.image, &line.path), Ok(line.entry.clone()));

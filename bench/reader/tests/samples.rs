@@ -10,7 +10,7 @@ fn repository(file: &str) -> Vec<u8> {
 #[test]
 fn listed_card() {
     assert_eq!(repository("crates/list/stdin"), samples::save());
-    let whole = "card 56\nfree 24\nreached 6\norphaned 0\nheld 0\nd 3 /SAVE\nf 1500 /SAVE/A\n";
+    let whole = "card 56\nfree 24\nreached 6\norphaned 0\nheld 0\nmended 0\nd 3 /SAVE\nf 1500 /SAVE/A\n";
     assert_eq!(String::from_utf8(repository("crates/list/stdout")).unwrap(), whole);
 }
 

@@ -19,7 +19,7 @@ fn good_cards() {
         let Counts { free, reached, orphaned, held, .. } = card.counts;
         let end = Checked::of(card.format, &card.image).unwrap().card.alloc_end;
         assert_eq!(free + reached + orphaned + held, end, "{}", card.name);
-        let line = format!("\norphaned {orphaned}\nheld {held}\n");
+        let line = format!("\norphaned {orphaned}\nheld {held}\nmended 0\n");
         assert!(list(card.format, &card.image).contains(&line), "{}", card.name);
     }
 }

@@ -1,7 +1,7 @@
-//! Find, step and read on both sides.
+//! Find, step and read on both sides, each with the count of what was mended.
 
 use compare::lookup::Next;
-use reader::{Entry, Format, Refusal};
+use reader::{Answer, Entry, Format, Refusal};
 
 use super::Tally;
 
@@ -23,7 +23,17 @@ impl Lookups {
     }
 
     pub fn find(&mut self, image: &[u8], path: &[u8], what: impl Fn() -> String) -> Result<Entry, Refusal> {
-        let (ours, readers) = (compare::find(self.format, image, path), reader::find(self.format, image, path));
+        self.find_mended(image, path, what).map(|answer| answer.value)
+    }
+
+    pub fn find_mended(
+        &mut self,
+        image: &[u8],
+        path: &[u8],
+        what: impl Fn() -> String,
+    ) -> Result<Answer<Entry>, Refusal> {
+        let ours = compare::find_mended(self.format, image, path);
+        let readers = reader::find_mended(self.format, image, path);
         let about = || format!("{:?}, find {}, {}", self.format, path.escape_ascii(), what());
         assert_eq!(ours, readers, "library left, reader right: {}", about());
         self.finds.count(&ours);
@@ -31,12 +41,22 @@ impl Lookups {
     }
 
     pub fn step(&mut self, image: &[u8], path: &[u8], slot: u32, what: impl Fn() -> String) -> Result<Next, Refusal> {
-        let ours = compare::step(self.format, image, path, slot);
-        let readers = reader::step(self.format, image, path, slot as usize);
+        self.step_mended(image, path, slot, what).map(|answer| answer.value)
+    }
+
+    pub fn step_mended(
+        &mut self,
+        image: &[u8],
+        path: &[u8],
+        slot: u32,
+        what: impl Fn() -> String,
+    ) -> Result<Answer<Next>, Refusal> {
+        let ours = compare::step_mended(self.format, image, path, slot);
+        let readers = reader::step_mended(self.format, image, path, slot as usize);
         let about = || format!("{:?}, step {} {slot}, {}", self.format, path.escape_ascii(), what());
         assert_eq!(ours, readers, "library left, reader right: {}", about());
         self.steps.count(&ours);
-        self.ends += usize::from(ours == Ok(None));
+        self.ends += usize::from(ours.as_ref().is_ok_and(|answer| answer.value.is_none()));
         ours
     }
 
@@ -49,10 +69,22 @@ impl Lookups {
         size: usize,
         what: impl Fn() -> String,
     ) -> (Result<usize, Refusal>, Vec<u8>) {
+        let (answer, buffer) = self.read_mended(image, path, offset, size, what);
+        (answer.map(|answer| answer.value), buffer)
+    }
+
+    pub fn read_mended(
+        &mut self,
+        image: &[u8],
+        path: &[u8],
+        offset: usize,
+        size: usize,
+        what: impl Fn() -> String,
+    ) -> (Result<Answer<usize>, Refusal>, Vec<u8>) {
         let mut buffer: Vec<u8> = (0..size).map(unread).collect();
         let mut readers_buffer = buffer.clone();
-        let ours = compare::read(self.format, image, path, offset, &mut buffer);
-        let readers = reader::read(self.format, image, path, offset, &mut readers_buffer);
+        let ours = compare::read_mended(self.format, image, path, offset, &mut buffer);
+        let readers = reader::read_mended(self.format, image, path, offset, &mut readers_buffer);
         let about =
             || format!("{:?}, read {} from {offset}, {size} bytes, {}", self.format, path.escape_ascii(), what());
         assert_eq!(ours, readers, "library left, reader right: {}", about());

@@ -5,16 +5,14 @@ pub mod both;
 pub mod changes;
 pub mod converts;
 pub mod lookups;
+pub mod mended;
 pub mod orders;
 pub mod requests;
 pub mod room;
 
-use reader::build::random::RandomCard;
-use reader::build::scribble;
-use reader::content::visit;
+use reader::build::{needed, scribble};
 use reader::page;
 use reader::rng::Rng;
-use reader::tree::Checked;
 use reader::{Counts, Format, Refusal};
 
 pub type Answer = Result<Counts, Refusal>;
@@ -52,22 +50,15 @@ pub fn same(format: Format, image: &[u8], what: &str) -> Answer {
     Tally::default().same(format, image, || what.to_string())
 }
 
-/// The pages the check of an accepted card reads: superblock, indirect cluster, table, entries.
-pub fn needed_pages(format: Format, image: &[u8], indirect: usize) -> Vec<usize> {
-    let checked = Checked::of(format, image).expect("an accepted card");
-    let names = checked.card.table_clusters.iter().chain([&indirect]);
-    let mut pages: Vec<usize> = names.flat_map(|&cluster| [2 * cluster, 2 * cluster + 1]).collect();
-    pages.push(0);
-    visit(&checked.root, b"/", &mut |_, node| {
-        if node.inside.is_some() {
-            pages.extend((0..node.entry.length as usize).map(|slot| checked.card.slot_page(&node.chain, slot)));
-        }
-    });
-    pages
+/// The corrected chunks of these pages, counted page by page.
+pub fn corrected(format: Format, image: &[u8], pages: &[usize]) -> usize {
+    let chunks = |&page: &usize| page::read_mended(format, image, page).expect("a readable page").1;
+    pages.iter().flat_map(chunks).filter(|&is_corrected| is_corrected).count()
 }
 
-pub fn needed_of(card: &RandomCard) -> Vec<usize> {
-    needed_pages(card.format, &card.image, card.layout.indirect)
+/// The counts of an accepted card, but for the corrected chunks, which are counted page by page where the check looks.
+pub fn with_mended(format: Format, image: &[u8], counts: Counts) -> Counts {
+    Counts { mended: corrected(format, image, &needed::by_check(format, image)), ..counts }
 }
 
 /// Puts fresh codes on a raw page, so that flips can be counted from none; false where it is unreadable.

@@ -11,7 +11,7 @@ use crate::Refusal;
 /// The path of the file that lies deepest on the sample.
 pub const PATH: &[u8] = b"/D1/D2/D3/D4/D5/D6/D7/deep";
 
-pub const SAMPLE: Counts = Counts { clusters: 56, free: 11, reached: 19, orphaned: 0, held: 0 };
+pub const SAMPLE: Counts = Counts { clusters: 56, free: 11, reached: 19, orphaned: 0, held: 0, mended: 0 };
 
 /// The cluster of the deepest file, and a free one.
 const FILE: usize = 16;

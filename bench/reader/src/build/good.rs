@@ -16,10 +16,10 @@ pub struct GoodCard {
 }
 
 impl GoodCard {
-    /// A card by its counts: N, free, reached, orphaned, held back.
+    /// A card by its counts: N, free, reached, orphaned, held back. Nothing is mended on it.
     pub fn new(name: &'static str, counts: [usize; 5], card: Assembly) -> GoodCard {
         let [clusters, free, reached, orphaned, held] = counts;
-        let counts = Counts { clusters, free, reached, orphaned, held };
+        let counts = Counts { clusters, free, reached, orphaned, held, mended: 0 };
         GoodCard { name, format: card.format, image: card.finish(), counts }
     }
 }
@@ -48,7 +48,7 @@ fn nest(card: &mut Assembly, chain: &[usize; 2], entry: Entry) {
     card.put(chain[1], 0, &entry);
 }
 
-pub const SAMPLE: Counts = Counts { clusters: 56, free: 17, reached: 12, orphaned: 1, held: 0 };
+pub const SAMPLE: Counts = Counts { clusters: 56, free: 17, reached: 12, orphaned: 1, held: 0, mended: 0 };
 
 /// Two table clusters out of order, alloc_end not a multiple of 256.
 pub fn wide() -> Layout {
@@ -78,7 +78,7 @@ fn worn(format: Format, name: &'static str, pages: impl IntoIterator<Item = usiz
 
 /// Every accepted trap card of a format.
 pub fn all(format: Format) -> Vec<GoodCard> {
-    let fresh = Counts { clusters: 56, free: 29, reached: 1, orphaned: 0, held: 0 };
+    let fresh = Counts { clusters: 56, free: 29, reached: 1, orphaned: 0, held: 0, mended: 0 };
     let sample_card = sample(format);
     let page = |cluster, second| sample_card.page(cluster, second);
     let mut cards = vec![
@@ -87,13 +87,13 @@ pub fn all(format: Format) -> Vec<GoodCard> {
             name: "fresh standard card",
             format,
             image: standard(format),
-            counts: Counts { clusters: 8192, free: 7999, reached: 1, orphaned: 0, held: 135 },
+            counts: Counts { clusters: 8192, free: 7999, reached: 1, orphaned: 0, held: 135, mended: 0 },
         },
         GoodCard {
             name: "two table clusters out of order, version 1.1",
             format,
             image: Assembly::with_root(format, wide()).finish(),
-            counts: Counts { clusters: 320, free: 289, reached: 1, orphaned: 0, held: 0 },
+            counts: Counts { clusters: 320, free: 289, reached: 1, orphaned: 0, held: 0, mended: 0 },
         },
         card(format, "the sample itself", SAMPLE, |_| {}),
         card(format, "free words with junk in the low bits", SAMPLE, |card| card.table[20] = 0x0000_0003),
@@ -151,7 +151,8 @@ pub fn all(format: Format) -> Vec<GoodCard> {
         for (place, page) in needed.into_iter().enumerate() {
             (0..4).for_each(|chunk| flip(format, &mut image, page, chunk, (97 * place + 261 * chunk) % 1044));
         }
-        cards.push(GoodCard { name: "a flip in every chunk of needed pages", format, image, counts: SAMPLE });
+        let counts = Counts { mended: 4 * needed.len(), ..SAMPLE };
+        cards.push(GoodCard { name: "a flip in every chunk of needed pages", format, image, counts });
     }
     cards.extend(deep::good(format));
     cards.extend(listed::good(format));

@@ -71,10 +71,11 @@ impl Layout {
         }
     }
 
-    /// The counts where so many clusters are reached, all of them below the limit, none is orphaned and no block is
-    /// listed as bad.
+    /// The counts where so many clusters are reached, all of them below the limit, none is orphaned, no block is listed
+    /// as bad and nothing is mended.
     pub fn counts(&self, reached: usize) -> Counts {
         let limit = self.limit();
-        Counts { clusters: self.clusters, free: limit - reached, reached, orphaned: 0, held: self.alloc_end - limit }
+        let (free, held) = (limit - reached, self.alloc_end - limit);
+        Counts { clusters: self.clusters, free, reached, orphaned: 0, held, mended: 0 }
     }
 }

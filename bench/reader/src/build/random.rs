@@ -1,5 +1,7 @@
 //! Seeded random cards of either format, each with the tree and counts it was built to have.
 
+use std::collections::HashMap;
+
 use super::draw::{random_layout, random_list};
 use super::sketch::Sketch;
 use super::Layout;
@@ -17,6 +19,9 @@ pub struct RandomCard {
     pub layout: Layout,
     pub counts: Counts,
     pub tree: Tree,
+    /// How many chunks of a page were flipped in one bit each, for pages without other damage. On the pages of entries,
+    /// files, superblock and table these are the corrected ones; other pages may be junk.
+    pub flips: HashMap<usize, usize>,
 }
 
 /// A random card of a random size, mostly small; now and then it is of the one size that has a tail.

@@ -2,12 +2,14 @@
 //! flip is other data.
 
 use crate::ecc::CHUNK;
-use crate::page::{Format, DATA};
+use crate::page::{Format, CHUNKS, DATA};
 use crate::rng::Rng;
 
 /// Data bits of a chunk, and the code bits of it that count.
-const DATA_BITS: usize = 8 * CHUNK;
-const CODE_BITS: usize = 20;
+pub const DATA_BITS: usize = 8 * CHUNK;
+pub const CODE_BITS: usize = 20;
+/// Bits of a raw page that reading ignores: four of each code, and spare bytes 12 to 15.
+pub const IGNORED_BITS: usize = 4 * CHUNKS + 8 * 4;
 
 /// Bits of a chunk that reading goes by.
 fn bits(format: Format) -> usize {
@@ -37,6 +39,19 @@ fn code_bit(number: usize) -> (usize, usize) {
         13..=19 => (2, number - 13),
         _ => panic!("20 code bits count"),
     }
+}
+
+/// Flips one of a raw page's 48 bits that reading ignores: every chunk stays good.
+pub fn flip_ignored(image: &mut [u8], page: usize, place: usize) {
+    assert!(place < IGNORED_BITS, "no such bit");
+    let (byte, bit) = match place.checked_sub(4 * CHUNKS) {
+        None => {
+            let (byte, bit) = [(0, 3), (0, 7), (1, 7), (2, 7)][place % 4];
+            (3 * (place / 4) + byte, bit)
+        }
+        Some(place) => (12 + place / 8, place % 8),
+    };
+    image[Format::Raw.place(page)][DATA + byte] ^= 1 << bit;
 }
 
 /// One flip somewhere in a chunk; a raw one is corrected.

@@ -1,6 +1,6 @@
 //! A random card while it is drawn: its tree grows out of a pool of clusters, then what is left of them gets its words.
 
-use std::collections::{BTreeMap, HashSet};
+use std::collections::{BTreeMap, HashMap, HashSet};
 
 use super::draw::{long_name, put_kind, put_name, random_name, random_page};
 use super::random::RandomCard;
@@ -218,7 +218,7 @@ impl Sketch {
             self.card.write(page, data);
         }
 
-        let counts = self.put_words(rng);
+        let mut counts = self.put_words(rng);
         let end = self.card.layout.alloc_end;
         self.card.table[end..].iter_mut().for_each(|word| *word = rng.draw() as u32);
         let names = self.card.layout.table.len();
@@ -233,10 +233,12 @@ impl Sketch {
             needed.extend([2 * cluster, 2 * cluster + 1]);
         }
         let mut image = self.card.finish();
-        if format == Format::Raw {
-            wear(rng, &mut image, &needed, &self.file_pages, &mut self.tree);
-        }
-        RandomCard { format, image, layout, counts, tree: self.tree }
+        let flips = match format {
+            Format::Raw => wear(rng, &mut image, &needed, &self.file_pages, &mut self.tree),
+            Format::Plain => HashMap::new(),
+        };
+        counts.mended = needed.iter().filter_map(|page| flips.get(page)).sum();
+        RandomCard { format, image, layout, counts, tree: self.tree, flips }
     }
 
     /// The words of the clusters that no chain took: of those left in the pool some are orphaned, all others are.
@@ -244,7 +246,7 @@ impl Sketch {
         let Layout { clusters, alloc_end: end, .. } = self.card.layout;
         let (reached, others): (Vec<usize>, Vec<usize>) =
             (0..end).partition(|&cluster| self.card.table[cluster] & USED != 0);
-        let mut counts = Counts { clusters, free: 0, reached: reached.len(), orphaned: 0, held: 0 };
+        let mut counts = Counts { clusters, free: 0, reached: reached.len(), orphaned: 0, held: 0, mended: 0 };
         let left: HashSet<usize> = self.pool.iter().copied().collect();
         let beside = others.into_iter().filter(|cluster| !left.contains(cluster));
         for cluster in self.pool.iter().copied().chain(beside) {

@@ -2,7 +2,7 @@
 
 use super::draw::random_name;
 use super::random::random;
-use super::{directory, scribble};
+use super::{directory, needed, scribble};
 use crate::card::{BAD_BLOCKS, BAD_BLOCK_WORDS, END_MARK, USED};
 use crate::content::visit;
 use crate::entry::{DIRECTORY, FILE};
@@ -17,12 +17,7 @@ pub fn vandalised(format: Format, seed: u64) -> Vec<u8> {
     let mut rng = Rng::new(seed ^ 0xBAD_CA4D);
     let mut image = card.image;
     let checked = Checked::of(format, &image).expect("a random card passes");
-    let mut entries = Vec::new();
-    visit(&checked.root, b"/", &mut |_, node| {
-        if node.inside.is_some() {
-            entries.extend((0..node.entry.length as usize).map(|slot| checked.card.slot_page(&node.chain, slot)));
-        }
-    });
+    let entries = needed::entries(&checked);
     let tables: Vec<usize> = card.layout.table.iter().flat_map(|&cluster| [2 * cluster, 2 * cluster + 1]).collect();
     let (end, indirect) = (card.layout.alloc_end, card.layout.indirect);
 

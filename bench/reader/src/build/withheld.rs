@@ -53,7 +53,7 @@ pub const TAIL: Sample = Sample {
     orphans: &[(8, END_MARK), (8020, END_MARK), (8021, USED), (8022, 0xFFFF_FFFE)],
     free_words: [(8030, 0), (8031, 8000), (8132, 0x7FFF_FFFE)],
     free: [4, 9, 7998],
-    counts: Counts { clusters: 8192, free: 0, reached: 7999 + 12, orphaned: 4, held: 120 },
+    counts: Counts { clusters: 8192, free: 0, reached: 7999 + 12, orphaned: 4, held: 120, mended: 0 },
 };
 
 /// The list has gaps, a block twice and a backup block. It withholds 0 to 4, so the root too, 13 to 20, 45 to 52 and 61
@@ -74,7 +74,7 @@ pub const LISTED: Sample = Sample {
     orphans: &[(8, END_MARK), (63, END_MARK), (45, USED | 5)],
     free_words: [(64, 0), (46, 5), (52, 0x7FFF_FFFE)],
     free: [9, 21, 60],
-    counts: Counts { clusters: 96, free: 0, reached: 16 + 39, orphaned: 3, held: 8 },
+    counts: Counts { clusters: 96, free: 0, reached: 16 + 39, orphaned: 3, held: 8, mended: 0 },
 };
 
 /// Both samples in both formats.
