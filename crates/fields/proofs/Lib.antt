@@ -4,5 +4,6 @@ pub mod NameLaws
 pub mod KindLaws
 pub mod FieldLaws
 pub mod PathLaws
+pub mod ShiftLaws
 pub mod TimeLaws
 pub mod WriteLaws

@@ -21,7 +21,7 @@ cons-ok : (a : ℕ) (o : Option (List ℕ)) (cs : List ℕ) → prepend a o ≡ 
 cons-ok a none cs h = absurd (let z : _≡_ {A = ℕ} 0 1 = cc in omega arith)
 cons-ok a (some ds) cs h = (ds, refl, cc)
 
-cond-ok : {A : Type 0} (b : Bool) (x : Option A) (a : A) → cond b x none ≡ some a → (b ≡ true) × (x ≡ some a)
+pub cond-ok : {A : Type 0} (b : Bool) (x : Option A) (a : A) → cond b x none ≡ some a → (b ≡ true) × (x ≡ some a)
 cond-ok true x a h = (refl, h)
 cond-ok false x a h = absurd (let z : _≡_ {A = ℕ} 0 1 = cc in omega arith)
 

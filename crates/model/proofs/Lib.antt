@@ -22,6 +22,10 @@ pub mod AbstractCards
 pub mod SlotOfName
 pub mod NewEntries
 pub mod NeededPages
+pub mod Calendar
+pub mod Shifts
+pub mod DayNumbers
+pub mod ShiftNumbers
 pub mod PlanActs
 pub mod Directories
 pub mod NewClusters

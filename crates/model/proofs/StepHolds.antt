@@ -39,7 +39,7 @@ pub record Step (v w : View) (used : ℕ → ℕ) (P : ℕ) (e : Entry) (cs : Li
   pub root : isRoot e ≡ true → isRoot e′ ≡ true
   pub uniq : UniqueNames (setSlot i x y s)
 
-some-inj : {A : Type 0} {a b : A} → some a ≡ some b → a ≡ b
+pub some-inj : {A : Type 0} {a b : A} → some a ≡ some b → a ≡ b
 some-inj {A} {a} {b} e = cc
 
 dots-via : (v w : View) (cs gs : List ℕ) → ((p : ℕ) (n : Name) → 1 ≤ times (take 2 (pagesOf cs)) p → DotEntry v n p → DotEntry w n p) → DotEntries v cs → DotEntries w (cs ++ gs)

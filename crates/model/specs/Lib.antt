@@ -3,6 +3,8 @@ pub mod Names
 pub mod Bytes
 pub mod Entry
 pub mod Time
+pub mod Calendar
+pub mod Shifts
 pub mod View
 pub mod Tree
 pub mod Holds

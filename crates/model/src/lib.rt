@@ -1,6 +1,7 @@
 // The model of a card is in specs/. Each claim about it is the contract of a function that does nothing.
 ghost use Rattle.model.specs.Claims.{ChainsAreSound, CheckIsHolding, ViewCountsAddUp, AcceptedExactly, ViewChangeKeeps, WritesGiveView, ViewDemand3};
 ghost use Rattle.model.specs.Bench.{BenchNumbers};
+ghost use Rattle.model.specs.Shifts.{ShiftNumbers, ShiftsReturn};
 
 // The limits (RULES), each with its one name in code: the largest N, how far below the root a directory may lie, and the most names of a path.
 pub const MOST_CLUSTERS: usize = 65536;
@@ -21,6 +22,20 @@ pub const BLOCK_CLUSTERS: usize = 8;
 pub const LIST_WORDS: usize = 32;
 
 pub const NO_BLOCK: u32 = 0xFFFF_FFFF;
+
+// A day of the calendar, and a time as a calendar and a clock show it.
+pub struct Date {
+    pub year: u32,
+    pub month: u32,
+    pub day: u32,
+}
+
+pub struct Moment {
+    pub date: Date,
+    pub hour: u32,
+    pub minute: u32,
+    pub second: u32,
+}
 
 // The check follows exactly the sound chains: below alloc_end, not free, not reached before, the end mark at exactly the k-th.
 pub fn chains_are_sound()
@@ -60,4 +75,14 @@ pub fn demand_3()
 // The numbers of the bench card.
 pub fn bench_numbers()
     ensures { λ _. ⌜ BenchNumbers ⌝ }
+{}
+
+// A time shifted by any number of minutes: 0 leaves it, the opposite takes back, seconds stay, and exactly the minutes are added.
+pub fn shifts_return()
+    ensures { λ _. ⌜ ShiftsReturn ⌝ }
+{}
+
+// Shifts at the ends of days, months, years and of the calendar.
+pub fn shift_numbers()
+    ensures { λ _. ⌜ ShiftNumbers ⌝ }
 {}

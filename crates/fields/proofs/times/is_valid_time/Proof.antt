@@ -49,11 +49,14 @@ shared-slice-read-result-3 c = search needs
 shared-slice-read-result-4 : tie.Need-shared-slice-read-result-4
 shared-slice-read-result-4 c = search needs
 
+in-years-requires : tie.Need-in-years-requires
+in-years-requires c κs = search needs
+
 returns-4 : tie.Need-returns-4
 unfolding validTime
 returns-4 c =
-    let t = now (c .before .before .before .before .before .before .before .before .before .before .before .before .before .args .time) in
-    rw (c .before .before .before .before .days .ensures, c .before .before .before .before .before .is-leap .ensures, c .before .before .before .before .before .before .half-in .ensures, eq-eqb (length t) 8 (c .before .before .before .before .before .before .before .before .before .before .before .if1 .left), le-leb 1 (getD t 5 0) (c .before .before .before .before .before .before .before .before .before .if2 .left), le-leb (getD t 5 0) 12 (c .before .before .before .before .before .before .before .before .if3 .left))
+    let t = now (c .before .before .before .before .before .before .before .before .before .before .before .before .before .before .args .time) in
+        rw (c .in-years .ensures, c .before .before .before .before .before .days .ensures, c .before .before .before .before .before .before .is-leap .ensures, c .before .before .before .before .before .before .before .half-in .ensures, eq-eqb (length t) 8 (c .before .before .before .before .before .before .before .before .before .before .before .before .if1 .left), le-leb 1 (getD t 5 0) (c .before .before .before .before .before .before .before .before .before .before .if2 .left), le-leb (getD t 5 0) 12 (c .before .before .before .before .before .before .before .before .before .if3 .left))
 
 pub is-valid-time-spec : {M : Type 1} → statement M
 is-valid-time-spec =
@@ -72,4 +75,5 @@ is-valid-time-spec =
     shared-slice-read-result-2
     shared-slice-read-result-3
     shared-slice-read-result-4
+    in-years-requires
     returns-4)
