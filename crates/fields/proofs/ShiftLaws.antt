@@ -2,7 +2,7 @@
 use Prim.Native.Nat.{_%_, _-_, _/_, _<_, _≤_, suc, ℕ}
 use mathlib.Core.Bool.{Bool, and-false, false, true}
 use mathlib.Core.List.{List}
-use mathlib.Core.Path.{_∙_, _≡_, ap, refl, sym}
+use mathlib.Core.Path.{_∙_, _≡_, ap, ap₂, refl, sym}
 use native.Mathlib.Omega.{arith}
 use borrow.Author.Tests.{leb-true, ltb-false, ltb-true}
 use lib.Dec.{T, eqb, leb, ltb}
@@ -167,5 +167,5 @@ pub valid-shown : (t : List ℕ) → validTime t ≡ true → validMoment (momen
 unfolding validTime
 valid-shown t e = and-r (eqb (getD t 0 0) 0) _ (and-r (eqb (length t) 8) _ e)
 
-pub moved-by : {s read : ℤ} (t : List ℕ) {m n : Moment} → read ≡ s → m ≡ momentOf t → n ≡ moved read m → n ≡ moved s (momentOf t)
-moved-by t e f g = rw (← e, ← f) g
+pub moved-by : {s told : ℤ} (t : List ℕ) {m n : Moment} → told ≡ s → m ≡ momentOf t → n ≡ moved told m → n ≡ moved s (momentOf t)
+moved-by t e f g = g ∙ ap₂ moved e f

@@ -7,9 +7,12 @@ use model::Date;
 use model::Moment;
 ghost use mathlib.Core.Path.{_≡_};
 ghost use mathlib.Core.Bool.{true};
-ghost use Prim.Native.Nat.{_<_, _≤_};
+ghost use Prim.Native.Nat.{_+_, _<_, _≤_};
 ghost use lib.IntN.{pos, _+ℤ_};
 ghost use Rattle.model.specs.Calendar.{clockAt, dayAfter, dayBefore, isShift, minuteOfDay, moved, shown};
+ghost use lib.ListN.{length};
+ghost use Rattle.model.specs.Bytes.{slice};
+ghost use Rattle.model.specs.Entry.{entryOf};
 ghost use Rattle.model.specs.Time.{validMoment};
 ghost use Rattle.fields.specs.Calendar.{OnCalendar, shownAs};
 
@@ -134,4 +137,19 @@ pub fn shop_time(time: &[u8], minutes: i32) -> Shown
         return Shown::Unknown;
     }
     Shown::Time(moment)
+}
+
+fn shop_time_at(page: &[u8], from: usize, minutes: i32) -> Shown
+    requires { ⌜ from + 8 ≤ length (now page) ⌝ }
+    ensures { λ r. ⌜ r ≡ shownAs (shown minutes (slice (now (page .entry)) from 8)) ⌝ }
+{
+    let end = from + 8;
+    shop_time(&page[from..end], minutes)
+}
+
+// When the entry in a page was last changed, in the shop's own time.
+pub fn modified_at(page: &[u8; 512], minutes: i32) -> Shown
+    ensures { λ r. ⌜ r ≡ shownAs (shown minutes ((entryOf (now (page .entry))) .modified)) ⌝ }
+{
+    shop_time_at(page, 0x18, minutes)
 }

@@ -4,6 +4,7 @@ use Rattle.layout.specs.declared.Refusal.{Refusal}
 use Rattle.layout.specs.declared.Refusal.the-variants as is
 
 abbrev pub numberOf : Refusal → ℕ
+numberOf is.BadShift = 17
 numberOf is.BadLength = 1
 numberOf (is.UnreadablePage page) = 2
 numberOf is.BadText = 3
@@ -22,6 +23,7 @@ numberOf is.NoRoom = 12
 numberOf is.WrongOutput = 23
 
 abbrev pub pageOf : Refusal → ℕ
+pageOf is.BadShift = 0
 pageOf is.BadLength = 0
 pageOf (is.UnreadablePage page) = page
 pageOf is.BadText = 0

@@ -25,6 +25,7 @@ ghost use Rattle.layout.specs.Table.{openCard, told, toldOpened, tableAf
 
 // Why a call is refused: a case for each row of the paper's table.
 pub enum Refusal {
+    BadShift,
     BadLength,
     UnreadablePage(usize),
     BadText,
@@ -49,6 +50,7 @@ impl Refusal {
         ensures { λ r. ⌜ r ≡ numberOf self ⌝ }
     {
         match self {
+            Refusal::BadShift => 17,
             Refusal::BadLength => 1,
             Refusal::UnreadablePage(_) => 2,
             Refusal::BadText => 3,
@@ -73,6 +75,7 @@ impl Refusal {
         ensures { λ r. ⌜ r ≡ pageOf self ⌝ }
     {
         match self {
+            Refusal::BadShift => 0,
             Refusal::BadLength => 0,
             Refusal::UnreadablePage(page) => page,
             Refusal::BadText => 0,

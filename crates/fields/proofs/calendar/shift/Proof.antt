@@ -40,7 +40,7 @@ clock-at-requires c κs = search needs
 returns : tie.Need-returns
 returns c =
     let way = lands-before (shifts-by (c .before .before .before .before .before .before .before .args .moment) (c .before .before .before .before .before .before .before .args .minutes) _ (c .before .before .before .before .before .before .before .pre) (c .before .before .before .before .before .before .before .fits .minutes) (c .before .before .before .add-shift .ensures)) (c .before .before .if1 .taken) in
-        rw (c .clock-at .ensures, c .before .day-before .ensures, way .1 .value) (way .2)
+    rw (c .clock-at .ensures, c .before .day-before .ensures, way .1 .value) (way .2)
 
 cast-clock-at-2 : tie.Need-cast-clock-at-2
 cast-clock-at-2 c =
@@ -52,7 +52,7 @@ clock-at-requires-2 c κs = search needs
 returns-2 : tie.Need-returns-2
 returns-2 c =
     let way = lands-within (shifts-by (c .before .before .before .before .before .before .before .args .moment) (c .before .before .before .before .before .before .before .args .minutes) _ (c .before .before .before .before .before .before .before .pre) (c .before .before .before .before .before .before .before .fits .minutes) (c .before .before .before .add-shift .ensures)) (c .before .before .if1 .left) (c .before .if2 .taken) in
-        rw (c .clock-at2 .ensures, way .1 .value) (way .2)
+    rw (c .clock-at2 .ensures, way .1 .value) (way .2)
 
 day-after-requires : tie.Need-day-after-requires
 day-after-requires c κs =
@@ -72,7 +72,7 @@ clock-at-requires-3 c κs = search needs
 returns-3 : tie.Need-returns-3
 returns-3 c =
     let way = lands-after (shifts-by (c .before .before .before .before .before .before .before .before .args .moment) (c .before .before .before .before .before .before .before .before .args .minutes) _ (c .before .before .before .before .before .before .before .before .pre) (c .before .before .before .before .before .before .before .before .fits .minutes) (c .before .before .before .before .add-shift .ensures)) (c .before .before .before .if1 .left) (c .before .before .if2 .left) in
-        rw (c .clock-at3 .ensures, c .before .day-after .ensures, way .1 .value) (way .2)
+    rw (c .clock-at3 .ensures, c .before .day-after .ensures, way .1 .value) (way .2)
 
 pub shift-spec : {M : Type 1} → statement M
 shift-spec =

@@ -38,16 +38,16 @@ in-years-requires c κs = search needs
 returns-3 : tie.Need-returns-3
 returns-3 c =
     let a = c .before .before .before .before .before .before .before .before .before .args in
-        let s = toZ-ofZ w32 (a .minutes) (c .before .before .before .before .before .before .before .before .before .fits .minutes) in
-        let led = moved-by (a .time .now) s (c .before .before .before .moment-of .ensures) (c .before .before .shift .ensures) in
-        shown-out (a .minutes) (a .time .now) (sym (c .before .before .before .before .before .before .before .is-valid-time .ensures) ∙ not-false _ (c .before .before .before .before .before .before .if1 .left)) (ap isShift (sym s) ∙ sym (c .before .before .before .before .before .is-shift .ensures) ∙ not-false _ (c .before .before .before .before .if2 .left)) (ap (λ m. inYears (m .date .year)) (sym led) ∙ sym (c .before .in-years .ensures) ∙ not-true _ (c .if3 .taken))
+    let s = toZ-ofZ w32 (a .minutes) (c .before .before .before .before .before .before .before .before .before .fits .minutes) in
+    let led = moved-by (a .time .now) s (c .before .before .before .moment-of .ensures) (c .before .before .shift .ensures) in
+    shown-out (a .minutes) (a .time .now) (sym (c .before .before .before .before .before .before .before .is-valid-time .ensures) ∙ not-false _ (c .before .before .before .before .before .before .if1 .left)) (ap isShift (sym s) ∙ sym (c .before .before .before .before .before .is-shift .ensures) ∙ not-false _ (c .before .before .before .before .if2 .left)) (ap (λ m. inYears (m .date .year)) (sym led) ∙ sym (c .before .in-years .ensures) ∙ not-true _ (c .if3 .taken))
 
 returns-4 : tie.Need-returns-4
 returns-4 c =
     let a = c .before .before .before .before .before .before .before .before .before .args in
-        let s = toZ-ofZ w32 (a .minutes) (c .before .before .before .before .before .before .before .before .before .fits .minutes) in
-        let led = moved-by (a .time .now) s (c .before .before .before .moment-of .ensures) (c .before .before .shift .ensures) in
-        ap is.Time led ∙ shown-in (a .minutes) (a .time .now) (sym (c .before .before .before .before .before .before .before .is-valid-time .ensures) ∙ not-false _ (c .before .before .before .before .before .before .if1 .left)) (ap isShift (sym s) ∙ sym (c .before .before .before .before .before .is-shift .ensures) ∙ not-false _ (c .before .before .before .before .if2 .left)) (ap (λ m. inYears (m .date .year)) (sym led) ∙ sym (c .before .in-years .ensures) ∙ not-false _ (c .if3 .left))
+    let s = toZ-ofZ w32 (a .minutes) (c .before .before .before .before .before .before .before .before .before .fits .minutes) in
+    let led = moved-by (a .time .now) s (c .before .before .before .moment-of .ensures) (c .before .before .shift .ensures) in
+    ap is.Time led ∙ shown-in (a .minutes) (a .time .now) (sym (c .before .before .before .before .before .before .before .is-valid-time .ensures) ∙ not-false _ (c .before .before .before .before .before .before .if1 .left)) (ap isShift (sym s) ∙ sym (c .before .before .before .before .before .is-shift .ensures) ∙ not-false _ (c .before .before .before .before .if2 .left)) (ap (λ m. inYears (m .date .year)) (sym led) ∙ sym (c .before .in-years .ensures) ∙ not-false _ (c .if3 .left))
 
 pub shop-time-spec : {M : Type 1} → statement M
 shop-time-spec =

@@ -56,7 +56,7 @@ returns-4 : tie.Need-returns-4
 unfolding validTime
 returns-4 c =
     let t = now (c .before .before .before .before .before .before .before .before .before .before .before .before .before .before .args .time) in
-        rw (c .in-years .ensures, c .before .before .before .before .before .days .ensures, c .before .before .before .before .before .before .is-leap .ensures, c .before .before .before .before .before .before .before .half-in .ensures, eq-eqb (length t) 8 (c .before .before .before .before .before .before .before .before .before .before .before .before .if1 .left), le-leb 1 (getD t 5 0) (c .before .before .before .before .before .before .before .before .before .before .if2 .left), le-leb (getD t 5 0) 12 (c .before .before .before .before .before .before .before .before .before .if3 .left))
+    rw (c .in-years .ensures, c .before .before .before .before .before .days .ensures, c .before .before .before .before .before .before .is-leap .ensures, c .before .before .before .before .before .before .before .half-in .ensures, eq-eqb (length t) 8 (c .before .before .before .before .before .before .before .before .before .before .before .before .if1 .left), le-leb 1 (getD t 5 0) (c .before .before .before .before .before .before .before .before .before .before .if2 .left), le-leb (getD t 5 0) 12 (c .before .before .before .before .before .before .before .before .before .if3 .left))
 
 pub is-valid-time-spec : {M : Type 1} → statement M
 is-valid-time-spec =
