@@ -3,6 +3,7 @@ use crate::lines::put_entry;
 use crate::path::Path;
 use crate::path::root_path;
 use crate::path::with_name;
+use fields::calendar::modified_at;
 use fields::kinds::is_directory;
 use fields::kinds::is_live;
 use fields::names::entry_name;
@@ -33,13 +34,14 @@ fn list_entry(
     image: &[u8],
     table: &[u32],
     geometry: Geometry,
+    minutes: i32,
     out: &mut [u8],
     at: usize,
     path: Path,
     page: usize,
 ) -> Listed
     requires { ⌜ path .len + nameRoom ≤ pathRoom ⌝ }
-    ensures line { λ r. ⌜ Wrote (now (out .entry)) at (lineAt (pathBytes path) ((viewBy geometry (now (table .entry)) (now (image .entry))) .entry page)) (now (out .exit)) (r .at) ⌝ }
+    ensures line { λ r. ⌜ Wrote (now (out .entry)) at (lineAt minutes (pathBytes path) ((viewBy geometry (now (table .entry)) (now (image .entry))) .entry page)) (now (out .exit)) (r .at) ⌝ }
     ensures leads { λ r. ⌜ Leads (now (table .entry)) (pathBytes path) ((viewBy geometry (now (table .entry)) (now (image .entry))) .entry page) (path .len) r ⌝ }
 {
     let mut d = [0u8; 512];
@@ -61,16 +63,17 @@ fn list_entry(
     }
     let length = word_at(&d, 0x04);
     let own = with_name(path, entry_name(&d));
+    let changed = modified_at(&d, minutes);
     if !is_directory(&d) {
         return Listed {
-            at: put_entry(out, at, b'f', length, own),
+            at: put_entry(out, at, b'f', length, own, changed),
             path: own,
             start: 0,
             count: 0,
         };
     }
     Listed {
-        at: put_entry(out, at, b'd', length, own),
+        at: put_entry(out, at, b'd', length, own, changed),
         path: own,
         start: next_of(table, word_at(&d, 0x10)),
         count: slots_of(length),
@@ -82,6 +85,7 @@ fn list_slots(
     image: &[u8],
     table: &[u32],
     geometry: Geometry,
+    minutes: i32,
     out: &mut [u8],
     at: usize,
     path: Path,
@@ -90,13 +94,22 @@ fn list_slots(
     below: u32,
 ) -> usize
     requires { ⌜ path .len + nameRoom * (below + 1) ≤ pathRoom ⌝ }
-    ensures { λ r. ⌜ Wrote (now (out .entry)) at (slotsText (viewBy geometry (now (table .entry)) (now (image .entry))) (now (table .entry)) below (pathBytes path) (slotPages (now (table .entry)) start 0 count)) (now (out .exit)) r ⌝ }
+    ensures { λ r. ⌜ Wrote (now (out .entry)) at (slotsText minutes (viewBy geometry (now (table .entry)) (now (image .entry))) (now (table .entry)) below (pathBytes path) (slotPages (now (table .entry)) start 0 count)) (now (out .exit)) r ⌝ }
 {
     let mut next = at;
     let mut c = start;
     let mut k: u32 = 0;
     while k < count {
-        let entry = list_entry(image, table, geometry, out, next, path, slot_page(c, k));
+        let entry = list_entry(
+            image,
+            table,
+            geometry,
+            minutes,
+            out,
+            next,
+            path,
+            slot_page(c, k),
+        );
         next = entry.at;
         if 0 < below {
             let own = entry.path;
@@ -104,6 +117,7 @@ fn list_slots(
                 image,
                 table,
                 geometry,
+                minutes,
                 out,
                 next,
                 own,
@@ -125,10 +139,11 @@ pub(crate) fn list_tree(
     image: &[u8],
     table: &[u32],
     geometry: Geometry,
+    minutes: i32,
     out: &mut [u8],
     at: usize,
 ) -> usize
-    ensures { λ r. ⌜ WroteTree (viewBy geometry (now (table .entry)) (now (image .entry))) (now (out .entry)) at (now (out .exit)) r ⌝ }
+    ensures { λ r. ⌜ WroteTree minutes (viewBy geometry (now (table .entry)) (now (image .entry))) (now (out .entry)) at (now (out .exit)) r ⌝ }
 {
     let mut d = [0u8; 512];
     if !read_slot(image, geometry, table.len(), 0, &mut d) {
@@ -138,6 +153,7 @@ pub(crate) fn list_tree(
         image,
         table,
         geometry,
+        minutes,
         out,
         at,
         root_path(),

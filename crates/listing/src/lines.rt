@@ -4,12 +4,15 @@ use crate::emit::put_byte;
 use crate::emit::put_number;
 use crate::path::Path;
 use crate::path::put_path;
+use crate::stamps::put_stamp;
+use fields::calendar::Shown;
 use layout::Refusal;
 use tree::Counts;
 ghost use Prim.Native.Nat.{_≤_};
 ghost use Rattle.layout.specs.Refusal.{numberOf, pageOf};
 ghost use Rattle.listing.specs.Emit.{Wrote};
 ghost use Rattle.listing.specs.Paths.{pathBytes, pathRoom};
+ghost use Rattle.listing.specs.Stamps.{shownText};
 ghost use Rattle.listing.specs.Text.{countLine, countsText, entryLine, pageText, refusalText};
 
 // A word and a number.
@@ -33,17 +36,26 @@ pub(crate) fn put_counts(out: &mut [u8], at: usize, counts: Counts) -> usize
     put_count(out, e, b"mended ", counts.mended as u64)
 }
 
-// A letter, the length and the path of an entry.
-pub(crate) fn put_entry(out: &mut [u8], at: usize, letter: u8, length: u32, path: Path) -> usize
+// A letter, the length and the path of an entry, and its last change.
+pub(crate) fn put_entry(
+    out: &mut [u8],
+    at: usize,
+    letter: u8,
+    length: u32,
+    path: Path,
+    changed: Shown,
+) -> usize
     requires { ⌜ path .len ≤ pathRoom ⌝ }
-    ensures { λ r. ⌜ Wrote (now (out .entry)) at (entryLine letter length (pathBytes path)) (now (out .exit)) r ⌝ }
+    ensures { λ r. ⌜ Wrote (now (out .entry)) at (entryLine letter length (pathBytes path) (shownText changed)) (now (out .exit)) r ⌝ }
 {
     let a = put_byte(out, at, letter);
     let b = put_byte(out, a, b' ');
     let c = put_number(out, b, length as u64);
     let d = put_byte(out, c, b' ');
     let e = put_path(out, d, path);
-    put_byte(out, e, b'\n')
+    let f = put_byte(out, e, b' ');
+    let g = put_stamp(out, f, changed);
+    put_byte(out, g, b'\n')
 }
 
 // The page after the number 2.
