@@ -5,16 +5,22 @@ use mathlib.Core.List.{List, []}
 use mathlib.Core.Option.{Option, none, some}
 use mathlib.Core.Path.{_∙_, _≡_, ap, refl}
 use native.Mathlib.Omega.{arith}
+use lib.IntN.{ℤ}
 use lib.ListN.{drop, length, length-take}
 use Rattle.fields.proofs.NameLaws.{name-short}
 use Rattle.tree.specs.Scan.{lives}
+use Rattle.fields.specs.Calendar.{shownAs}
+use Rattle.fields.specs.declared.calendar.Shown.{Shown}
+use Rattle.model.specs.declared.Moment.{Moment}
 use Rattle.model.specs.Bytes.{slice}
+use Rattle.model.specs.Calendar.{shown}
 use Rattle.model.specs.Entry.{Entry, entryOf, isDirectory, isLive}
 use Rattle.tree.specs.Slots.{nextOf, slotPages}
 use Rattle.listing.specs.declared.path.Path.{Path}
 use Rattle.listing.specs.Paths.{nameRoom, pathBytes}
 use Rattle.listing.specs.Render.{Leads, Texts, insideAt, lineAt}
-use Rattle.listing.specs.Text.{directoryLetter, entryLine, fileLetter, within}
+use Rattle.listing.specs.Stamps.{shownText}
+use Rattle.listing.specs.Text.{directoryLetter, entryLine, fileLetter, stampText, within}
 
 pub name-fits : (page name : List ℕ) → name ≡ (entryOf page) .name → length name ≤ 32
 name-fits page name e = omega (arith, ap length e, name-short (slice page 0x40 32), length-take 32 (drop 0x40 page))
@@ -22,10 +28,10 @@ name-fits page name e = omega (arith, ap length e, name-short (slice page 0x40 3
 -- ---- an unreadable page and a dead entry
 
 module _ (path : List ℕ) (o : Option Entry) (quiet : false ≡ lives o) where
-  pub no-line : [] ≡ lineAt path o
-  no-line = go o quiet
+  pub no-line : (minutes : ℤ) → [] ≡ lineAt minutes path o
+  no-line minutes = go o quiet
     where
-      go : (o : Option Entry) → false ≡ lives o → [] ≡ lineAt path o
+      go : (o : Option Entry) → false ≡ lives o → [] ≡ lineAt minutes path o
       go none h = refl
       go (some e) h = rw (← h)
 
@@ -50,6 +56,10 @@ leads-nowhere table o at start path quiet =
 
 -- ---- a live entry
 
+shown-text : (o : Option Moment) → shownText (shownAs o) ≡ stampText o
+shown-text none = refl
+shown-text (some m) = refl
+
 -- its length, and its path with its name, as the code has them
 pub record Seen (path : List ℕ) (len : ℕ) (o : Option Entry) (e : Entry) (size : ℕ) (own : Path) : Type 0 where
   pub shown : o ≡ some e
@@ -71,11 +81,12 @@ seen-by path len o page name size own shown live long named grown =
     }
 
 module _ {path : List ℕ} {len : ℕ} {o : Option Entry} {e : Entry} {size : ℕ} {own : Path} (seen : Seen path len o e size own) where
-  pub file-line : false ≡ isDirectory e → entryLine fileLetter size (pathBytes own) ≡ lineAt path o
-  file-line kind = rw (seen .shown, ← kind, ← seen .live, seen .length-is, seen .path-is)
+  module _ (minutes : ℤ) (changed : Shown) (stamp : changed ≡ shownAs (shown minutes (e .modified))) where
+    pub file-line : false ≡ isDirectory e → entryLine fileLetter size (pathBytes own) (shownText changed) ≡ lineAt minutes path o
+    file-line kind = rw (seen .shown, ← kind, ← seen .live, seen .length-is, seen .path-is, stamp, shown-text (shown minutes (e .modified)))
 
-  pub directory-line : true ≡ isDirectory e → entryLine directoryLetter size (pathBytes own) ≡ lineAt path o
-  directory-line kind = rw (seen .shown, ← kind, ← seen .live, seen .length-is, seen .path-is)
+    pub directory-line : true ≡ isDirectory e → entryLine directoryLetter size (pathBytes own) (shownText changed) ≡ lineAt minutes path o
+    directory-line kind = rw (seen .shown, ← kind, ← seen .live, seen .length-is, seen .path-is, stamp, shown-text (shown minutes (e .modified)))
 
   pub file-leads : (table : List ℕ) (at start : ℕ) → false ≡ isDirectory e → Leads table path o len (record { at = at; path = own; start = start; count = 0 })
   file-leads table at start kind =

@@ -1,12 +1,14 @@
--- How long a listing is: no cluster is used twice, so a card has at most two slots for each of its clusters, and no line is longer than 270 bytes.
+-- How long a listing is: no cluster is used twice, so a card has at most two slots for each of its clusters, and no line is longer than 290 bytes.
 -- So its length is told exactly, and a short image needs little room.
 use Prim.Native.Nat.{ℕ, pred, suc, zero, _*_, _+_, _/_, _%_, _<_, _≤_}
 use mathlib.Core.Bool.{Bool, _&&_, cond, false, not, true}
 use mathlib.Core.List.{List, [], _++_, _∷_}
+use mathlib.Core.Option.{Option, none, some}
 use mathlib.Core.Path.{_∙_, _≡_, ap, refl, sym}
 use native.Mathlib.Omega.{arith}
 use borrow.Author.Tests.{le-ltb, lt-ltb, ltb-true}
 use lib.Dec.{eqb, ltb}
+use lib.IntN.{ℤ}
 use lib.ListN.{length, length-append, length-drop, length-take, take}
 use Rattle.page.proofs.Formats.{clusters-least}
 use Rattle.page.specs.declared.Format.{Format}
@@ -21,6 +23,8 @@ use Rattle.model.proofs.CountLaws.{card-used, counts, total-add}
 use Rattle.model.proofs.Equality.{and-l, and-r}
 use Rattle.model.proofs.PlanFits.{length-pages}
 use Rattle.model.proofs.SlotOfName.{total-times}
+use Rattle.model.specs.declared.Moment.{Moment}
+use Rattle.model.specs.Calendar.{isShift, shown}
 use Rattle.model.specs.Check.{Marks, Result, fault, ok}
 use Rattle.model.specs.Counts.{totalBelow}
 use Rattle.model.specs.Entry.{Entry, hasBit, isDirectory, isFile, isLive, isSubdirectory}
@@ -34,7 +38,7 @@ use Rattle.tree.specs.Counted.{countsIn, superblockIn}
 use Rattle.tree.specs.declared.Counts.{Counts}
 use Rattle.listing.specs.Emit.{most}
 use Rattle.listing.specs.Room.{Fits}
-use Rattle.listing.specs.Text.{cardWord, countLine, countsText, decimalOf, digitsOf, entryLine, freeWord, heldWord, listingOf, mendedWord, orphanedWord, pageText, reachedWord, refusalText, textOf, treeText, within}
+use Rattle.listing.specs.Text.{cardWord, countLine, countsText, dateText, decimalOf, digitsOf, entryLine, freeWord, heldWord, listingOf, mendedWord, orphanedWord, pageText, reachedWord, refusalText, stampText, textOf, timeText, treeText, within}
 
 -- ---- lines
 
@@ -62,10 +66,16 @@ digits-few zero d n h = omega arith
 digits-few (suc k) zero n h = rw (lt-ltb n 10 h) (omega arith)
 digits-few (suc k) (suc d) n h = digit-more k n (suc d) (digits-few k d (n / 10) (omega arith))
 
--- beside its path a line has at most ten digits, a letter, two spaces and a newline
-entry-short : (letter n : ℕ) (path : List ℕ) → n < 10000000000 → length (entryLine letter n path) ≤ 14 + length path
+-- a stamp has 19 bytes, `unknown` fewer
+stamp-short : (o : Option Moment) → length (stampText o) ≤ 19
+unfolding dateText timeText
+stamp-short none = omega arith
+stamp-short (some m) = omega arith
+
+-- beside its path a line has at most ten digits, a letter, a stamp, three spaces and a newline
+entry-short : (letter n : ℕ) (path : List ℕ) (o : Option Moment) → n < 10000000000 → length (entryLine letter n path (stampText o)) ≤ 34 + length path
 unfolding entryLine tens
-entry-short letter n path h = simp length-append (omega (arith, digits-few 20 9 n h))
+entry-short letter n path o h = simp length-append (omega (arith, digits-few 20 9 n h, stamp-short o))
 
 count-short : (word : List ℕ) (n : ℕ) → length (countLine word n) ≤ length word + 21
 unfolding countLine
@@ -115,24 +125,24 @@ abbrev pathMost : ℕ
 pathMost = nameMost * mostNames
 
 abbrev lineRoom : ℕ
-lineRoom = 14 + pathMost
+lineRoom = 34 + pathMost
 
 -- a length is at most what the clusters of its chain hold, so ten digits are enough
-tree-short : (v : View) (below : ℕ) (ps path : List ℕ) (t : Tree) → HoldsSlots v below ps t → length path + nameMost * suc below ≤ pathMost
-    → chainTotal t ≤ mostClusters → length (treeText path t) ≤ lineRoom * slotTotal t
+tree-short : (minutes : ℤ) (v : View) (below : ℕ) (ps path : List ℕ) (t : Tree) → HoldsSlots v below ps t → length path + nameMost * suc below ≤ pathMost
+    → chainTotal t ≤ mostClusters → length (treeText minutes path t) ≤ lineRoom * slotTotal t
 unfolding treeText slotTotal chainTotal
-tree-short v below ps path end x h n = omega arith
-tree-short v below [] path (node g s t) x h n = absurd x
-tree-short v below (p ∷ ps) path (node Slot.dead s t) x h n = omega (arith, tree-short v below ps path t (x .3) h (omega arith))
-tree-short v below (p ∷ ps) path (node (Slot.file e cs ds) s t) x h n =
-    let line = entry-short 0x66 (e .length) (within path (e .name)) (omega (arith, x .0 .2)) in
-    simp length-append (omega (arith, tree-short v below ps path t (x .3) h (omega arith), line, length-append path (0x2F ∷ e .name), file-short e (x .0 .1)))
-tree-short v below (p ∷ ps) path (node (Slot.directory e cs) s t) x h n =
+tree-short minutes v below ps path end x h n = omega arith
+tree-short minutes v below [] path (node g s t) x h n = absurd x
+tree-short minutes v below (p ∷ ps) path (node Slot.dead s t) x h n = omega (arith, tree-short minutes v below ps path t (x .3) h (omega arith))
+tree-short minutes v below (p ∷ ps) path (node (Slot.file e cs ds) s t) x h n =
+    let line = entry-short 0x66 (e .length) (within path (e .name)) (shown minutes (e .modified)) (omega (arith, x .0 .2)) in
+    simp length-append (omega (arith, tree-short minutes v below ps path t (x .3) h (omega arith), line, length-append path (0x2F ∷ e .name), file-short e (x .0 .1)))
+tree-short minutes v below (p ∷ ps) path (node (Slot.directory e cs) s t) x h n =
     let own : length (within path (e .name)) ≤ length path + nameMost = rw (length-append path (0x2F ∷ e .name)) (omega (arith, directory-short e (x .0 .1))) in
     let down : 1 ≤ below = x .0 .2 in
-    let inside = tree-short v (pred below) (entryPages (Slot.directory e cs)) (within path (e .name)) s (x .2) (omega arith) (omega arith) in
-    let line = entry-short 0x64 (e .length) (within path (e .name)) (omega (arith, x .0 .3)) in
-    simp length-append (omega (arith, tree-short v below ps path t (x .3) h (omega arith), line, inside))
+    let inside = tree-short minutes v (pred below) (entryPages (Slot.directory e cs)) (within path (e .name)) s (x .2) (omega arith) (omega arith) in
+    let line = entry-short 0x64 (e .length) (within path (e .name)) (shown minutes (e .modified)) (omega (arith, x .0 .3)) in
+    simp length-append (omega (arith, tree-short minutes v below ps path t (x .3) h (omega arith), line, inside))
 
 -- a directory has at most two slots for each cluster of its chain
 own-slots : (h : Slot) → length (entryPages h) ≤ 2 * length (chainOf h)
@@ -160,43 +170,47 @@ chain-uses (node h s t) n z =
     omega (arith, own, inside, later, total-add (clusterUses s) (clusterUses t) n, total-add (times (chainOf h)) (λ c. clusterUses s c + clusterUses t c) n)
 
 -- a card whose clusters from n on are free
-card-short : (v : View) (r : Root) (n : ℕ) → HoldsCard v r → ((c : ℕ) → n ≤ c → v .link c ≡ Link.free) → n ≤ mostClusters
-    → length (treeText [] (r .slots)) ≤ 2 * lineRoom * n
-card-short v r n x high fits =
+card-short : (minutes : ℤ) (v : View) (r : Root) (n : ℕ) → HoldsCard v r → ((c : ℕ) → n ≤ c → v .link c ≡ Link.free) → n ≤ mostClusters
+    → length (treeText minutes [] (r .slots)) ≤ 2 * lineRoom * n
+card-short minutes v r n x high fits =
     let none : (c : ℕ) → n ≤ c → reached r c ≡ 0 = λ c l. card-used v r x c (high c l) in
     let own = total-times (r .chain) n (λ c l. omega (arith, none c l)) in
     let inside = chain-uses (r .slots) n (λ c l. omega (arith, none c l)) in
     let few = slots-few v deepest (entryPages (rootSlot r)) (r .slots) (x .rep) in
     let uses : length (r .chain) + chainTotal (r .slots) ≤ n =
     omega (arith, own, inside, counts v r x n, total-add (times (r .chain)) (clusterUses (r .slots)) n) in
-    let text = tree-short v deepest (entryPages (rootSlot r)) [] (r .slots) (x .rep) (omega arith) (omega arith) in
+    let text = tree-short minutes v deepest (entryPages (rootSlot r)) [] (r .slots) (x .rep) (omega arith) (omega arith) in
     omega (arith, few, text, uses, own-slots (rootSlot r))
 
 -- ---- the listing
 
 -- six lines of counts, and two entries for each allocatable cluster
-listing-lines : (format : Format) (image : List ℕ) (n : ℕ) → ((s : Superblock) → ok s ≡ openCard format image → s .end ≤ n)
-    → length (listingOf format image) ≤ lineRoom * (6 + 2 * n)
+listing-lines : (format : Format) (image : List ℕ) (minutes : ℤ) (n : ℕ) → ((s : Superblock) → ok s ≡ openCard format image → s .end ≤ n)
+    → length (listingOf format image minutes) ≤ lineRoom * (6 + 2 * n)
 unfolding listingOf
-listing-lines format image n few = go (checkImage format image) refl
+listing-lines format image minutes n few = by (isShift minutes)
   where
-    go : (c : Result (Superblock × Root × Marks)) → checkImage format image ≡ c → length (textOf image c) ≤ lineRoom * (6 + 2 * n)
+    go : (c : Result (Superblock × Root × Marks)) → checkImage format image ≡ c → length (textOf minutes image c) ≤ lineRoom * (6 + 2 * n)
     go (fault m p) e = omega (arith, refusal-short m p)
     go (ok x) e =
         let y = accepted format image (x .0) (sym (ap superblockIn e)) in
         let same : x .1 ≡ y .root = ap (λ (z : Superblock × Root × Marks). z .1) (ok-inj x (x .0, y .root, y .marks) (sym e ∙ y .checked)) in
         let high : (c : ℕ) → x .0 .end ≤ c → (see (x .0) image) .link c ≡ Link.free =
         λ c l. rw (le-ltb c (length (tableOf image (x .0))) (omega (arith, length-table image (x .0)))) in
-        let tree = card-short (see (x .0) image) (x .1) (x .0 .end) (rw same (y .holds)) high (end-fits format image (x .0) (y .opened)) in
+        let tree = card-short minutes (see (x .0) image) (x .1) (x .0 .end) (rw same (y .holds)) high (end-fits format image (x .0) (y .opened)) in
         let all = countsIn image (x .0) (x .1) in
-        omega (arith, length-append (countsText all) (treeText [] (x .1 .slots)), counts-short all, tree, few (x .0) (y .opened))
+        omega (arith, length-append (countsText all) (treeText minutes [] (x .1 .slots)), counts-short all, tree, few (x .0) (y .opened))
 
-pub listing-short : (format : Format) (image : List ℕ) → length (listingOf format image) ≤ most
-listing-short format image = omega (arith, listing-lines format image mostClusters (end-fits format image))
+    by : (b : Bool) → length (cond b (textOf minutes image (checkImage format image)) (refusalText 17 0)) ≤ lineRoom * (6 + 2 * n)
+    by true = go (checkImage format image) refl
+    by false = omega (arith, refusal-short 17 0)
+
+pub listing-short : (format : Format) (image : List ℕ) (minutes : ℤ) → length (listingOf format image minutes) ≤ most
+listing-short format image minutes = omega (arith, listing-lines format image minutes mostClusters (end-fits format image))
 
 -- An image too short for n + 2 clusters has at most n allocatable ones: cluster 0 is none of them.
 pub listing-fits : (n bytes : ℕ) → bytes < 1024 * (n + 2) → Fits bytes (lineRoom * (6 + 2 * n))
-listing-fits n bytes h format image short = listing-lines format image n few
+listing-fits n bytes h format image minutes short = listing-lines format image minutes n few
   where
     few : (s : Superblock) → ok s ≡ openCard format image → s .end ≤ n
     few s e =

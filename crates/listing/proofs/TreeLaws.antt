@@ -6,7 +6,7 @@ use mathlib.Core.Option.{some}
 use mathlib.Core.Path.{_∙_, _≡_, ap, ap₂, refl, sym}
 use native.Mathlib.Omega.{arith}
 use lib.Dec.{leb, leb→le}
-use lib.ListN.{length}
+use lib.IntN.{ℤ}
 use Rattle.lookup.proofs.EnterLaws.{file-kind, some-same}
 use Rattle.lookup.proofs.FindLaws.{directory-live, file-live}
 use Rattle.model.proofs.Equality.{and-l, and-r, to-T}
@@ -19,7 +19,7 @@ use Rattle.reached.specs.Table.{tableLinks}
 use Rattle.tree.proofs.ChainPages.{directory-pages}
 use Rattle.tree.specs.Slots.{nextOf, slotPages}
 use Rattle.listing.specs.Render.{joined, slotsText}
-use Rattle.listing.specs.Text.{directoryLetter, entryLine, fileLetter, treeText, within}
+use Rattle.listing.specs.Text.{directoryLetter, fileLetter, lineOf, treeText, within}
 
 subdirectory-kind : (e : Entry) → isSubdirectory e ≡ true → isDirectory e ≡ true
 subdirectory-kind e h = and-l _ _ (and-l _ _ h)
@@ -27,16 +27,13 @@ subdirectory-kind e h = and-l _ _ (and-l _ _ h)
 subdirectory-length : (e : Entry) → isSubdirectory e ≡ true → 2 ≤ e .length
 subdirectory-length e h = leb→le 2 _ (to-T (and-r (isDirectory e && goodName (e .name)) (leb 2 (e .length)) h))
 
-abbrev line : ℕ → List ℕ → Entry → List ℕ
-line letter path e = entryLine letter (e .length) (within path (e .name))
-
-module _ (v : View) (t : List ℕ) (links : (c : ℕ) → v .link c ≡ tableLinks t c) where
+module _ (minutes : ℤ) (v : View) (t : List ℕ) (links : (c : ℕ) → v .link c ≡ tableLinks t c) where
   -- a directory's slots from 2 on, as the code steps through them
   own-pages : (e : Entry) (cs : List ℕ) (below : ℕ) (p : ℕ) (s : Tree) → HoldsSlot v below p (Slot.directory e cs)
       → entryPages (Slot.directory e cs) ≡ slotPages t (nextOf t (e .firstCluster)) 0 (e .length - 2)
   own-pages e cs below p s x = (directory-pages v t links (e .firstCluster) cs (x .4) (e .length) (subdirectory-length e (x .1)) (x .3)) .2
 
-  pub slots-text : (below : ℕ) (path ps : List ℕ) (tree : Tree) → HoldsSlots v below ps tree → slotsText v t below path ps ≡ treeText path tree
+  pub slots-text : (below : ℕ) (path ps : List ℕ) (tree : Tree) → HoldsSlots v below ps tree → slotsText minutes v t below path ps ≡ treeText minutes path tree
   unfolding slotsText joined treeText
   slots-text zero path [] end x = refl
   slots-text (suc below) path [] end x = refl
@@ -45,18 +42,18 @@ module _ (v : View) (t : List ℕ) (links : (c : ℕ) → v .link c ≡ tableLin
   slots-text zero path (p ∷ ps) (node Slot.dead s later) x = rw (x .0 .1, x .0 .2) (slots-text zero path ps later (x .3))
   slots-text (suc below) path (p ∷ ps) (node Slot.dead s later) x = rw (x .0 .1, x .0 .2) (slots-text (suc below) path ps later (x .3))
   slots-text zero path (p ∷ ps) (node (Slot.file e cs ds) s later) x =
-      rw (x .0 .0, file-kind e (x .0 .1), file-live e (x .0 .1)) (ap (λ l. line fileLetter path e ++ l) (slots-text zero path ps later (x .3)))
+      rw (x .0 .0, file-kind e (x .0 .1), file-live e (x .0 .1)) (ap (λ l. lineOf minutes fileLetter path e ++ l) (slots-text zero path ps later (x .3)))
   slots-text (suc below) path (p ∷ ps) (node (Slot.file e cs ds) s later) x =
-      rw (x .0 .0, file-kind e (x .0 .1), file-live e (x .0 .1), append-nil (line fileLetter path e))
-      (ap (λ l. line fileLetter path e ++ l) (slots-text (suc below) path ps later (x .3)))
+      rw (x .0 .0, file-kind e (x .0 .1), file-live e (x .0 .1), append-nil (lineOf minutes fileLetter path e))
+      (ap (λ l. lineOf minutes fileLetter path e ++ l) (slots-text (suc below) path ps later (x .3)))
   slots-text zero path (p ∷ ps) (node (Slot.directory e cs) s later) x = absurd (omega (arith, x .0 .2))
   slots-text (suc below) path (p ∷ ps) (node (Slot.directory e cs) s later) x =
       let inside = slots-text below (within path (e .name)) (entryPages (Slot.directory e cs)) s (x .2) in
       rw (x .0 .0, subdirectory-kind e (x .0 .1), directory-live e (x .0 .1), ← own-pages e cs (suc below) p s (x .0))
-      (ap₂ (λ a b. line directoryLetter path e ++ a ++ b) inside (slots-text (suc below) path ps later (x .3)))
+      (ap₂ (λ a b. lineOf minutes directoryLetter path e ++ a ++ b) inside (slots-text (suc below) path ps later (x .3)))
 
   -- the root's slots are behind cluster 0
-  pub root-text : (r : Root) → HoldsCard v r → slotsText v t deepest [] (slotPages t (nextOf t 0) 0 (r .rootEntry .length - 2)) ≡ treeText [] (r .slots)
+  pub root-text : (r : Root) → HoldsCard v r → slotsText minutes v t deepest [] (slotPages t (nextOf t 0) 0 (r .rootEntry .length - 2)) ≡ treeText minutes [] (r .slots)
   root-text r x =
       let two : 2 ≤ r .rootEntry .length = leb→le 2 _ (to-T (and-r (isDirectory (r .rootEntry) && sameName (r .rootEntry .name) dotName) _ (x .good))) in
       let pages = directory-pages v t links 0 (r .chain) (x .links) (r .rootEntry .length) two (x .long) in
@@ -64,7 +61,7 @@ module _ (v : View) (t : List ℕ) (links : (c : ℕ) → v .link c ≡ tableLin
 
   -- by what the code read of the root's first page
   pub root-read : (r : Root) → HoldsCard v r → (e : Entry) (path : List ℕ) (start count size : ℕ) → v .entry 0 ≡ some e → path ≡ [] → start ≡ nextOf t 0 → count ≡ size - 2
-      → size ≡ e .length → slotsText v t deepest path (slotPages t start 0 count) ≡ treeText [] (r .slots)
+      → size ≡ e .length → slotsText minutes v t deepest path (slotPages t start 0 count) ≡ treeText minutes [] (r .slots)
   root-read r x e path start count size shown a b c d =
       let same : r .rootEntry ≡ e = some-same _ _ (sym (x .rootPage) ∙ shown) in
       rw (a, b, c, d, ← same) (root-text r x)

@@ -10,6 +10,7 @@ use lib.ListN.{drop, length, take}
 use Rattle.page.specs.declared.Format.{Format}
 use Rattle.layout.specs.See.{checkImage}
 use Rattle.layout.specs.declared.Superblock.{Superblock}
+use Rattle.model.specs.declared.Date.{Date}
 use Rattle.model.specs.declared.Moment.{Moment}
 use Rattle.model.specs.Calendar.{isShift, shown}
 use Rattle.model.specs.Check.{Marks, Result, fault, ok}
@@ -77,11 +78,13 @@ dash = 0x2D ∷ []
 abbrev pub colon : List ℕ
 colon = 0x3A ∷ []
 
+-- `YYYY-MM-DD`
+unfoldable pub dateText : Date → List ℕ
+dateText d = fourDigits (d .year) ++ dash ++ twoDigits (d .month) ++ dash ++ twoDigits (d .day)
+
 -- `YYYY-MM-DD hh:mm:ss`
 unfoldable pub timeText : Moment → List ℕ
-timeText m =
-    fourDigits (m .date .year) ++ dash ++ twoDigits (m .date .month) ++ dash ++ twoDigits (m .date .day)
-    ++ space ++ twoDigits (m .hour) ++ colon ++ twoDigits (m .minute) ++ colon ++ twoDigits (m .second)
+timeText m = dateText (m .date) ++ space ++ twoDigits (m .hour) ++ colon ++ twoDigits (m .minute) ++ colon ++ twoDigits (m .second)
 
 -- `unknown`
 abbrev pub unknownWord : List ℕ

@@ -2,10 +2,11 @@
 use crate::emit::put;
 use crate::emit::put_byte;
 use fields::calendar::Shown;
+use model::Date;
 use model::Moment;
 ghost use Rattle.listing.specs.Emit.{Wrote};
 ghost use Rattle.listing.specs.Stamps.{shownText};
-ghost use Rattle.listing.specs.Text.{fourDigits, timeText, twoDigits};
+ghost use Rattle.listing.specs.Text.{dateText, fourDigits, timeText, twoDigits};
 
 // The last two digits of a number.
 fn put_two(out: &mut [u8], at: usize, number: u32) -> usize
@@ -23,22 +24,28 @@ fn put_four(out: &mut [u8], at: usize, number: u32) -> usize
     put_two(out, a, number)
 }
 
-// `YYYY-MM-DD hh:mm:ss`.
-fn put_time(out: &mut [u8], at: usize, moment: Moment) -> usize
-    ensures { λ r. ⌜ Wrote (now (out .entry)) at (timeText moment) (now (out .exit)) r ⌝ }
+// `YYYY-MM-DD`.
+fn put_date(out: &mut [u8], at: usize, date: Date) -> usize
+    ensures { λ r. ⌜ Wrote (now (out .entry)) at (dateText date) (now (out .exit)) r ⌝ }
 {
-    let date = moment.date;
     let a = put_four(out, at, date.year);
     let b = put_byte(out, a, b'-');
     let c = put_two(out, b, date.month);
     let d = put_byte(out, c, b'-');
-    let e = put_two(out, d, date.day);
-    let f = put_byte(out, e, b' ');
-    let g = put_two(out, f, moment.hour);
-    let h = put_byte(out, g, b':');
-    let i = put_two(out, h, moment.minute);
-    let j = put_byte(out, i, b':');
-    put_two(out, j, moment.second)
+    put_two(out, d, date.day)
+}
+
+// `YYYY-MM-DD hh:mm:ss`.
+fn put_time(out: &mut [u8], at: usize, moment: Moment) -> usize
+    ensures { λ r. ⌜ Wrote (now (out .entry)) at (timeText moment) (now (out .exit)) r ⌝ }
+{
+    let a = put_date(out, at, moment.date);
+    let b = put_byte(out, a, b' ');
+    let c = put_two(out, b, moment.hour);
+    let d = put_byte(out, c, b':');
+    let e = put_two(out, d, moment.minute);
+    let f = put_byte(out, e, b':');
+    put_two(out, f, moment.second)
 }
 
 // A time, or `unknown`.

@@ -1,7 +1,12 @@
 -- `list_card` writes the counts, and then the entries of the card that is open; it cannot be refused there.
+use mathlib.Core.List.{[]}
+use mathlib.Core.Path.{ap}
 use native.Mathlib.Omega.{arith}
+use mir.Syntax.{w32}
+use mir.ValLaws.{toZ-ofZ}
 use Rattle.layout.proofs.Stages.{as-told}
 use Rattle.lookup.proofs.CardLaws.{accepted, words-fit, words-hold}
+use Rattle.listing.specs.Text.{treeText}
 use Rattle.listing.proofs.EmitLaws.{wrote-append, wrote-as}
 use Rattle.listing.proofs.ListingLaws.{listing-card, opens, passes}
 use borrow.Author.Needs.{needs}
@@ -28,7 +33,7 @@ list-words-requires c κs =
     let a = c .before .before .before .before .before .before .before .before .before .before .before .before .before .before .before .args in
     let s = c .before .before .before .before .before .before .before .open-card .result .superblock in
     let opened = as-told s (c .before .before .before .before .before .enum-told2 .given .1) (c .before .before .before .before .before .before .before .open-card .ensures .0) in
-    words-fit (a .format) (a .image .now) s (passes (a .format) (a .image .now) (a .counts) (c .before .before .before .before .before .before .before .before .before .before .before .before .before .before .before .pre) s opened) _ _ (c .before .before .before .before .before .before .before .open-card .ensures .1 .0)
+    words-fit (a .format) (a .image .now) s (passes (a .format) (a .image .now) (a .minutes) (c .before .before .before .before .before .before .before .before .before .before .before .before .before .before .before .pre .1) (a .counts) (c .before .before .before .before .before .before .before .before .before .before .before .before .before .before .before .pre .0) s opened) _ _ (c .before .before .before .before .before .before .before .open-card .ensures .1 .0)
 
 same-length : tie.Need-same-length
 same-length c = search needs
@@ -36,7 +41,7 @@ same-length c = search needs
 returns : tie.Need-returns
 returns c =
     let a = c .before .before .before .before .before .before .before .before .before .before .args in
-    opens (a .format) (a .image .now) (a .counts) (c .before .before .before .before .before .before .before .before .before .before .pre) _ _ (as-told (c .before .before .open-card .result .superblock) (c .enum-told .given .1) (c .before .before .open-card .ensures .0))
+    opens (a .format) (a .image .now) (a .minutes) (c .before .before .before .before .before .before .before .before .before .before .pre .1) (a .counts) (c .before .before .before .before .before .before .before .before .before .before .pre .0) _ _ (as-told (c .before .before .open-card .result .superblock) (c .enum-told .given .1) (c .before .before .open-card .ensures .0))
 
 same-length-2 : tie.Need-same-length-2
 same-length-2 c = search needs
@@ -48,9 +53,11 @@ returns-2 c =
     let image = a .image .now in
     let s = c .before .before .before .before .before .before .before .before .before .before .open-card .result .superblock in
     let opened = as-told s (c .before .before .before .before .before .before .before .before .enum-told2 .given .1) (c .before .before .before .before .before .before .before .before .before .before .open-card .ensures .0) in
-    let passed = passes format image (a .counts) (c .before .before .before .before .before .before .before .before .before .before .before .before .before .before .before .before .before .before .pre) s opened in
-    wrote-as (listing-card format image (a .counts) (c .before .before .before .before .before .before .before .before .before .before .before .before .before .before .before .before .before .before .pre) s opened)
-    (wrote-append (omega (arith, c .before .before .before .before .before .before .before .before .before .before .before .before .before .before .before .before .before .before .good .1 .1 .1 .1 .0)) (c .before .before .before .before .before .before .before .before .before .before .before .before .before .before .put-counts .ensures) (c .before .before .list-words .ensures ((accepted format image s passed) .root) (words-hold format image s passed _ _ (c .before .before .before .before .before .before .before .before .before .before .open-card .ensures .1 .0))))
+    let passed = passes format image (a .minutes) (c .before .before .before .before .before .before .before .before .before .before .before .before .before .before .before .before .before .before .pre .1) (a .counts) (c .before .before .before .before .before .before .before .before .before .before .before .before .before .before .before .before .before .before .pre .0) s opened in
+    let root = (accepted format image s passed) .root in
+    let tree = c .before .before .list-words .ensures root (words-hold format image s passed _ _ (c .before .before .before .before .before .before .before .before .before .before .open-card .ensures .1 .0)) in
+    wrote-as (listing-card format image (a .minutes) (c .before .before .before .before .before .before .before .before .before .before .before .before .before .before .before .before .before .before .pre .1) (a .counts) (c .before .before .before .before .before .before .before .before .before .before .before .before .before .before .before .before .before .before .pre .0) s opened)
+    (wrote-append (omega (arith, c .before .before .before .before .before .before .before .before .before .before .before .before .before .before .before .before .before .before .good .1 .1 .1 .1 .1 .0)) (c .before .before .before .before .before .before .before .before .before .before .before .before .before .before .put-counts .ensures) (wrote-as (ap (λ y. treeText y [] (root .slots)) (toZ-ofZ w32 (a .minutes) (c .before .before .before .before .before .before .before .before .before .before .before .before .before .before .before .before .before .before .fits .minutes))) tree))
 
 pub list-card-spec : {M : Type 1} → statement M
 list-card-spec =

@@ -4,6 +4,9 @@ use mathlib.Core.Path.{_∙_, _≡_, ap, refl, sym}
 use native.Mathlib.Omega.{arith}
 use borrow.Author.Needs.{needs}
 use lib.ListN.{length}
+use mir.Syntax.{w32}
+use mir.Val.{ofZ, toZ}
+use mir.ValLaws.{toZ-ofZ}
 use Rattle.layout.specs.See.{viewBy}
 use Rattle.tree.proofs.LookLaws.{step-even, step-odd}
 use Rattle.tree.specs.Slots.{slotPages, clusterAfter}
@@ -25,7 +28,7 @@ use Rattle.listing.proofs.entries.+list_slots.{statement}
 use Rattle.listing.proofs.entries.+list_slots.Tie.{close}
 
 abbrev μ-list-slots : Measures 3 list-slots-kinds.ps ℕ
-μ-list-slots κs a = a .1 .1 .1 .1 .1 .1 .1 .1 .0
+μ-list-slots κs a = a .1 .1 .1 .1 .1 .1 .1 .1 .1 .0
 
 abbrev list-slots-at : ℕ → In 3 list-slots-kinds.ps
 list-slots-at t =
@@ -40,18 +43,18 @@ abbrev calls : ℕ → list-slots-lts.Claims
 calls t = (slot-page-reads.Asked, slot-page-reads.Learnt, list-entry-reads.Asked, list-entry-reads.Learnt, list-slots-below t, list-slots.Post, next-of-reads.Asked, next-of-reads.Learnt)
 
 abbrev list-slots-Inv-loop : list-slots-lts.InvT-loop
-list-slots-Inv-loop image table geometry out₀ at path start count below next₀ c₀ k₀ out next c k =
+list-slots-Inv-loop image table geometry minutes out₀ at path start count below next₀ c₀ k₀ out next c k =
     (k ≤ count) × (c < 2 ^ 32) × (next ≤ most) × (length out ≡ length out₀)
-    × Remains out₀ at (slotsText (viewBy geometry table image) table below (pathBytes path) (slotPages table start 0 count)) out next (left (viewBy geometry table image) table below (pathBytes path) c k count)
+    × Remains out₀ at (slotsText (toZ w32 minutes) (viewBy geometry table image) table below (pathBytes path) (slotPages table start 0 count)) out next (left (toZ w32 minutes) (viewBy geometry table image) table below (pathBytes path) c k count)
 
 abbrev list-slots-μ-loop : list-slots-lts.MeasureT-loop
-list-slots-μ-loop image table geometry out₀ at path start count below next₀ c₀ k₀ out next c k = count - k
+list-slots-μ-loop image table geometry minutes out₀ at path start count below next₀ c₀ k₀ out next c k = count - k
 
 list-slots-loop-holds : (t : ℕ) → list-slots-lts.Need-loop-holds (calls t) (list-slots-at t) list-slots.Post list-slots-Inv-loop list-slots-μ-loop
 list-slots-loop-holds t c =
     let a = c .before .before .before .args in
     let v = viewBy (a .geometry) (a .table .now) (a .image .now) in
-    (omega arith, omega arith, omega arith, refl, λ after end w. wrote-as (left-all v (a .table .now) (a .below) (pathBytes (a .path)) (a .start) (a .count)) w)
+    (omega arith, omega arith, omega arith, refl, λ after end w. wrote-as (left-all (toZ w32 (ofZ w32 (a .minutes))) v (a .table .now) (a .below) (pathBytes (a .path)) (a .start) (a .count)) w)
 
 list-slots-slot-page-requires : (t : ℕ) → list-slots-lts.Need-slot-page-requires (calls t) (list-slots-at t) list-slots.Post list-slots-Inv-loop list-slots-μ-loop
 list-slots-slot-page-requires t c κs = search needs
@@ -91,8 +94,8 @@ list-slots-loop-again t c =
       ⊎-elim (λ z. omega (arith, z .7, z .3 .ensures .place)) (λ z. omega (arith, z .2, line .place)) (c .before .if1 .came),
       ⊎-elim (λ z. ap length (z .6) ∙ wrote-length (z .3 .ensures) ∙ wrote-length line ∙ w .inv .3) (λ z. ap length (z .1) ∙ wrote-length line ∙ w .inv .3) (c .before .if1 .came),
       ⊎-elim
-          (λ z. remains-as (z .6) (z .7) (turn-deep v t (a .below) (pathBytes (a .path)) (w .c) (w .k) (a .count) _ _ (c .before .before .before .before .before .before .before .loop-test .taken) (c .before .before .before .before .before .slot-page .ensures .0) x fits (w .inv .4) line (z .0 .taken) (c .before .before .before .before .list-entry .ensures .1) (z .3 .ensures)))
-          (λ z. remains-as (z .1) (z .2) (turn-flat v t (a .below) (pathBytes (a .path)) (w .c) (w .k) (a .count) _ _ (c .before .before .before .before .before .before .before .loop-test .taken) (c .before .before .before .before .before .slot-page .ensures .0) x fits (w .inv .4) line (omega (arith, z .0 .left))))
+          (λ z. remains-as (z .6) (z .7) (turn-deep (toZ w32 (ofZ w32 (a .minutes))) v t (a .below) (pathBytes (a .path)) (w .c) (w .k) (a .count) _ _ (c .before .before .before .before .before .before .before .loop-test .taken) (c .before .before .before .before .before .slot-page .ensures .0) x fits (w .inv .4) line (z .0 .taken) (c .before .before .before .before .list-entry .ensures .1) (z .3 .ensures)))
+          (λ z. remains-as (z .1) (z .2) (turn-flat (toZ w32 (ofZ w32 (a .minutes))) v t (a .below) (pathBytes (a .path)) (w .c) (w .k) (a .count) _ _ (c .before .before .before .before .before .before .before .loop-test .taken) (c .before .before .before .before .before .slot-page .ensures .0) x fits (w .inv .4) line (omega (arith, z .0 .left))))
           (c .before .if1 .came),
     )
 
@@ -103,7 +106,10 @@ list-slots-returns : (t : ℕ) → list-slots-lts.Need-returns (calls t) (list-s
 list-slots-returns t c =
     let a = c .before .before .before .before .before .args in
     let w = c .before .loop in
-    w .inv .4 (w .out) (w .next) (wrote-as (sym (left-none (viewBy (a .geometry) (a .table .now) (a .image .now)) (a .table .now) (a .below) (pathBytes (a .path)) (w .c) (w .k) (a .count) (omega (arith, c .loop-test .left)))) (wrote-none _ _ (w .inv .2)))
+    let v = viewBy (a .geometry) (a .table .now) (a .image .now) in
+    let same = toZ-ofZ w32 (a .minutes) (c .before .before .before .before .before .fits .minutes) in
+    let whole = w .inv .4 (w .out) (w .next) (wrote-as (sym (left-none (toZ w32 (ofZ w32 (a .minutes))) v (a .table .now) (a .below) (pathBytes (a .path)) (w .c) (w .k) (a .count) (omega (arith, c .loop-test .left)))) (wrote-none _ _ (w .inv .2))) in
+    wrote-as (ap (λ s. slotsText s v (a .table .now) (a .below) (pathBytes (a .path)) (slotPages (a .table .now) (a .start) 0 (a .count))) same) whole
 
 pub +list-slots-spec : {M : Type 1} → statement M
 +list-slots-spec = close μ-list-slots λ t. list-slots-lts.spec (calls t)

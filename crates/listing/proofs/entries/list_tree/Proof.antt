@@ -1,11 +1,16 @@
 -- `list_tree` lists the slots behind cluster 0, as many as the root's first page counts.
-use mathlib.Core.Path.{refl}
+use mathlib.Core.List.{[]}
+use mathlib.Core.Path.{_∙_, ap, refl}
 use borrow.Author.Tests.{not-false, not-true}
+use mir.Syntax.{w32}
+use mir.Val.{ofZ, toZ}
+use mir.ValLaws.{toZ-ofZ}
 use Rattle.layout.specs.See.{viewBy}
 use Rattle.tree.proofs.PageReads.{readable}
 use Rattle.model.proofs.Equality.{tf}
 use Rattle.model.specs.Entry.{entryOf}
 use Rattle.tree.proofs.LookLaws.{was-read}
+use Rattle.listing.specs.Text.{treeText}
 use Rattle.listing.proofs.EmitLaws.{wrote-as}
 use Rattle.listing.proofs.TreeLaws.{root-read}
 use borrow.Author.Needs.{needs}
@@ -41,7 +46,8 @@ returns-2 : tie.Need-returns-2
 returns-2 c =
     let a = c .before .before .before .before .before .before .before .before .before .before .before .before .before .before .before .args in
     λ root card.
-    wrote-as (root-read (viewBy (a .geometry) (a .table .now) (a .image .now)) (a .table .now) (λ n. refl) root card (entryOf (c .before .before .before .before .before .before .before .before .before .before .read-slot .last .1 .1 .1 .1 .0)) _ _ _ _ (was-read (c .before .before .before .before .before .before .before .before .before .before .read-slot .ensures) (not-false _ (c .before .before .before .before .before .before .before .before .before .if1 .left))) (c .before .before .before .before .before .before .before .root-path .ensures .0) (c .before .before .before .before .before .before .next-of .ensures) (c .before .before .before .slots-of .ensures) (c .before .before .before .before .word-at .ensures)) (c .before .before .list-slots .ensures)
+    let text = root-read (toZ w32 (ofZ w32 (a .minutes))) (viewBy (a .geometry) (a .table .now) (a .image .now)) (a .table .now) (λ n. refl) root card (entryOf (c .before .before .before .before .before .before .before .before .before .before .read-slot .last .1 .1 .1 .1 .0)) _ _ _ _ (was-read (c .before .before .before .before .before .before .before .before .before .before .read-slot .ensures) (not-false _ (c .before .before .before .before .before .before .before .before .before .if1 .left))) (c .before .before .before .before .before .before .before .root-path .ensures .0) (c .before .before .before .before .before .before .next-of .ensures) (c .before .before .before .slots-of .ensures) (c .before .before .before .before .word-at .ensures) in
+    wrote-as (text ∙ ap (λ s. treeText s [] (root .slots)) (toZ-ofZ w32 (a .minutes) (c .before .before .before .before .before .before .before .before .before .before .before .before .before .before .before .fits .minutes))) (c .before .before .list-slots .ensures)
 
 pub list-tree-spec : {M : Type 1} → statement M
 list-tree-spec =

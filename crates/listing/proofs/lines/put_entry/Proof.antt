@@ -24,19 +24,32 @@ put-path-requires c κs = search needs
 put-byte-requires-4 : tie.Need-put-byte-requires-4
 put-byte-requires-4 c κs = search needs
 
+put-stamp-requires : tie.Need-put-stamp-requires
+put-stamp-requires c κs = search needs
+
+put-byte-requires-5 : tie.Need-put-byte-requires-5
+put-byte-requires-5 c κs = search needs
+
 same-length : tie.Need-same-length
 same-length c = search needs
 
 returns : tie.Need-returns
 unfolding entryLine
 returns c =
-    wrote-append (omega arith)
-    (wrote-append (omega arith)
-    (wrote-append (omega arith)
-    (wrote-append (omega arith) (wrote-append (omega arith) (c .before .before .before .before .before .before .before .before .before .before .before .before .before .before .before .before .before .before .before .before .before .before .put-byte .ensures) (c .before .before .before .before .before .before .before .before .before .before .before .before .before .before .before .before .before .before .put-byte2 .ensures)) (c .before .before .before .before .before .before .before .before .before .before .before .before .before .before .put-number .ensures))
-    (c .before .before .before .before .before .before .before .before .before .before .put-byte3 .ensures))
-    (c .before .before .before .before .before .before .put-path .ensures))
-    (c .before .before .put-byte4 .ensures)
+    let known = c .before .before .before .before .before .before .before .before .before .before .before .before .before .before .before .before .before .before .before .before .before .before .before .before .before .before .before .before .before .before .before .before .before .good in
+    wrote-append (omega (arith, known .0))
+    (wrote-append (omega (arith, known .0))
+    (wrote-append (omega (arith, known .0))
+    (wrote-append (omega (arith, known .0))
+    (wrote-append (omega (arith, known .0))
+    (wrote-append (omega (arith, known .0))
+    (wrote-append (omega (arith, known .0)) (c .before .before .before .before .before .before .before .before .before .before .before .before .before .before .before .before .before .before .before .before .before .before .before .before .before .before .before .before .before .before .put-byte .ensures) (c .before .before .before .before .before .before .before .before .before .before .before .before .before .before .before .before .before .before .before .before .before .before .before .before .before .before .put-byte2 .ensures))
+    (c .before .before .before .before .before .before .before .before .before .before .before .before .before .before .before .before .before .before .before .before .before .before .put-number .ensures))
+    (c .before .before .before .before .before .before .before .before .before .before .before .before .before .before .before .before .before .before .put-byte3 .ensures))
+    (c .before .before .before .before .before .before .before .before .before .before .before .before .before .before .put-path .ensures))
+    (c .before .before .before .before .before .before .before .before .before .before .put-byte4 .ensures))
+    (c .before .before .before .before .before .before .put-stamp .ensures))
+    (c .before .before .put-byte5 .ensures)
 
 pub put-entry-spec : {M : Type 1} → statement M
 put-entry-spec =
@@ -48,5 +61,7 @@ put-entry-spec =
     put-byte-requires-3
     put-path-requires
     put-byte-requires-4
+    put-stamp-requires
+    put-byte-requires-5
     same-length
     returns)
