@@ -1,8 +1,10 @@
 -- Every call answers alike on a raw image and on a plain one with the same data.
 use Prim.Native.Nat.{ℕ}
+use mathlib.Core.Bool.{cond}
 use mathlib.Core.List.{List}
 use mathlib.Core.Option.{Option, none, some}
 use mathlib.Core.Path.{_∙_, _≡_, ap, ap₂, refl, sym}
+use lib.IntN.{ℤ}
 use Rattle.page.specs.declared.Format.{Format}
 use Rattle.page.specs.declared.Format.the-variants.{Plain, Raw}
 use Rattle.page.specs.Mended.{mendedChunks}
@@ -12,11 +14,12 @@ use Rattle.page.proofs.Twins.{put-both, put-codes}
 use Rattle.fields.specs.PathBytes.{pathOf}
 use Rattle.layout.specs.declared.Superblock.{Superblock}
 use Rattle.layout.specs.See.{checkImage, onImage, see}
-use Rattle.listing.specs.Text.{cardText, listingOf}
+use Rattle.listing.specs.Text.{cardText, listingOf, refusalText, textOf}
 use Rattle.lookup.specs.Find.{findIn}
 use Rattle.lookup.specs.Paths.{onCard, withPath}
 use Rattle.lookup.specs.Read.{readIn}
 use Rattle.lookup.specs.Step.{stepIn}
+use Rattle.model.specs.Calendar.{isShift}
 use Rattle.model.specs.Check.{Marks, Result, andThen, fault, ok}
 use Rattle.model.specs.Names.{Path}
 use Rattle.model.specs.Tree.{Root}
@@ -38,15 +41,15 @@ module _ (one other : Format) (image twin : List ℕ) (same : SameData one other
           rw (a, b) (ap (λ (v : View). ok (countsWith s v root 0)) (see-alike one other image twin same s))
 
   -- the texts where no chunk of either was corrected
-  list-alike : ((p : ℕ) → mendedChunks one image p ≡ 0) → ((p : ℕ) → mendedChunks other twin p ≡ 0) → listingOf one image ≡ listingOf other twin
+  list-alike : ((p : ℕ) → mendedChunks one image p ≡ 0) → ((p : ℕ) → mendedChunks other twin p ≡ 0) → (minutes : ℤ) → listingOf one image minutes ≡ listingOf other twin minutes
   unfolding listingOf
-  list-alike here there = go (checks one other image twin same)
+  list-alike here there minutes = ap (λ text. cond (isShift minutes) text (refusalText 17 0)) (go (checks one other image twin same))
     where
-      go : Checks one other image twin same → listingOf one image ≡ listingOf other twin
+      go : Checks one other image twin same → textOf minutes image (checkImage one image) ≡ textOf minutes twin (checkImage other twin)
       go (Checks.refused n p a b) = rw (a, b)
       go (Checks.accepted s root m a b) =
           rw (a, b)
-          (ap₂ (λ (v : View) (n : ℕ). cardText (countsWith s v root n) root) (see-alike one other image twin same s)
+          (ap₂ (λ (v : View) (n : ℕ). cardText minutes (countsWith s v root n) root) (see-alike one other image twin same s)
           (none-in one image here (cardIn one s) root m a ∙ sym (none-in other twin there (cardIn other s) root m b)))
 
   -- what is asked of a card goes by its tree, and by its numbers but for the format

@@ -2,6 +2,7 @@
 use Prim.Native.Nat.{ℕ}
 use mathlib.Core.List.{List}
 use mathlib.Core.Path.{_≡_}
+use lib.IntN.{ℤ}
 use Rattle.page.specs.declared.Format.{Format}
 use Rattle.page.specs.declared.Format.the-variants.{Plain, Raw}
 use Rattle.page.specs.Twins.{CodesMatch, SameData}
@@ -38,7 +39,7 @@ pub record Alike (raw plain : List ℕ) : Type 0 where
   pub plain-mended : NoneMended Plain plain
   pub codes-mended : CodesMatch raw → NoneMended Raw raw
   pub counts : CodesMatch raw → checkOf Raw raw ≡ checkOf Plain plain
-  pub list : CodesMatch raw → listingOf Raw raw ≡ listingOf Plain plain
+  pub list : CodesMatch raw → (minutes : ℤ) → listingOf Raw raw minutes ≡ listingOf Plain plain minutes
   pub answer : (c : Change) → (changed Raw c raw) .answer ≡ (changed Plain c plain) .answer
   pub left : (c : Change) → SameData Raw Plain ((changed Raw c raw) .image) ((changed Plain c plain) .image)
   pub codes : CodesMatch raw → (c : Change) → CodesMatch ((changed Raw c raw) .image)

@@ -4,8 +4,10 @@ use mathlib.Core.Bool.{cond}
 use mathlib.Core.List.{List}
 use mathlib.Core.Option.{Option}
 use lib.Dec.{eqb}
+use lib.IntN.{ℤ}
 use Rattle.page.specs.declared.Format.{Format}
 use Rattle.page.specs.declared.Format.the-variants.{Plain, Raw}
+use Rattle.model.specs.Calendar.{isShift}
 use Rattle.model.specs.Change.{Change}
 use Rattle.model.specs.Check.{Result, fault}
 use Rattle.model.specs.Entry.{Entry}
@@ -42,8 +44,10 @@ mendedBy number image = byFormat number 0 (λ format. mendedOf format image)
 abbrev pub readMendedBy : ℕ → List ℕ → List ℕ → ℕ → ℕ → ℕ
 readMendedBy number image path offset count = byFormat number 0 (λ format. readMended format image path offset count)
 
-abbrev pub listBy : ℕ → List ℕ → List ℕ
-listBy number image = byFormat number (refusalText 1 0) (λ format. listingOf format image)
+-- a shift that is not allowed is refused before the format too
+abbrev pub listBy : ℕ → List ℕ → ℤ → List ℕ
+listBy number image minutes =
+    byFormat number (cond (isShift minutes) (refusalText 1 0) (refusalText 17 0)) (λ format. listingOf format image minutes)
 
 abbrev pub changeBy : ℕ → Change → List ℕ → Outcome
 changeBy number c image = byFormat number (record { answer = fault 1 0; image = image }) (λ format. changed format c image)

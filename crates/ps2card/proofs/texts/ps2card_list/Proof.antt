@@ -2,7 +2,12 @@
 use mathlib.Core.Path.{_∙_, _≡_, ap, refl, sym}
 use mathlib.Core.List.{List, []}
 use Prim.Native.Nat.{ℕ}
+use mathlib.Core.Bool.{cond}
+use lib.IntN.{ℤ}
 use lib.ListN.{length}
+use mir.Syntax.{w32}
+use mir.ValLaws.{toZ-ofZ}
+use Rattle.model.specs.Calendar.{isShift}
 use Rattle.page.specs.declared.Format.the-variants.{Raw}
 use Rattle.layout.specs.See.{checkImage}
 use Rattle.layout.specs.Table.{openCard, unless}
@@ -13,9 +18,13 @@ use borrow.Author.Needs.{needs}
 use Rattle.ps2card.proofs.texts.ps2card_list.Statement.{statement}
 use Rattle.ps2card.proofs.texts.ps2card_list.Tie as tie
 
-none-listed : listingOf Raw [] ≡ refusalText 1 0
+-- no card, by the minutes
+abbrev none : ℤ → List ℕ
+none minutes = cond (isShift minutes) (refusalText 1 0) (refusalText 17 0)
+
+none-listed : (minutes : ℤ) → listingOf Raw [] minutes ≡ none minutes
 unfolding listingOf checkImage openCard unless andThen
-none-listed = refl
+none-listed minutes = refl
 
 format-of-requires : tie.Need-format-of-requires
 format-of-requires c κs = search needs
@@ -40,7 +49,9 @@ same-length c = search needs
 
 returns : tie.Need-returns
 returns c =
-    let e = unknown-so (refusalText 1 0) (λ f. listingOf f (c .before .before .before .before .before .before .before .before .before .before .args .image .now)) (c .before .before .before .before .before .before .before .before .before .before .args .format) (c .before .before .before .before .before .before .before .format-of .ensures) (c .before .before .before .before .before .enum-told .given .1) ∙ sym none-listed in
+    let a = c .before .before .before .before .before .before .before .before .before .before .args in
+    let image = a .image .now in
+    let e = unknown-so (none (a .minutes)) (λ f. listingOf f image (a .minutes)) (a .format) (c .before .before .before .before .before .before .before .format-of .ensures) (c .before .before .before .before .before .enum-told .given .1) ∙ sym (none-listed (a .minutes)) ∙ ap (listingOf Raw []) (sym (toZ-ofZ w32 (a .minutes) (c .before .before .before .before .before .before .before .before .before .before .fits .minutes))) in
     rw e (c .before .before .list .ensures .0, c .before .before .list .ensures .1)
 
 same-length-2 : tie.Need-same-length-2
@@ -48,7 +59,10 @@ same-length-2 c = search needs
 
 returns-2 : tie.Need-returns-2
 returns-2 c =
-    rw (known-so (refusalText 1 0) (λ f. listingOf f (c .before .before .before .before .before .before .before .before .before .before .args .image .now)) (c .before .before .before .before .before .before .before .before .before .before .args .format) (c .before .before .before .before .before .before .before .format-of .ensures) (c .before .before .before .before .before .named .given .1)) (c .before .before .list2 .ensures .0, c .before .before .list2 .ensures .1)
+    let a = c .before .before .before .before .before .before .before .before .before .before .args in
+    let image = a .image .now in
+    let e = known-so (none (a .minutes)) (λ f. listingOf f image (a .minutes)) (a .format) (c .before .before .before .before .before .before .before .format-of .ensures) (c .before .before .before .before .before .named .given .1) ∙ ap (listingOf _ image) (sym (toZ-ofZ w32 (a .minutes) (c .before .before .before .before .before .before .before .before .before .before .fits .minutes))) in
+    rw e (c .before .before .list2 .ensures .0, c .before .before .list2 .ensures .1)
 
 pub ps2card-list-spec : {M : Type 1} → statement M
 ps2card-list-spec =
