@@ -16,6 +16,7 @@ pub mod requests;
 pub mod samples;
 pub mod scribble;
 mod sketch;
+pub mod stamped;
 pub mod tail;
 pub mod vandal;
 mod wear;

@@ -2,9 +2,11 @@
 //!
 //! It follows document 01, and document 02 where a request has landed, by their
 //! words and shares nothing with the library it tests. Every call but the
-//! conversions checks the whole card first, then judges its own request.
+//! conversions checks the whole card first, then judges its own request; only the
+//! listing judges its minutes before that.
 
 pub mod build;
+pub mod calendar;
 pub mod card;
 pub mod change;
 pub mod content;
@@ -32,7 +34,7 @@ pub use lookup::{find, find_mended, read, read_mended, step, step_mended, Answer
 pub use page::Format;
 pub use tree::{check, Counts};
 
-/// A refusal: its number in document 01, and the image's page index for number 2.
+/// A refusal: its number in documents 01 and 02, and the image's page index for number 2.
 #[derive(Clone, Copy, Debug, PartialEq, Eq, Hash)]
 pub struct Refusal {
     pub number: u8,

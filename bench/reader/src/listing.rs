@@ -1,5 +1,6 @@
 //! The listing: the counts, then every entry in tree order; and the tree as text, a line a path.
 
+use crate::calendar;
 use crate::content::{lines, visit};
 use crate::page::Format;
 use crate::tree::Checked;
@@ -8,8 +9,15 @@ use crate::{sha256, Refusal};
 /// Most bytes the listing program reads.
 pub const PROGRAM_LIMIT: usize = 59_136;
 
-/// The listing of an image of any allowed size, or the refusal's one line.
-pub fn list(format: Format, image: &[u8]) -> String {
+/// The minutes that a listing takes: from 1,260 behind Japan to 300 ahead.
+pub const MOST_BEHIND: i32 = -1260;
+pub const MOST_AHEAD: i32 = 300;
+
+/// The listing of an image of any allowed size, its times shifted by so many minutes, or the refusal's one line.
+pub fn list(format: Format, image: &[u8], minutes: i32) -> String {
+    if !(MOST_BEHIND..=MOST_AHEAD).contains(&minutes) {
+        return format!("{}\n", Refusal::number(17));
+    }
     let checked = match Checked::of(format, image) {
         Ok(checked) => checked,
         Err(refusal) => return format!("{refusal}\n"),
@@ -19,18 +27,19 @@ pub fn list(format: Format, image: &[u8]) -> String {
         if path != b"/" {
             let kind = if node.inside.is_some() { 'd' } else { 'f' };
             let path = std::str::from_utf8(path).expect("names are ASCII");
-            text += &format!("{kind} {} {path}\n", node.entry.length);
+            let time = calendar::text(&node.entry.modified, minutes.into());
+            text += &format!("{kind} {} {path} {time}\n", node.entry.length);
         }
     });
     text
 }
 
-/// What the listing program prints for its standard input, a raw image.
+/// What the listing program prints for its standard input, a raw image: times are Japan's.
 pub fn program(input: &[u8]) -> String {
     if input.len() > PROGRAM_LIMIT {
         return "refused 1\n".to_string();
     }
-    list(Format::Raw, input)
+    list(Format::Raw, input, 0)
 }
 
 /// One line a path: kind, mode, attribute, times, length, first cluster, path, sum of a file's bytes.

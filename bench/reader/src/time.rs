@@ -1,8 +1,13 @@
 //! Times as entries hold them: zero, second, minute, hour, day, month, year (a half).
 
+use std::ops::RangeInclusive;
+
 use crate::page::half;
 
 pub type Time = [u8; 8];
+
+/// The years of valid times.
+pub const YEARS: RangeInclusive<u16> = 1980..=9999;
 
 /// Days in each month, for ordinary and for leap years.
 const DAYS: [[u8; 12]; 2] =
@@ -12,7 +17,12 @@ fn is_leap(year: u16) -> bool {
     year.is_multiple_of(4) && (!year.is_multiple_of(100) || year.is_multiple_of(400))
 }
 
-/// Whether a time handed to a change is valid; otherwise it is refused with 14.
+/// Days of a month, 1 to 12.
+pub fn days_in(year: u16, month: u8) -> u8 {
+    DAYS[usize::from(is_leap(year))][usize::from(month) - 1]
+}
+
+/// Whether a time is valid. One handed to a change is otherwise refused with 14, a stored one is otherwise unknown.
 pub fn valid(time: &Time) -> bool {
     let [zero, second, minute, hour, day, month, ..] = *time;
     let year = half(time, 6);
@@ -21,8 +31,8 @@ pub fn valid(time: &Time) -> bool {
         && minute <= 59
         && hour <= 23
         && (1..=12).contains(&month)
-        && (1980..=9999).contains(&year)
-        && (1..=DAYS[usize::from(is_leap(year))][usize::from(month) - 1]).contains(&day)
+        && YEARS.contains(&year)
+        && (1..=days_in(year, month)).contains(&day)
 }
 
 /// A time from its parts, unjudged.

@@ -44,7 +44,7 @@ fn every_call_checks_first() {
         assert_eq!(make_dir(format, &mut image, b"/", &bad_time), refusal);
         assert_eq!(delete(format, &mut image, b"/F"), refusal);
         assert_eq!(remove_dir(format, &mut image, b"/"), refusal);
-        assert_eq!(list(format, &image), format!("{}\n", card.refusal));
+        assert_eq!(list(format, &image, 0), format!("{}\n", card.refusal));
         assert_eq!(image, card.image, "{}", card.name);
     }
 }

@@ -128,7 +128,7 @@ fn greatest_directory() {
         assert_eq!(number(create(format, &mut image, b"/one more", &time, b"")), 12);
         assert_eq!(find(format, &image, b"/").unwrap().length, 130_512);
         assert_eq!(step(format, &image, b"/", 130_511).unwrap().unwrap().1.name(), Some(&b"last"[..]));
-        assert_eq!(list(format, &image).lines().count(), 6 + 130_510);
+        assert_eq!(list(format, &image, 300).lines().count(), 6 + 130_510);
         assert_eq!(delete(format, &mut image, b"/file77777"), Ok(()));
         assert_eq!(create(format, &mut image, b"/one more", &time, b""), Ok(()));
         assert_eq!(step(format, &image, b"/", 77_777).unwrap().unwrap().1.name(), Some(&b"one more"[..]));

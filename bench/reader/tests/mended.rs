@@ -41,7 +41,7 @@ fn listed_count(text: &str) -> usize {
 fn count(format: Format, image: &[u8]) -> usize {
     let mended = check(format, image).unwrap().mended;
     let mut buffer = [5; 600];
-    assert_eq!(listed_count(&list(format, image)), mended);
+    assert_eq!(listed_count(&list(format, image, 0)), mended);
     for path in [&b"/"[..], b"/D", b"/F", b"/D/D2/D3/deep"] {
         let value = find(format, image, path).unwrap();
         assert_eq!(find_mended(format, image, path), Ok(Answer { value, mended }));
@@ -205,7 +205,7 @@ fn refusals() {
     flip(Raw, &mut image, 25, 1, 0);
     let refusal = Refusal::unreadable(25);
     assert_eq!(check(Raw, &image), Err(refusal));
-    assert_eq!([list(Raw, &image), program(&image)], ["refused 2 25\n"; 2]);
+    assert_eq!([list(Raw, &image, 0), program(&image)], ["refused 2 25\n"; 2]);
     assert_eq!(find_mended(Raw, &image, b"/F"), Err(refusal));
     assert_eq!(step_mended(Raw, &image, b"/", 0), Err(refusal));
     assert_eq!(read_mended(Raw, &image, b"/F", 0, &mut buffer), Err(refusal));
@@ -242,13 +242,13 @@ fn listing() {
     let mut image = bench(Raw);
     make_dir(Raw, &mut image, b"/SAVE", &usual_time()).unwrap();
     create(Raw, &mut image, b"/SAVE/A", &usual_time(), &[1; 1500]).unwrap();
-    let entries = "d 3 /SAVE\nf 1500 /SAVE/A\n";
+    let entries = "d 3 /SAVE 2000-02-29 12:34:56\nf 1500 /SAVE/A 2000-02-29 12:34:56\n";
     assert_eq!(program(&image), text(24, 6, 0, entries));
     // The indirect cluster, the table, the root's `.`, the entry of A in cluster 3, and A's first page in cluster 4.
     flip_chunks(&mut image, &[(16, 0), (18, 0), (18, 1), (20, 2), (26, 0), (26, 1), (26, 3), (28, 0)]);
     assert_eq!(program(&image), text(24, 6, 7, entries));
     assert_eq!(delete(Raw, &mut image, b"/SAVE/A"), Ok(()));
-    assert_eq!(program(&image), text(26, 4, 2, "d 3 /SAVE\n"));
+    assert_eq!(program(&image), text(26, 4, 2, "d 3 /SAVE 2000-02-29 12:34:56\n"));
 }
 
 /// Random cards: what the builder flipped, page by page, is what every call reports.
@@ -267,7 +267,7 @@ fn random_cards() {
         }
         let expected = pages.iter().map(flips).sum();
         assert_eq!(check(Raw, image).unwrap().mended, expected, "seed {seed}");
-        assert_eq!(listed_count(&list(Raw, image)), expected, "seed {seed}");
+        assert_eq!(listed_count(&list(Raw, image, 0)), expected, "seed {seed}");
         mended += expected;
         let items: Vec<_> = tree(Raw, image).unwrap().into_iter().collect();
         for _ in 0..12 {

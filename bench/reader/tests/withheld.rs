@@ -20,7 +20,7 @@ fn good_cards() {
         let end = Checked::of(card.format, &card.image).unwrap().card.alloc_end;
         assert_eq!(free + reached + orphaned + held, end, "{}", card.name);
         let line = format!("\norphaned {orphaned}\nheld {held}\nmended 0\n");
-        assert!(list(card.format, &card.image).contains(&line), "{}", card.name);
+        assert!(list(card.format, &card.image, 0).contains(&line), "{}", card.name);
     }
 }
 

@@ -1,6 +1,6 @@
 //! The images that the listing programs are run on, all of them raw, and what they must print.
 
-use super::{bad, bench, good, usual_time};
+use super::{bad, bench, good, stamped, usual_time};
 use crate::page::Format::Raw;
 use crate::time::stamp;
 use crate::{create, make_dir, program};
@@ -65,6 +65,11 @@ pub fn shop() -> Vec<u8> {
     image
 }
 
+/// The bench card with a file for each of the telling stamps, valid and invalid.
+pub fn times() -> Vec<u8> {
+    stamped::stamped(Raw, &[stamped::valid(), stamped::invalid()].concat())
+}
+
 /// Every image of the program `cards`, in its order.
 pub fn all() -> Samples {
     let mut samples = vec![("bench", bench(Raw)), ("save", save())];
@@ -82,6 +87,7 @@ pub fn all() -> Samples {
     let mut long = bench(Raw);
     long.push(0);
     samples.push(("long", long));
+    samples.push(("times", times()));
     samples
 }
 
