@@ -85,14 +85,14 @@ static void put_note(void) {
     printf("note %s\n", count == strlen(note) && memcmp(back, note, count) == 0 ? "kept" : "differs");
 }
 
-/* The listing: asked for its length first. An accepted card has at least its counts. */
+/* The listing, in Japan's time: asked for its length first. An accepted card has at least its counts. */
 static void show_listing(void) {
-    size_t length = ps2card_list(format, image, image_length, NULL, 0);
+    size_t length = ps2card_list(format, image, image_length, 0, NULL, 0);
     uint8_t *text = (uint8_t *)malloc(length);
     if (text == NULL) {
         exit(2);
     }
-    ps2card_list(format, image, image_length, text, length);
+    ps2card_list(format, image, image_length, 0, text, length);
     fwrite(text, 1, length, stdout);
     free(text);
 }

@@ -41,6 +41,9 @@
  * time: 8 bytes, as an entry holds them: zero, second, minute, hour, day, month, year in two bytes, low one first; a
  *   date that the calendar has, of the years 1980 to 9999. Cards hold Japan's time (UTC+9, all year), whatever the
  *   console's own zone; the library takes the bytes as they are and asks no clock.
+ * minutes: how far the listing's times are ahead of Japan's, or behind them where it is below zero: -1,260 to 300, so
+ *   that every zone from UTC-12 to UTC+14 has its own. It is the zone's minutes ahead of UTC less 540: 0 is Japan, -540
+ *   is UTC itself.
  *
  * The answer is 0, or the number of a refusal (enum ps2card_refusal). On a refusal the image and every output stay as
  * they were; only number 2 writes the unreadable page's index in the image to page, and nothing else writes to page.
@@ -57,9 +60,9 @@
 #include <stddef.h>
 #include <stdint.h>
 
-#define PS2CARD_VERSION "0.6.0"
+#define PS2CARD_VERSION "0.7.0"
 /* 10,000 for each major, 100 for each minor version, and the patch. */
-#define PS2CARD_VERSION_NUMBER 600
+#define PS2CARD_VERSION_NUMBER 700
 
 /* Clusters of the largest card. */
 #define PS2CARD_MOST_CLUSTERS 65536
@@ -71,17 +74,22 @@
 #define PS2CARD_PLAIN_CLUSTER_BYTES 1024
 #define PS2CARD_PLAIN_MOST_BYTES (PS2CARD_MOST_CLUSTERS * PS2CARD_PLAIN_CLUSTER_BYTES)
 
+/* Minutes of a listing: furthest behind Japan, and furthest ahead. */
+#define PS2CARD_LEAST_MINUTES (-1260)
+#define PS2CARD_MOST_MINUTES 300
+
 /* The formats of an image. */
 enum ps2card_format {
     PS2CARD_RAW = 0,  /* pages of 528 bytes: data and spare bytes */
     PS2CARD_PLAIN = 1 /* pages of 512 bytes: data alone */
 };
 
-/* The refusals, in their order: of several that apply, the first is told. Among 1 to 7 that is the first fault that the
- * check meets on its way. The page of a file's data (2, by ps2card_read) comes after all others. The conversions tell
- * 1, 23 and 2 in this order. */
+/* The refusals, in their order: of several that apply, the first is told. Number 17, which only the listing tells,
+ * comes before all others. Among 1 to 7 the first fault that the check meets on its way is told. The page of a file's
+ * data (2, by ps2card_read) comes after all others. The conversions tell 1, 23 and 2 in this order. */
 enum ps2card_refusal {
     PS2CARD_DONE = 0,            /* no refusal */
+    PS2CARD_BAD_SHIFT = 17,      /* the number of minutes is none from -1,260 to 300 */
     PS2CARD_BAD_LENGTH = 1,      /* the image's length is that of no card */
     PS2CARD_UNREADABLE_PAGE = 2, /* a needed page is damaged beyond correction */
     PS2CARD_BAD_TEXT = 3,        /* the format text differs */
@@ -159,21 +167,27 @@ uint32_t ps2card_read(uint32_t format, const uint8_t *image, size_t image_length
                       size_t path_length, size_t offset, uint8_t *out, size_t out_length, size_t *page, size_t *count,
                       size_t *mended);
 
-/* Writes the listing into out, as much of it as fits. The answer is the whole text's length, without a zero at the end:
- * a call with out_length 0 tells how much room it needs. The rest of out stays as it was. The lines, each with a
- * newline at its end:
+/* Writes the listing into out, as much of it as fits, its times shifted by so many minutes. The answer is the whole
+ * text's length, without a zero at the end: a call with out_length 0 tells how much room it needs. The rest of out
+ * stays as it was. The lines, each with a newline at its end:
  *   card CLUSTERS
  *   free COUNT
  *   reached COUNT
  *   orphaned COUNT
  *   held COUNT
  *   mended COUNT
- *   d ENTRIES PATH       a directory; its first two entries and dead ones count too
- *   f BYTES PATH         a file
- * the last two for each entry in tree order: slot order, a directory before its inside; the root has no line. On a
- * refusal the text is one line, "refused N" or "refused 2 PAGE".
+ *   d ENTRIES PATH YYYY-MM-DD hh:mm:ss    a directory; its first two entries and dead ones count too
+ *   f BYTES PATH YYYY-MM-DD hh:mm:ss      a file
+ * the last two for each entry in tree order: slot order, a directory before its inside; the root has no line. Such a
+ * line has no more than 290 bytes, its newline included. The time is that of the last change; where the entry holds no
+ * valid time, at 0 minutes too, or the shifted one is not of the years 1980 to 9999, the word unknown stands for it.
+ * Names may have blanks, and end in what looks like a time or in that word: take a line apart from its end. If it ends
+ * in " unknown", the path is what stands before that; if not, the last 20 bytes are a blank and the time.
+ * On a refusal the text is one line, "refused N" or "refused 2 PAGE".
+ * Refusals: 17 before all others, whatever format and image are; 1 to 7.
  * Stack: at most 1,200 KiB. */
-size_t ps2card_list(uint32_t format, const uint8_t *image, size_t image_length, uint8_t *out, size_t out_length);
+size_t ps2card_list(uint32_t format, const uint8_t *image, size_t image_length, int32_t minutes, uint8_t *out,
+                    size_t out_length);
 
 /* Creates a file with these bytes at a path; both its times become the given one.
  * Refusals: 1 to 12, 14. Untouched on a refusal: the whole image.

@@ -1,12 +1,18 @@
 //! The calls that look at a card.
 
+use std::ops::RangeInclusive;
+
 use ps2card_sys as calls;
 
 use crate::card::verdict;
 use crate::{Card, Counts, Entry, Refusal};
 
-/// Bytes of the longest line of an entry in the listing: kind, number and path, two blanks and the line's end.
-const MOST_LINE: usize = 1 + 10 + 256 + 3;
+/// How many minutes the times of a listing may be ahead of Japan's, or behind it where they are below zero. It is a
+/// zone's minutes ahead of UTC less 540; every zone is among them, from 12 hours behind UTC to 14 ahead.
+pub const MINUTES: RangeInclusive<i32> = -1_260..=300;
+
+/// Bytes of the longest line of an entry in the listing: kind, number, path and time, three blanks and the line's end.
+const MOST_LINE: usize = 1 + 10 + 256 + 19 + 4;
 /// Room for the lines of the counts, each with the most that a card can have: its clusters, four chunks of each page.
 const COUNT_LINES: usize = "card 65536\nfree 65536\nreached 65536\norphaned 65536\nheld 65536\nmended 524288\n".len();
 
@@ -84,7 +90,7 @@ impl<B: AsRef<[u8]>> Card<B> {
     }
 
     /// Every live entry of a directory after its first two, in slot order. Each is a step with a check of its own:
-    /// [`Card::tree`] has kinds, lengths and paths of the whole card by one check.
+    /// [`Card::tree`] has kinds, lengths, paths and times of change of the whole card by one check.
     pub fn entries(&self, path: &[u8]) -> Result<Vec<Entry>, Refusal> {
         let mut entries = Vec::new();
         let mut slot = 2;
@@ -117,26 +123,46 @@ impl<B: AsRef<[u8]>> Card<B> {
         self.bytes_mended(path, offset, most).map(|read| read.answer)
     }
 
-    /// The listing: the counts, then every entry in tree order, a line each.
+    /// The listing: the counts, then every entry in tree order, a line each, with the time of its last change in Japan.
     ///
     /// ```
     /// use ps2card::{Card, Format, Stamp};
     ///
-    /// let mut card = Card::fresh(Format::Raw, 56, &Stamp::now())?;
-    /// card.make_dir(b"/SAVE", &Stamp::now())?;
-    /// card.create(b"/SAVE/A", &Stamp::now(), &[0; 1500])?;
+    /// let time = Stamp::parse("2000-02-29T12:34:56").unwrap();
+    /// let mut card = Card::fresh(Format::Raw, 56, &time)?;
+    /// card.make_dir(b"/SAVE", &time)?;
+    /// card.create(b"/SAVE/A", &time, &[0; 1500])?;
     /// let counts = "card 56\nfree 24\nreached 6\norphaned 0\nheld 0\nmended 0\n";
-    /// assert_eq!(card.list()?, format!("{counts}d 3 /SAVE\nf 1500 /SAVE/A\n").as_bytes());
+    /// let entries = "d 3 /SAVE 2000-02-29 12:34:56\nf 1500 /SAVE/A 2000-02-29 12:34:56\n";
+    /// assert_eq!(card.list()?, format!("{counts}{entries}").as_bytes());
     /// # Ok::<(), ps2card::Refusal>(())
     /// ```
     pub fn list(&self) -> Result<Vec<u8>, Refusal> {
+        self.list_at(0)
+    }
+
+    /// [`Card::list`] with every time shifted: so many minutes ahead of Japan's, or behind it where they are below zero.
+    /// A number outside [`MINUTES`] is refused before all else. An invalid time, and one that the shift takes out of
+    /// the years 1980 to 9999, is the word `unknown`.
+    ///
+    /// ```
+    /// use ps2card::{Card, Format, Refusal, Stamp};
+    ///
+    /// let mut card = Card::fresh(Format::Raw, 56, &Stamp::now())?;
+    /// card.create(b"/A", &Stamp::parse("2000-03-01T08:59:59").unwrap(), b"")?;
+    /// // UTC is nine hours behind Japan.
+    /// assert!(card.list_at(-540)?.ends_with(b"\nf 0 /A 2000-02-29 23:59:59\n"));
+    /// assert_eq!(Card::raw(&b"no card"[..]).list_at(301), Err(Refusal::BadShift));
+    /// # Ok::<(), Refusal>(())
+    /// ```
+    pub fn list_at(&self, minutes: i32) -> Result<Vec<u8>, Refusal> {
         // No entry without a page of its own: one call will do, so one check. What is longer than a card is refused.
         let pages = self.image().len().min(self.format.most_bytes()) / self.format.page_bytes();
         let mut text = vec![0; COUNT_LINES + pages * MOST_LINE];
-        let length = self.list_into(&mut text);
+        let length = self.list_into(minutes, &mut text);
         if length > text.len() {
             text.resize(length, 0);
-            self.list_into(&mut text);
+            self.list_into(minutes, &mut text);
         }
         text.truncate(length);
         text.shrink_to_fit();
@@ -147,10 +173,10 @@ impl<B: AsRef<[u8]>> Card<B> {
     }
 
     /// Writes as much of the listing, or of a refusal's line, as fits; the whole text's length.
-    fn list_into(&self, text: &mut [u8]) -> usize {
-        let image = self.image();
+    fn list_into(&self, minutes: i32, text: &mut [u8]) -> usize {
+        let (format, image) = (self.format.number(), self.image());
         // SAFETY: the image is one slice, with its length, and only read; the text is borrowed mutably, so it does not
         // overlap it. Both outlive the call.
-        unsafe { calls::ps2card_list(self.format.number(), image.as_ptr(), image.len(), text.as_mut_ptr(), text.len()) }
+        unsafe { calls::ps2card_list(format, image.as_ptr(), image.len(), minutes, text.as_mut_ptr(), text.len()) }
     }
 }

@@ -72,16 +72,25 @@ impl Stamp {
 }
 
 fn parse_date(text: &[u8]) -> Option<Stamp> {
+    let (year, [month, day, hour, minute, second]) = date_parts(text, b'T')?;
+    Some(Stamp::of(year, month, day, [second, minute, hour]))
+}
+
+/// The year, and month, day, hour, minute and second, of a text `YYYY-MM-DDThh:mm:ss` with this byte for its T.
+pub(crate) fn date_parts(text: &[u8], between: u8) -> Option<(u16, [u8; 5])> {
     let form = b"dddd-dd-ddTdd:dd:dd";
-    let fits = |(&byte, &place): (&u8, &u8)| if place == b'd' { byte.is_ascii_digit() } else { byte == place };
+    let fits = |(&byte, &place): (&u8, &u8)| match place {
+        b'd' => byte.is_ascii_digit(),
+        b'T' => byte == between,
+        _ => byte == place,
+    };
     if text.len() != form.len() || !text.iter().zip(form).all(fits) {
         return None;
     }
     let number = |at: usize, digits: usize| {
         text[at..at + digits].iter().fold(0u16, |value, digit| 10 * value + u16::from(digit - b'0'))
     };
-    let two = |at| number(at, 2) as u8;
-    Some(Stamp::of(number(0, 4), two(5), two(8), [two(17), two(14), two(11)]))
+    Some((number(0, 4), [5, 8, 11, 14, 17].map(|at| number(at, 2) as u8)))
 }
 
 fn parse_hex(digits: &[u8]) -> Option<Stamp> {

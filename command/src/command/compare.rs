@@ -62,7 +62,7 @@ fn compare(call: &Call) -> Result<(), Failure> {
 
 /// A card's tree by path, the root too.
 fn lines(image: &Image) -> Result<BTreeMap<Vec<u8>, Line>, Failure> {
-    let root = Line { kind: Kind::Directory, length: 0, path: b"/".to_vec() };
+    let root = Line { kind: Kind::Directory, length: 0, path: b"/".to_vec(), modified: None };
     Ok(image.tree()?.into_iter().chain([root]).map(|line| (line.path.clone(), line)).collect())
 }
 

@@ -82,8 +82,15 @@ extern "C" {
         mended: *mut usize,
     ) -> u32;
 
-    /// Writes the listing and answers its whole length.
-    pub fn ps2card_list(format: u32, image: *const u8, image_length: usize, out: *mut u8, out_length: usize) -> usize;
+    /// Writes the listing, its times shifted by so many minutes, and answers its whole length.
+    pub fn ps2card_list(
+        format: u32,
+        image: *const u8,
+        image_length: usize,
+        minutes: i32,
+        out: *mut u8,
+        out_length: usize,
+    ) -> usize;
 
     /// Creates a file.
     pub fn ps2card_create(
