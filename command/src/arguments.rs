@@ -8,6 +8,7 @@ use std::path::Path;
 use ps2card::{Format, Stamp};
 
 use crate::failure::Failure;
+use crate::shift;
 
 /// What a command is called and what it takes.
 pub struct Syntax {
@@ -36,6 +37,8 @@ impl Syntax {
 pub enum Opt {
     Stamp,
     As,
+    Minutes,
+    Zone,
     Recursive,
     Long,
     BytesOnly,
@@ -46,9 +49,11 @@ pub enum Opt {
     ToRaw,
 }
 
-const OPTIONS: [(&str, Opt); 10] = [
+const OPTIONS: [(&str, Opt); 12] = [
     ("--stamp", Opt::Stamp),
     ("--as", Opt::As),
+    ("--minutes", Opt::Minutes),
+    ("--zone", Opt::Zone),
     ("-r", Opt::Recursive),
     ("-l", Opt::Long),
     ("--bytes-only", Opt::BytesOnly),
@@ -62,7 +67,7 @@ const OPTIONS: [(&str, Opt); 10] = [
 impl Opt {
     /// Whether a value follows.
     fn has_value(self) -> bool {
-        matches!(self, Opt::Stamp | Opt::As)
+        matches!(self, Opt::Stamp | Opt::As | Opt::Minutes | Opt::Zone)
     }
 }
 
@@ -79,6 +84,7 @@ pub struct Call {
     words: Vec<OsString>,
     options: Vec<(Opt, OsString)>,
     stamp: Option<Stamp>,
+    minutes: Option<i32>,
 }
 
 impl Call {
@@ -146,6 +152,11 @@ impl Call {
         self.stamp.unwrap_or_else(Stamp::now)
     }
 
+    /// How far the times of a listing are to be ahead of Japan's, where that was said.
+    pub fn minutes(&self) -> Option<i32> {
+        self.minutes
+    }
+
     /// An error in this command's line.
     pub fn usage(&self, words: String) -> Failure {
         Failure::Usage(words, Some(self.syntax.usage()))
@@ -188,8 +199,9 @@ pub fn parse(words: Vec<OsString>, commands: &[&'static Syntax]) -> Result<Reque
             return wrong(&format!("takes no {name}"));
         }
     }
-    let mut call = Call { syntax, words: rest, options, stamp: None };
+    let mut call = Call { syntax, words: rest, options, stamp: None, minutes: None };
     call.stamp = call.value(Opt::Stamp).map(|text| parse_stamp(text, &call)).transpose()?;
+    call.minutes = parse_minutes(&call)?;
     Ok(Request::Run(place, call))
 }
 
@@ -219,4 +231,18 @@ fn parse_stamp(text: &OsStr, call: &Call) -> Result<Stamp, Failure> {
         let form = "YYYY-MM-DDThh:mm:ss, or 0x and 16 hex digits";
         call.usage(format!("--stamp takes {form}, not {}", text.display()))
     })
+}
+
+/// The shift that one of two options says, each in its own way.
+fn parse_minutes(call: &Call) -> Result<Option<i32>, Failure> {
+    let (text, minutes, form) = match (call.value(Opt::Minutes), call.value(Opt::Zone)) {
+        (None, None) => return Ok(None),
+        (Some(_), Some(_)) => return Err(call.usage("--minutes and --zone say the same: give one of them".to_string())),
+        (Some(text), None) => (text, shift::of_minutes(text), "--minutes takes a number, such as -540 or 60"),
+        (None, Some(text)) => (text, shift::of_zone(text), "--zone takes +hh:mm or -hh:mm from UTC, such as +01:00"),
+    };
+    match minutes {
+        Some(minutes) => Ok(Some(minutes)),
+        None => Err(call.usage(format!("{form}, not {}", text.display()))),
+    }
 }

@@ -6,6 +6,7 @@ mod failure;
 mod host_time;
 mod output;
 mod sha256;
+mod shift;
 
 use std::ffi::OsString;
 use std::os::raw::c_int;

@@ -36,12 +36,16 @@ impl<'a> Image<'a> {
         self.card.check().map_err(|refusal| self.refused(refusal))
     }
 
-    pub fn list(&self) -> Result<Vec<u8>, Failure> {
-        self.card.list().map_err(|refusal| self.refused(refusal))
+    pub fn list(&self, minutes: i32) -> Result<Vec<u8>, Failure> {
+        self.card.list_at(minutes).map_err(|refusal| self.refused(refusal))
     }
 
     pub fn tree(&self) -> Result<Vec<Line>, Failure> {
-        self.looked(self.card.tree_mended()).map_err(|refusal| self.refused(refusal))
+        self.tree_at(0)
+    }
+
+    pub fn tree_at(&self, minutes: i32) -> Result<Vec<Line>, Failure> {
+        self.looked(self.card.tree_mended_at(minutes)).map_err(|refusal| self.refused(refusal))
     }
 
     pub fn find(&self, path: &[u8]) -> Result<Entry, Failure> {

@@ -10,10 +10,10 @@ pub const LIST: Command = Command {
         name: "list",
         alias: None,
         words: 1..=1,
-        options: &[Opt::Plain],
+        options: &[Opt::Minutes, Opt::Zone, Opt::Plain],
         help: include_str!("../help/list.txt"),
     },
-    run: |call| print(&Image::load(call.format(), call.image())?.list()?),
+    run: |call| print(&Image::load(call.format(), call.image())?.list(call.minutes().unwrap_or(0))?),
 };
 
 pub const FIND: Command = Command {

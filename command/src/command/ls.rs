@@ -8,14 +8,13 @@ use super::image::Image;
 use super::{look, print, Command};
 use crate::arguments::{Call, Opt, Syntax};
 use crate::failure::Failure;
-use crate::output;
 
 pub const LS: Command = Command {
     syntax: Syntax {
         name: "ls",
         alias: None,
         words: 1..=2,
-        options: &[Opt::Long, Opt::Plain],
+        options: &[Opt::Long, Opt::Minutes, Opt::Zone, Opt::Plain],
         help: include_str!("../help/ls.txt"),
     },
     run: |call| look(call, |image| ls(image, call)),
@@ -31,52 +30,38 @@ struct Row {
 
 fn ls(image: &Image, call: &Call) -> Result<(), Failure> {
     let path: &[u8] = if call.has(1) { call.bytes(1) } else { b"/" };
-    let long = call.asked(Opt::Long);
-    let entry = image.find(path)?;
-    if entry.kind() == Kind::File {
-        let time = long.then(|| entry.modified.to_string());
-        let (size, name) = (bytes(entry.length), String::from_utf8_lossy(entry.name()).into_owned());
-        return show(&[Row { kind: Kind::File, size, time, name }]);
-    }
-    let tree = image.tree()?;
-    let rows = rows(image, &tree, path, long)?;
-    match rows.is_empty() {
+    // The listing has all that is shown: one check of the card.
+    let tree = image.tree_at(call.minutes().unwrap_or(0))?;
+    let lines: Vec<&Line> = match tree.iter().find(|line| line.path == path) {
+        Some(line) if line.kind == Kind::File => vec![line],
+        // In slot order, which the tree's order is inside a directory.
+        found if found.is_some() || path == b"/" => tree.iter().filter(|line| line.parent() == path).collect(),
+        // Nothing stands there: the library says why.
+        _ => return image.find(path).map(drop),
+    };
+    match lines.is_empty() {
         true => print(format!("{} is empty\n", path.escape_ascii()).as_bytes()),
-        false => show(&rows),
+        false => show(&rows(&tree, &lines, call.asked(Opt::Long) || call.minutes().is_some())),
     }
 }
 
-/// The entries of a directory in slot order, which the tree's order is inside it.
-fn rows(image: &Image, tree: &[Line], path: &[u8], long: bool) -> Result<Vec<Row>, Failure> {
+fn rows(tree: &[Line], lines: &[&Line], timed: bool) -> Vec<Row> {
     let mut inside: HashMap<&[u8], usize> = HashMap::new();
     tree.iter().for_each(|line| *inside.entry(line.parent()).or_default() += 1);
-    let lines: Vec<&Line> = tree.iter().filter(|line| line.parent() == path).collect();
-    if long {
-        output::expect(lines.len());
-    }
-    let mut rows = Vec::new();
-    for line in lines {
+    let row = |line: &&Line| {
         let size = match line.kind {
-            Kind::File => bytes(line.length),
-            Kind::Directory => match inside.get(&line.path[..]).copied().unwrap_or(0) {
-                1 => "1 entry".to_string(),
-                count => format!("{count} entries"),
-            },
+            Kind::File => counted(line.length as usize, "byte", "bytes"),
+            Kind::Directory => counted(inside.get(&line.path[..]).copied().unwrap_or(0), "entry", "entries"),
         };
-        // The listing has no times: each of them is a call of its own, and a check.
-        let time = if long { Some(image.find(&line.path)?.modified.to_string()) } else { None };
-        output::advance();
+        let time = || line.modified.map_or("unknown".to_string(), |time| time.to_string());
         let name = line.path.rsplit(|&byte| byte == b'/').next().unwrap_or_default();
-        rows.push(Row { kind: line.kind, size, time, name: String::from_utf8_lossy(name).into_owned() });
-    }
-    Ok(rows)
+        Row { kind: line.kind, size, time: timed.then(time), name: String::from_utf8_lossy(name).into_owned() }
+    };
+    lines.iter().map(row).collect()
 }
 
-fn bytes(length: u32) -> String {
-    match length {
-        1 => "1 byte".to_string(),
-        length => format!("{length} bytes"),
-    }
+fn counted(count: usize, one: &str, more: &str) -> String {
+    format!("{count} {}", if count == 1 { one } else { more })
 }
 
 fn show(rows: &[Row]) -> Result<(), Failure> {
