@@ -2,7 +2,7 @@
 
 mod common;
 
-use common::{Folder, USUAL};
+use common::{Folder, USUAL, USUAL_LISTED};
 use reader::build::listed::fresh_with;
 use reader::build::{directory, file, Assembly, Layout};
 use reader::entry::NO_CLUSTER;
@@ -116,9 +116,9 @@ fn beside_the_tail() {
         at.folder.write("more", &vec![7; 7_990 * 1024 + 1]);
         at.folder.write("just", &vec![7; 7_990 * 1024]);
         at.refused(&["create", "card", "/A", "more"], 12);
-        at.run(&["create", "card", "/A", "just"]);
+        at.run(&["create", "card", "/A", "just", "--stamp", USUAL]);
         let counts = "card 8192\nfree 0\nreached 7992\norphaned 0\nheld 143\nmended 0\n";
-        assert_eq!(at.run(&["list", "card"]), format!("{counts}f 8181760 /A\n").as_bytes());
+        assert_eq!(at.run(&["list", "card"]), format!("{counts}f 8181760 /A {USUAL_LISTED}\n").as_bytes());
         at.refused(&["mkdir", "card", "/D"], 12);
         at.run(&["rm", "card", "/A"]);
         let counts = "card 8192\nfree 7990\nreached 2\norphaned 0\nheld 143\nmended 0\n";
@@ -229,7 +229,8 @@ fn converted_cards() {
     let counts = "card 56\nfree 10\nreached 8\norphaned 0\nheld 12\nmended 0\n";
     for (name, option) in [("card", None), ("plain", Some("--plain")), ("again", None)] {
         let words: Vec<&str> = ["list", name].into_iter().chain(option).collect();
-        assert_eq!(at.run(&words), format!("{counts}f 4000 /F\nd 3 /D\nf 0 /D/old\n").as_bytes());
+        let entries = ["f 4000 /F", "d 3 /D", "f 0 /D/old"].map(|entry| format!("{entry} {USUAL_LISTED}\n"));
+        assert_eq!(at.run(&words), format!("{counts}{}", entries.concat()).as_bytes());
         assert_eq!(at.folder.read(name)[0xD0..0x150], at.folder.read("card")[0xD0..0x150]);
     }
     let words = at.run(&["compare", "card", "plain", "--plain-b"]);

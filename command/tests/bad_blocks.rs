@@ -2,7 +2,7 @@
 
 mod common;
 
-use common::{in_wrapper, Folder, USUAL};
+use common::{in_wrapper, Folder, USUAL, USUAL_LISTED};
 use ps2card::Card;
 use reader::build::listed::fresh_with;
 use reader::build::{directory, file, Assembly, Layout};
@@ -78,7 +78,8 @@ fn chains_in_a_bad_block() {
         folder.write("card", &card.finish());
         let counts = "card 56\nfree 19\nreached 6\norphaned 1\nheld 4\nmended 0\n";
         assert_eq!(folder.run(&["check", "card"]).text(), format!("card: OK, 19 KB free\n{counts}"));
-        assert_eq!(folder.run(&["list", "card"]).text(), format!("{counts}f 3000 /F\nd 2 /D\n"));
+        let entries = format!("f 3000 /F {USUAL_LISTED}\nd 2 /D {USUAL_LISTED}\n");
+        assert_eq!(folder.run(&["list", "card"]).text(), format!("{counts}{entries}"));
     }
 }
 

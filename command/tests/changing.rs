@@ -5,7 +5,7 @@ mod common;
 use std::fs;
 use std::path::Path;
 
-use common::{raw_stamp, Folder, Outcome, USUAL};
+use common::{raw_stamp, Folder, Outcome, USUAL, USUAL_LISTED};
 use reader::build::requests::random_change;
 use reader::build::{self, random, scribble};
 use reader::rng::Rng;
@@ -153,10 +153,11 @@ fn bench_card_of(format: Format) {
     }
     folder.write("card", &build::bench(format));
     folder.write("save", &[1; 1500]);
-    folder.run(&["mkdir", "card", "/SAVE"]).done();
-    folder.run(&["create", "card", "/SAVE/A", "save"]).done();
-    let listing = "card 56\nfree 24\nreached 6\norphaned 0\nheld 0\nmended 0\nd 3 /SAVE\nf 1500 /SAVE/A\n";
-    assert_eq!(folder.run(&["list", "card"]).text(), listing);
+    folder.run(&["mkdir", "card", "/SAVE", "--stamp", USUAL]).done();
+    folder.run(&["create", "card", "/SAVE/A", "save", "--stamp", USUAL]).done();
+    let counts = "card 56\nfree 24\nreached 6\norphaned 0\nheld 0\nmended 0\n";
+    let entries = "d 3 /SAVE 2000-02-29 12:34:56\nf 1500 /SAVE/A 2000-02-29 12:34:56\n";
+    assert_eq!(folder.run(&["list", "card"]).text(), format!("{counts}{entries}"));
 }
 
 /// Without --stamp the time is now in Japan.
@@ -180,8 +181,8 @@ fn paths_are_bytes() {
     let outcome = folder.feed(&[b"mkdir", b"card", b"/\xC3\xA9"], b"");
     outcome.refused(Refusal::number(8));
     folder.feed(&[b"find", b"card", b"/\xFF"], b"").refused(Refusal::number(8));
-    folder.feed(&[b"mkdir", b"--", b"card", b"/-x \"y\""], b"").done();
-    assert!(folder.run(&["list", "card"]).text().ends_with("d 2 /-x \"y\"\n"));
+    folder.feed(&[b"mkdir", b"--stamp", USUAL.as_bytes(), b"--", b"card", b"/-x \"y\""], b"").done();
+    assert!(folder.run(&["list", "card"]).text().ends_with(&format!("d 2 /-x \"y\" {USUAL_LISTED}\n")));
 }
 
 /// A file of any length may be handed in: what no card can hold is 12.

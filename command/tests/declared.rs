@@ -9,7 +9,7 @@ use std::fmt::Write;
 
 use c::Way;
 use common::Folder;
-use ps2card::{Card, Format, Refusal, Stamp, MOST_BYTES, MOST_CLUSTERS};
+use ps2card::{Card, Format, Refusal, Stamp, MINUTES, MOST_BYTES, MOST_CLUSTERS};
 use reader::build::{self, Assembly};
 
 fn header() -> &'static str {
@@ -26,6 +26,7 @@ fn as_c(rust: &str) -> String {
         "*mut usize" => "size_t *",
         "usize" => "size_t ",
         "u32" => "uint32_t ",
+        "i32" => "int32_t ",
         other => panic!("no C type for {other}"),
     };
     let (name, rest) = rust.split_once('(').expect("arguments");
@@ -74,12 +75,12 @@ fn numbers(name: &str) -> Vec<(&'static str, u32)> {
 }
 
 /// The header's refusals are the wrapper's, by number and name, in the order in which they are told; its version is the
-/// package's, and its formats and largest cards the wrapper's.
+/// package's, and its formats, largest cards and minutes the wrapper's.
 #[test]
 fn constants() {
     let refusals = numbers("ps2card_refusal");
     let order: Vec<u32> = refusals.iter().map(|refusal| refusal.1).collect();
-    assert_eq!(order, [0, 1, 2, 3, 4, 5, 6, 7, 8, 14, 9, 10, 11, 13, 15, 12, 23]);
+    assert_eq!(order, [0, 17, 1, 2, 3, 4, 5, 6, 7, 8, 14, 9, 10, 11, 13, 15, 12, 23]);
     for (name, number) in &refusals[1..] {
         let known = KNOWN.iter().find(|refusal| refusal.number() == *number).expect("a refusal of the wrapper");
         assert_eq!(in_rust(name), format!("{known:?}").split('(').next().expect("a name"));
@@ -100,6 +101,8 @@ fn constants() {
         assert_eq!(format.most_bytes(), MOST_CLUSTERS * cluster);
     }
     assert_eq!(defined("PS2CARD_MOST_CLUSTERS"), MOST_CLUSTERS.to_string());
+    assert_eq!(defined("PS2CARD_LEAST_MINUTES"), format!("({})", MINUTES.start()));
+    assert_eq!(defined("PS2CARD_MOST_MINUTES"), MINUTES.end().to_string());
     assert_eq!(MOST_BYTES, Format::Raw.most_bytes().max(Format::Plain.most_bytes()));
 }
 
@@ -124,7 +127,7 @@ fn modes() {
     }
 }
 
-const KNOWN: [Refusal; 16] = [
+const KNOWN: [Refusal; 17] = [
     Refusal::BadLength,
     Refusal::UnreadablePage(0),
     Refusal::BadText,
@@ -140,6 +143,7 @@ const KNOWN: [Refusal; 16] = [
     Refusal::NotEmpty,
     Refusal::BadTime,
     Refusal::BadOffset,
+    Refusal::BadShift,
     Refusal::WrongOutput,
 ];
 

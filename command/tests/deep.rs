@@ -4,7 +4,7 @@ mod common;
 
 use std::fs;
 
-use common::{Folder, USUAL};
+use common::{Folder, USUAL, USUAL_LISTED};
 use reader::build::{self, directory, file, Assembly, Layout};
 use reader::entry::NO_CLUSTER;
 use reader::{Format, Refusal};
@@ -42,8 +42,9 @@ fn eight_names_of(format: Format) {
     beyond_eight(&folder, &beyond);
     let last = &deep[deepest.len() + 1..];
     let list = folder.run(&["list", "card"]).text();
-    assert_eq!(list, reader::list(format, &image));
-    assert!(list.ends_with(&format!("d 3 {deepest}\nf 1500 {deep}\n")), "{list}");
+    assert_eq!(list, reader::list(format, &image, 0));
+    let lines = format!("d 3 {deepest} {USUAL_LISTED}\nf 1500 {deep} {USUAL_LISTED}\n");
+    assert!(list.ends_with(&lines), "{list}");
     assert_eq!(folder.run(&["ls", "card", &deepest]).text(), format!("file  1500 bytes  {last}\n"));
     assert_eq!(folder.run(&["step", "card", &deepest, "0"]).text(), format!("slot 2 {last}\n"));
     assert!(folder.run(&["find", "card", &deep]).text().ends_with(&format!("\nname {last}\n")));
@@ -132,7 +133,7 @@ fn long_listing() {
         let image = card.finish();
         let card = ps2card::Card::new(common::in_wrapper(format), &image[..]);
         let text = card.list().expect("accepted");
-        assert!(text == reader::list(format, &image).as_bytes() && text.len() > 2 * image.len() / 5);
+        assert!(text == reader::list(format, &image, 0).as_bytes() && text.len() > 2 * image.len() / 5);
         assert_eq!(card.tree().expect("accepted").iter().filter(|line| line.path.len() == 256).count(), 470);
     }
 }

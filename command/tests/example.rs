@@ -35,10 +35,11 @@ fn example_is_right_in(format: Format, folder: &Folder, program: &Program) {
     let listing = String::from_utf8(changed.list().expect("a card")).expect("text");
     let counts = "56 clusters, 24 free, 0 held back, 0 chunks mended";
     assert_eq!(text, format!("{counts}\ndirectory 3 SAVE\nnote kept\n{listing}"));
-    assert!(listing.ends_with("d 3 /EXAMPLE\nf 37 /EXAMPLE/NOTE\n"), "{listing}");
+    let entry = changed.find(b"/EXAMPLE/NOTE").expect("a file");
+    let listed = entry.modified.to_string().replace('T', " ");
+    assert!(listing.ends_with(&format!("d 3 /EXAMPLE {listed}\nf 37 /EXAMPLE/NOTE {listed}\n")), "{listing}");
     assert_eq!(folder.read("card"), card.image());
     // The time is Japan's, of the run.
-    let entry = changed.find(b"/EXAMPLE/NOTE").expect("a file");
     let order = |stamp: &[u8; 8]| [stamp[7], stamp[6], stamp[5], stamp[4], stamp[3], stamp[2], stamp[1]];
     assert!(entry.created.is_valid() && order(&before) <= order(&entry.created.0));
     assert!(order(&entry.created.0) <= order(&Stamp::now().0));
@@ -123,7 +124,7 @@ fn not_installed() {
 }
 
 /// NULL with the length 0 is taken as any other pointer with the length 0 is; a number that is no format is refused with
-/// 1 by every call.
+/// 1 by every call, but by the listing after 17.
 #[test]
 fn null_with_length_zero() {
     for way in c::WAYS {
@@ -144,6 +145,10 @@ fn null_with_length_zero() {
             assert!(text.lines().any(|told| told == line), "{line}: {text}");
         }
         for line in ["read 0 0", "count 0 0", "mended 0 0", "read_directory 10 10", "mended_directory 77 77"] {
+            assert!(text.lines().any(|told| told == line), "{line}: {text}");
+        }
+        // The length of the line `refused 17`.
+        for line in ["bad_minutes 11 11", "bad_minutes_first 11 11"] {
             assert!(text.lines().any(|told| told == line), "{line}: {text}");
         }
     }

@@ -100,9 +100,20 @@ impl Script {
         self.say(format!("read {} {mended} {count} {}\n", told(&answer), hex(&out)));
     }
 
-    fn list(&mut self) {
-        let text = String::from_utf8(self.card.list().expect("an accepted card")).expect("text");
+    /// The listing of the first bytes of the image, or the refusal as its text has it.
+    fn list(&mut self, length: usize, minutes: i32) {
+        let listed = Card::new(self.card.format(), &self.card.image()[..length]).list_at(minutes);
+        let text = match listed {
+            Ok(text) => String::from_utf8(text).expect("text"),
+            Err(refusal) => format!("refused {}\n", refusal.number()),
+        };
         self.say(format!("list {}\n{text}", text.len()));
+    }
+
+    fn lists(&mut self) {
+        let length = self.card.image().len();
+        [0, -1260, 300, -1261].into_iter().for_each(|minutes| self.list(length, minutes));
+        [0, 301].into_iter().for_each(|minutes| self.list(length - 1, minutes));
     }
 
     fn change(&mut self, name: &str, edit: impl FnOnce(&mut Card) -> Result<(), Refusal>) {
@@ -161,7 +172,7 @@ impl Script {
         self.read("/D/F", 5);
         self.read("/D/F", 20);
         self.read("/D/F", 21);
-        self.list();
+        self.lists();
         self.change("replace", |card| card.replace(b"/D/F", &time, b"other bytes"));
         self.change("replace", |card| card.replace(b"/D", &time, b""));
         self.change("delete", |card| card.delete(b"/D/G"));
@@ -170,7 +181,7 @@ impl Script {
         self.change("make_dir", |card| card.make_dir(b"/E", &time));
         self.change("remove_dir", |card| card.remove_dir(b"/E"));
         self.check();
-        self.list();
+        self.list(self.card.image().len(), 0);
         self.conversions();
     }
 }
@@ -219,7 +230,11 @@ fn same(folder: &Folder, program: &c::Program, format: reader::Format, image: &[
     assert_eq!(program.run(folder, &words).text(), text);
     assert!(folder.read("changed") == card.image() && folder.read("changed") != image);
     assert!(folder.read("converted") == other.expect("it is readable").image());
-    let listed = ["list", "card", "free", "reached", "orphaned", "held", "mended", "d", "f"];
+    assert!(text.contains("\nlist 11\nrefused 17\nlist 10\nrefused 1\nlist 11\nrefused 17\n"), "{text}");
+    for time in ["2000-02-29 12:34:56", "2000-02-28 15:34:56", "2000-02-29 17:34:56"] {
+        assert!(text.contains(&format!("\nf 20 /D/F {time}\n")), "{text}");
+    }
+    let listed = ["list", "refused", "card", "free", "reached", "orphaned", "held", "mended", "d", "f"];
     let calls = text.lines().filter(|line| !listed.contains(&word(line, 0)));
     let numbers: Vec<u32> = calls.map(|line| word(line, 1).parse().expect("a number")).collect();
     for number in [0, 1, 9, 10, 11, 13, 14, 15, 23] {

@@ -26,7 +26,7 @@ fn check_and_list_accepted_cards() {
         for image in named.chain(drawn).chain([build::standard(format), build::crowded(format)]) {
             folder.write("card", &image);
             assert_eq!(folder.run(&["check", "card"]).text(), counts(format, &image));
-            assert_eq!(folder.run(&["list", "card"]).text(), reader::list(format, &image));
+            assert_eq!(folder.run(&["list", "card"]).text(), reader::list(format, &image, 0));
         }
     }
 }
@@ -239,16 +239,20 @@ fn ls_of(format: Format) {
     let all = "dir   1 entry  SAVE\nfile  0 bytes  note\n";
     assert_eq!(folder.run(&["ls", "card"]).text(), all);
     assert_eq!(folder.run(&["ls", "card", "/"]).text(), all);
-    let long = "dir   1 entry  2024-12-31T23:59:58  SAVE\nfile  0 bytes  2000-02-29T12:34:56  note\n";
+    let long = "dir   1 entry  2024-12-31 23:59:58  SAVE\nfile  0 bytes  2000-02-29 12:34:56  note\n";
     assert_eq!(folder.run(&["ls", "-l", "card"]).text(), long);
     assert_eq!(folder.run(&["ls", "card", "/SAVE"]).text(), "file  1500 bytes  A B\n");
     assert_eq!(folder.run(&["ls", "card", "/SAVE/A B"]).text(), "file  1500 bytes  A B\n");
-    let save = "file  1500 bytes  2000-02-29T12:34:56  A B\n";
+    let save = "file  1500 bytes  2000-02-29 12:34:56  A B\n";
     assert_eq!(folder.run(&["ls", "card", "/SAVE", "-l"]).text(), save);
     assert_eq!(folder.run(&["ls", "card", "/SAVE/A B", "-l"]).text(), save);
     folder.run(&["ls", "card", "/SAVE/B"]).refused(Refusal::number(9));
-    folder.run(&["ls", "card", "SAVE"]).refused(Refusal::number(8));
+    folder.run(&["ls", "card", "/SAVE/A B/x"]).refused(Refusal::number(10));
     folder.run(&["ls", "card", "/note/x"]).refused(Refusal::number(10));
+    for path in ["SAVE", "", "//", "/SAVE/", "/SAVE/.", "/..", "/note/", "//note"] {
+        folder.run(&["ls", "card", path]).refused(Refusal::number(8));
+        folder.run(&["ls", "-l", "card", path]).refused(Refusal::number(8));
+    }
     folder.run(&["delete", "card", "/SAVE/A B"]).done();
     assert_eq!(folder.run(&["ls", "card", "/SAVE"]).text(), "/SAVE is empty\n");
     folder.write("card", &build::bench(format));

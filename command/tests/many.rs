@@ -33,8 +33,10 @@ fn a_few_checks_of(entries: usize) {
     folder.write("card", &crowd(entries));
     let last = format!("/SAVE/file{}", entries - 1);
     let one = shortest(&folder, &["check", "card"]);
-    let runs: [&[&str]; 7] = [
+    let runs: [&[&str]; 9] = [
         &["ls", "card", "/SAVE"],
+        &["ls", "card", "/SAVE", "-l"],
+        &["ls", "card", &last, "--zone", "+01:00"],
         &["ls", "card"],
         &["list", "card"],
         &["find", "card", &last],
@@ -42,13 +44,13 @@ fn a_few_checks_of(entries: usize) {
         &["get", "card", &last, "-"],
         &["mkdir", "card", "/D"],
     ];
-    for words in &runs[..6] {
+    for words in &runs[..8] {
         let took = shortest(&folder, words);
         println!("{words:?}: {took:?}, one check {one:?}");
         assert!(took < 10 * one, "{words:?} took {took:?}, a check {one:?}");
     }
     let start = Instant::now();
-    folder.run(runs[6]).done();
+    folder.run(runs[8]).done();
     assert!(start.elapsed() < 50 * one, "{:?}", start.elapsed());
     let text = folder.run(&["ls", "card", "/SAVE"]).text();
     let lines: Vec<&str> = text.lines().collect();

@@ -219,8 +219,12 @@ fn times() {
 #[test]
 fn listing() {
     let counts = ["card CLUSTERS", "free COUNT", "reached COUNT", "orphaned COUNT", "held COUNT", "mended COUNT"];
-    let lines: Vec<&str> = counts.into_iter().chain(["d ENTRIES PATH", "f BYTES PATH"]).collect();
+    let entries = ["d ENTRIES PATH YYYY-MM-DD hh:mm:ss", "f BYTES PATH YYYY-MM-DD hh:mm:ss"];
+    let lines: Vec<&str> = counts.into_iter().chain(entries).collect();
     lines.iter().for_each(|line| says(HEADER, line));
+    says(HEADER, "Such a line has no more than 290 bytes, its newline included.");
+    let longest = format!("f {} {} 2000-02-29 12:34:56\n", u32::MAX, "/".to_string() + &"n".repeat(255));
+    assert_eq!(longest.len(), 290);
     let mut card = fresh();
     card.make_dir(b"/d", &time()).expect("a directory");
     card.create(b"/d/f", &time(), b"four").expect("a file");
@@ -232,7 +236,32 @@ fn listing() {
     for (told, words) in told.iter().zip(&words) {
         assert_eq!((told[0], told.len()), (words[0], words.len()));
     }
-    assert_eq!((&told[6][1..], &told[7][1..]), (&["3", "/d"][..], &["4", "/d/f"][..]));
+    assert_eq!(told[6][1..], ["3", "/d", "2000-02-29", "12:34:56"]);
+    assert_eq!(told[7][1..], ["4", "/d/f", "2000-02-29", "12:34:56"]);
+}
+
+/// Every number of minutes around those that are taken; where one is not, nothing else is judged.
+#[test]
+fn minutes() {
+    says(
+        HEADER,
+        "-1,260 to 300, so that every zone from UTC-12 to UTC+14 has its own. It is the zone's minutes ahead of UTC less 540: 0 is Japan, -540 is UTC itself.",
+    );
+    says(HEADER, "Refusals: 17 before all others, whatever format and image are; 1 to 7.");
+    let mut card = fresh();
+    card.create(b"/a", &time(), b"").expect("a file");
+    let none = Card::plain(&b""[..]);
+    let far = [i32::MIN, -86_400, 1_260, 86_400, i32::MAX];
+    for minutes in (-1_400..=1_400).chain(far) {
+        let taken = (-1_260..=300).contains(&minutes);
+        assert_eq!(card.list_at(minutes).err(), (!taken).then_some(Refusal::BadShift), "{minutes}");
+        let refusal = if taken { Refusal::BadLength } else { Refusal::BadShift };
+        assert_eq!(none.list_at(minutes), Err(refusal), "{minutes}");
+    }
+    let at = |minutes: i32| card.tree_at(minutes).expect("a tree")[0].modified.map(|time| time.to_string());
+    let told = [0, -540, -1_260, 300].map(at);
+    let times = ["2000-02-29 12:34:56", "2000-02-29 03:34:56", "2000-02-28 15:34:56", "2000-02-29 17:34:56"];
+    assert_eq!(told, times.map(|time| Some(time.to_string())));
 }
 
 /// The proved program, as `rt check list` and `rt ci` build it.

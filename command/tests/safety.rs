@@ -7,7 +7,7 @@ use std::os::unix::fs::{symlink, MetadataExt, PermissionsExt};
 use std::thread::sleep;
 use std::time::{Duration, Instant};
 
-use common::{Folder, USUAL};
+use common::{Folder, USUAL, USUAL_LISTED};
 use reader::build;
 use reader::rng::Rng;
 use reader::Format::Raw;
@@ -65,7 +65,7 @@ fn two_stations() {
         }
     }
     let listing = folder.run(&["list", "card"]).text();
-    assert!(names.iter().all(|name| listing.contains(&format!("d 2 {name}\n"))), "{listing}");
+    assert!(names.iter().all(|name| listing.contains(&format!("\nd 2 {name} "))), "{listing}");
     assert_eq!((listing.lines().count(), folder.names()), (46, vec!["card".to_string()]));
 }
 
@@ -76,7 +76,7 @@ fn waits_for_the_lock() {
     folder.write("card", &build::bench(Raw));
     let held = File::open(folder.path("card")).expect("the image");
     held.lock().expect("the lock");
-    let mut child = folder.start(&[b"mkdir", b"card", b"/late"]);
+    let mut child = folder.start(&[b"mkdir", b"card", b"/late", b"--stamp", USUAL.as_bytes()]);
     sleep(Duration::from_millis(300));
     assert!(child.try_wait().expect("a look").is_none(), "it went on without the lock");
     let mut image = build::bench(Raw);
@@ -86,7 +86,7 @@ fn waits_for_the_lock() {
     drop(held);
     assert!(child.wait().expect("an end").success());
     let listing = folder.run(&["list", "card"]).text();
-    assert!(listing.ends_with("d 2 /early\nd 2 /late\n"), "{listing}");
+    assert!(listing.ends_with(&format!("d 2 /early {USUAL_LISTED}\nd 2 /late {USUAL_LISTED}\n")), "{listing}");
 }
 
 /// Permissions and owner stay; a link stays a link, and its target is changed.

@@ -17,11 +17,11 @@ dir   2 entries  SAVE
 ";
     assert_eq!(folder.run(&["ls", card]).text(), all);
     let garden = "\
-file   964 bytes  2003-07-19T22:48:31  icon.sys
-file  2900 bytes  2003-07-19T22:48:31  garden.ico
-file  4096 bytes  2003-07-19T22:48:31  GARDEN
+file   964 bytes  2003-07-19 22:48:31  icon.sys
+file  2900 bytes  2003-07-19 22:48:31  garden.ico
+file  4096 bytes  2003-07-19 22:48:31  GARDEN
 ";
     assert_eq!(folder.run(&["ls", "-l", card, "/BESLES-00001GARDEN"]).text(), garden);
     assert_eq!(folder.run(&["read", card, "/SAVE/note.txt"]).text(), "One save of 2000, one of 2001, one of 2003.\n");
-    assert_eq!(folder.run(&["list", card]).text(), reader::list(Raw, &samples::shop()));
+    assert_eq!(folder.run(&["list", card]).text(), reader::list(Raw, &samples::shop(), 0));
 }

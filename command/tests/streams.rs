@@ -129,6 +129,7 @@ fn refusals_name_their_image() {
         (&["find", "card", "/A"], " (card: /A)\n"),
         (&["rmdir", "card", "/A"], " (card: /A)\n"),
         (&["ls", "card", "A"], " (card: A)\n"),
+        (&["ls", "card", "A", "--minutes", "301"], " (card)\n"),
         (&["mkdir", "card", "/A*"], " (card: /A*)\n"),
         (&["mkdir", "card", "/A", "--stamp", "1979-01-01T00:00:00"], " (card: /A)\n"),
     ] {

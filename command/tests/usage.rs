@@ -38,8 +38,8 @@ fn help() {
         let text = folder.run(&[command, "--help"]).text();
         let usage = format!("usage: ps2card {command} ");
         let form = text.lines().next().and_then(|line| line.strip_prefix(&usage)).expect("a usage line");
-        // The list of all commands has the same form, but for the time and the format.
-        let listed = form.split(" [--plain").next().expect("a form");
+        // The list of all commands has the same form, but for the time, the zone and the format.
+        let listed = form.split(" [--plain").next().and_then(|form| form.split(" [--minutes").next()).expect("a form");
         let listed = format!("\n  {command:8} {listed} ");
         assert!(all.contains(&listed), "{listed:?}");
         assert_eq!(folder.run(&[command, "a", "b", "c", "d", "e", "f", "--help"]).text(), text);
@@ -50,6 +50,8 @@ fn help() {
         }
         let timed = ["create", "replace", "put", "mkdir", "new"].contains(&command);
         assert_eq!((text.contains("--stamp"), form.contains("[--stamp TIME]")), (timed, timed), "{text}");
+        let zoned = ["list", "ls"].contains(&command);
+        assert_eq!((text.contains("--zone "), form.contains("[--minutes M | --zone Z]")), (zoned, zoned), "{text}");
         let formats = match command {
             "convert" => "--to-plain|--to-raw",
             "compare" => "[--plain | --plain-a | --plain-b]",

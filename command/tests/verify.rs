@@ -97,10 +97,10 @@ fn as_sha256sum() {
     folder.write("card", &image);
     folder.run(&["get", "card", "/", "out"]).done();
     let lines = folder.run(&["verify", "card"]).done();
-    let mut paths: Vec<String> = reader::list(Raw, &image)
-        .lines()
-        .filter_map(|line| line.strip_prefix("f "))
-        .map(|line| line.split_once(" /").expect("a path").1.to_string())
+    let files = reader::content::lines(Raw, &image).expect("an accepted card").into_iter();
+    let mut paths: Vec<String> = files
+        .filter(|line| !line.item.is_directory)
+        .map(|line| String::from_utf8(line.path[1..].to_vec()).expect("text"))
         .collect();
     paths.insert(0, "--".to_string());
     let words: Vec<&str> = paths.iter().map(String::as_str).collect();

@@ -82,10 +82,10 @@ static void read_some(const char *path, size_t offset) {
     printf("\n");
 }
 
-static void list(void) {
+static void list(size_t length, int32_t minutes) {
     static uint8_t out[65536];
-    size_t length = ps2card_list(format, image, image_length, out, sizeof out);
-    printf("list %lu\n%.*s", (unsigned long)length, (int)length, (const char *)out);
+    size_t whole = ps2card_list(format, image, length, minutes, out, sizeof out);
+    printf("list %lu\n%.*s", (unsigned long)whole, (int)whole, (const char *)out);
 }
 
 static void told(const char *name, uint32_t number, size_t page) {
@@ -191,7 +191,12 @@ int main(int count, char **words) {
     read_some("/D/F", 5);
     read_some("/D/F", 20);
     read_some("/D/F", 21);
-    list();
+    list(image_length, 0);
+    list(image_length, PS2CARD_LEAST_MINUTES);
+    list(image_length, PS2CARD_MOST_MINUTES);
+    list(image_length, PS2CARD_LEAST_MINUTES - 1);
+    list(image_length - 1, 0);
+    list(image_length - 1, PS2CARD_MOST_MINUTES + 1);
     replace("/D/F", "other bytes");
     replace("/D", "");
     delete_file("/D/G");
@@ -200,7 +205,7 @@ int main(int count, char **words) {
     make_dir("/E", time_of_change);
     remove_dir("/E");
     check(image_length);
-    list();
+    list(image_length, 0);
     needed = conversions();
     return leave(words[2], image, image_length) && leave(words[3], converted, needed) ? 0 : 2;
 }

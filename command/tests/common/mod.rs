@@ -21,6 +21,9 @@ use reader::{page, Format, Refusal};
 /// The time of the cards that the independent builder makes.
 pub const USUAL: &str = "2000-02-29T12:34:56";
 
+/// The same as listings have it.
+pub const USUAL_LISTED: &str = "2000-02-29 12:34:56";
+
 /// How a run ended and what it wrote.
 #[derive(Debug, PartialEq, Eq)]
 pub struct Outcome {
