@@ -36,7 +36,7 @@ fn one_file(format: Format) {
     assert_eq!(free(&both), 0);
     assert_eq!(
         both.listed(),
-        format!("card 65536\nfree 0\nreached {ALL}\norphaned 0\nheld 0\nmended 0\nf {most} /A\n")
+        format!("card 65536\nfree 0\nreached {ALL}\norphaned 0\nheld 0\nmended 0\nf {most} /A 2000-02-29 12:34:56\n")
     );
 
     let mut lookups = Lookups::new(format);

@@ -98,7 +98,7 @@ fn whole_listing() {
         let mut image = bench(format);
         make_dir(format, &mut image, b"/SAVE", &time).expect("the bench card has room");
         create(format, &mut image, b"/SAVE/A", &time, &[1; 1500]).expect("the bench card has room");
-        let expected = "card 56\nfree 24\nreached 6\norphaned 0\nheld 0\nmended 0\nd 3 /SAVE\nf 1500 /SAVE/A\n";
+        let expected = "card 56\nfree 24\nreached 6\norphaned 0\nheld 0\nmended 0\nd 3 /SAVE 2000-02-29 12:34:56\nf 1500 /SAVE/A 2000-02-29 12:34:56\n";
         assert_eq!(listing::whole(format, &image), expected);
         assert_eq!(delete(format, &mut image, b"/SAVE"), Err(Refusal::number(10)));
         assert_eq!(listing::whole(format, &image), expected);

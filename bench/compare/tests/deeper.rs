@@ -34,7 +34,7 @@ fn numbers(format: Format, image: &[u8], path: &[u8], time: &Time, clusters: usi
 /// The listing, which both sides agree on.
 fn listed(format: Format, image: &[u8]) -> String {
     let text = listing::whole(format, image);
-    assert!(text == reader::list(format, image), "the {format:?} listings differ");
+    assert!(text == reader::list(format, image, 0), "the {format:?} listings differ");
     text
 }
 
@@ -134,8 +134,8 @@ fn long_paths() {
             assert_eq!(numbers(format, &image, &path, &BAD_TIME, 12), [8; 5], "{} bytes", path.len());
         }
         let text = listed(format, &image);
-        assert_eq!(text.lines().last(), Some("f 1500 /F"));
-        assert!(text.contains(&format!("f 10 {}\n", String::from_utf8(path).expect("ASCII"))));
+        assert_eq!(text.lines().last(), Some("f 1500 /F 2000-02-29 12:34:56"));
+        assert!(text.contains(&format!("f 10 {} 2000-02-29 12:34:56\n", String::from_utf8(path).expect("ASCII"))));
     }
 }
 
@@ -219,7 +219,7 @@ fn listing_of_a_wide_and_deep_tree() {
         let mut rng = Rng::new(254);
         for _ in 0..20 {
             let room = rng.below(whole.len() + 300);
-            let (text, length) = listing::list(format, &image, room);
+            let (text, length) = listing::list(format, &image, 0, room);
             assert_eq!((&text[..], length), (&whole[..room.min(whole.len())], whole.len()));
         }
         let mut lookups = Lookups::new(format);

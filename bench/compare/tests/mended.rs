@@ -158,10 +158,10 @@ fn whole_listing() {
     for (page, chunks) in [(16, 0..4), (18, 2..4), (20, 1..3), (26, 0..3), (28, 0..1)] {
         flip_chunks(&mut image, page, chunks);
     }
-    let expected = "card 56\nfree 24\nreached 6\norphaned 0\nheld 0\nmended 11\nd 3 /SAVE\nf 1500 /SAVE/A\n";
-    assert_eq!([listing::whole(Raw, &image), reader::list(Raw, &image)], [expected; 2]);
+    let expected = "card 56\nfree 24\nreached 6\norphaned 0\nheld 0\nmended 11\nd 3 /SAVE 2000-02-29 12:34:56\nf 1500 /SAVE/A 2000-02-29 12:34:56\n";
+    assert_eq!([listing::whole(Raw, &image), reader::list(Raw, &image, 0)], [expected; 2]);
     for room in 0..expected.len() + 3 {
-        let (text, length) = listing::list(Raw, &image, room);
+        let (text, length) = listing::list(Raw, &image, 0, room);
         assert_eq!((&text[..], length), (&expected.as_bytes()[..room.min(length)], expected.len()));
     }
 }

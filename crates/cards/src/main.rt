@@ -42,4 +42,5 @@ fn main() {
     card(b"== refused-6\n", b"refused-6.ps2");
     card(b"== refused-7\n", b"refused-7.ps2");
     card(b"== long\n", b"long.ps2");
+    card(b"== times\n", b"times.ps2");
 }
