@@ -243,10 +243,8 @@ fn listing() {
 /// Every number of minutes around those that are taken; where one is not, nothing else is judged.
 #[test]
 fn minutes() {
-    says(
-        HEADER,
-        "-1,260 to 300, so that every zone from UTC-12 to UTC+14 has its own. It is the zone's minutes ahead of UTC less 540: 0 is Japan, -540 is UTC itself.",
-    );
+    says(HEADER, "-1,260 to 300, so that every zone from UTC-12 to UTC+14 has its own.");
+    says(HEADER, "It is the zone's minutes ahead of UTC less 540: 0 is Japan, -540 is UTC itself.");
     says(HEADER, "Refusals: 17 before all others, whatever format and image are; 1 to 7.");
     let mut card = fresh();
     card.create(b"/a", &time(), b"").expect("a file");

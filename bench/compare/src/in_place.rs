@@ -1,6 +1,6 @@
 //! Calls straight on the caller's image, with no copy and no guard bytes, for taking times.
 
-use ps2card_sys::{ps2card_create, ps2card_read, ps2card_to_plain, ps2card_to_raw};
+use ps2card_sys::{ps2card_create, ps2card_list, ps2card_read, ps2card_to_plain, ps2card_to_raw};
 use reader::time::Time;
 use reader::Format;
 
@@ -26,6 +26,13 @@ pub fn read(format: Format, image: &[u8], path: &[u8], offset: usize, out: &mut 
         )
     };
     (number == 0).then_some(count)
+}
+
+/// How long the whole listing is, in which as much as fits was written.
+pub fn list(format: Format, image: &[u8], minutes: i32, out: &mut [u8]) -> usize {
+    let number = Number::from(format).0;
+    // SAFETY: as in `read`.
+    unsafe { ps2card_list(number, image.as_ptr(), image.len(), minutes, out.as_mut_ptr(), out.len()) }
 }
 
 /// Whether the file was created.

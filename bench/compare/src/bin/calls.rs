@@ -1,5 +1,5 @@
-//! Whole calls side by side: the check in both formats, the conversions, reading every file of a raw image and creating
-//! until it is full; the check by the number of files, of the full card of 64 MiB and of one directory of 60,000
+//! Whole calls side by side: the check in both formats, the listing in UTC, the conversions, reading every file of a raw
+//! image and creating until it is full; the check by the number of files, of the full card of 64 MiB and of one directory of 60,000
 //! entries. `calls SIDE WORK` does one work once, for a tool that counts instructions; `calls SIDE check CARD` checks
 //! any of some cards, `calls SIDE nothing CARD` only builds it, and `calls entries CARD` tells how many entries it has.
 
@@ -19,6 +19,9 @@ use reader::Format::{Plain, Raw};
 const CREATED: usize = 64 * 1024;
 /// Files that are read, and created, when instructions are counted.
 const COUNTED: usize = 20;
+/// Minutes from Japan to UTC, in which the card is listed, and room for the text of the full card.
+const UTC: i32 = -540;
+const LISTED: usize = 1 << 20;
 const RUNS: usize = 5;
 
 /// Reads a file from its start on; how many bytes.
@@ -29,6 +32,7 @@ struct Side {
     name: &'static str,
     check: fn(&[u8]) -> bool,
     check_plain: fn(&[u8]) -> bool,
+    list: fn(&[u8]) -> Vec<u8>,
     read: Read,
     create: fn(&mut [u8], &[u8], &[u8]) -> bool,
     to_plain: fn(&[u8], &mut [u8]) -> bool,
@@ -40,6 +44,12 @@ const SIDES: [Side; 2] = [
         name: "library",
         check: |image| compare::check(Raw, image).is_ok(),
         check_plain: |image| compare::check(Plain, image).is_ok(),
+        list: |image| {
+            let mut text = vec![0; LISTED];
+            let length = compare::in_place::list(Raw, image, UTC, &mut text);
+            text.truncate(length);
+            text
+        },
         read: |image, path, out| compare::in_place::read(Raw, image, path, 0, out),
         create: |image, path, bytes| compare::in_place::create(Raw, image, path, &usual_time(), bytes),
         to_plain: compare::in_place::to_plain,
@@ -49,6 +59,7 @@ const SIDES: [Side; 2] = [
         name: "reader",
         check: |image| reader::check(Raw, image).is_ok(),
         check_plain: |image| reader::check(Plain, image).is_ok(),
+        list: |image| reader::list(Raw, image, UTC).into_bytes(),
         read: |image, path, out| reader::read(Raw, image, path, 0, out).ok(),
         create: |image, path, bytes| reader::create(Raw, image, path, &usual_time(), bytes).is_ok(),
         to_plain: |image, out| reader::to_plain(image, out).is_ok(),
@@ -72,6 +83,7 @@ fn main() -> ExitCode {
                 "nothing" => {}
                 "check" => assert!((side.check)(&image)),
                 "check-plain" => assert!((side.check_plain)(&plain)),
+                "list" => drop(black_box((side.list)(&image))),
                 "to-plain" => assert!((side.to_plain)(&image, &mut plain)),
                 "to-raw" => assert!((side.to_raw)(&plain, &mut image)),
                 "read" => drop(read_all(side, &image, &files[..COUNTED])),
@@ -170,6 +182,7 @@ fn table() {
     let plain = plain_twin(&image);
     row("check", timed(RUNS * 5, |side| (side.check)(&image)));
     row("check, plain", timed(RUNS * 5, |side| (side.check_plain)(&plain)));
+    row("listing", timed(RUNS * 5, |side| (side.list)(&image)));
     row("to plain", timed(RUNS, |side| converted(side.to_plain, &image, plain.len())));
     row("to raw", timed(RUNS, |side| converted(side.to_raw, &plain, image.len())));
     row(&format!("read of all {} files", files.len()), timed(1, |side| read_all(side, &image, &files)));
