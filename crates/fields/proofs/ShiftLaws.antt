@@ -12,12 +12,14 @@ use lib.Signed.{ltZ, mag, nonNeg}
 use mir.Syntax.{w32}
 use mir.Val.{Fits, SFits, ofZ, toZ}
 use mir.ValLaws.{toZ-ofZ}
+use Rattle.model.specs.declared.Date.{Date}
 use Rattle.model.specs.declared.Moment.{Moment}
-use Rattle.model.specs.Time.{inYears, momentOf, validMoment, validTime}
+use Rattle.model.specs.Time.{inYears, momentOf, validDate, validMoment, validTime}
 use Rattle.model.specs.Calendar.{clockAt, dayAfter, dayBefore, daysEarlier, daysLater, fromMidnight, isShift, minuteOfDay, moved, shifted, shown}
+use Rattle.model.proofs.Calendar.{Dated}
 use Rattle.model.proofs.Equality.{and-l, and-r, tf}
-use Rattle.model.proofs.Shifts.{Valid, earlier-by, minute-below, sub-less, sub-more, valid-facts}
-use Rattle.fields.specs.Calendar.{OnCalendar, shownAs}
+use Rattle.model.proofs.Shifts.{Valid, date-facts, earlier-by, minute-below, sub-less, sub-more, valid-facts}
+use Rattle.fields.specs.Calendar.{shownAs}
 use Rattle.fields.specs.declared.calendar.Shown.the-variants as is
 
 -- ---- a number in reach, and its bits
@@ -127,17 +129,14 @@ module _ {m : Moment} {s z : ℤ} (known : Shifts m s z) where
 
 -- ---- what the code's functions ask
 
-pub on-calendar : (m : Moment) → validMoment m ≡ true → OnCalendar (m .date)
-on-calendar m e =
-    let v = valid-facts m e in
-    record {
-      month-from = v .dated .month-from;
-      month-to = v .dated .month-to;
-      day-from = v .dated .day-from;
-      day-to = v .dated .day-to;
-      year-from = leb-true 1980 (m .date .year) (and-l (leb 1980 (m .date .year)) _ (v .year-in));
-      year-to = leb-true (m .date .year) 9999 (and-r (leb 1980 (m .date .year)) _ (v .year-in));
-    }
+-- a day's month is in the table, and its year can be counted on and back
+pub date-room : (d : Date) → validDate d ≡ true → Dated d × (1980 ≤ d .year) × (d .year ≤ 9999)
+date-room d e =
+    let facts = date-facts d e in
+    (facts .0, leb-true 1980 (d .year) (and-l (leb 1980 (d .year)) _ (facts .1)), leb-true (d .year) 9999 (and-r (leb 1980 (d .year)) _ (facts .1)))
+
+pub moment-date : (m : Moment) → validMoment m ≡ true → validDate (m .date) ≡ true
+moment-date m e = and-r (leb (m .hour) 23) _ (and-r (leb (m .minute) 59) _ (and-r (leb (m .second) 59) _ e))
 
 pub shifts-by : (m : Moment) (s z : ℤ) → (validMoment m ≡ true) × (isShift s ≡ true) → SFits w32 s → z ≡ pos (minuteOfDay m) +ℤ read s → Shifts m s z
 shifts-by m s z pre fits e =

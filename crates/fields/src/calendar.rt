@@ -9,12 +9,12 @@ ghost use mathlib.Core.Path.{_≡_};
 ghost use mathlib.Core.Bool.{true};
 ghost use Prim.Native.Nat.{_+_, _<_, _≤_};
 ghost use lib.IntN.{pos, _+ℤ_};
-ghost use Rattle.model.specs.Calendar.{clockAt, dayAfter, dayBefore, isShift, minuteOfDay, moved, shown};
 ghost use lib.ListN.{length};
+ghost use Rattle.model.specs.Calendar.{clockAt, dayAfter, dayBefore, isShift, moved, shown};
 ghost use Rattle.model.specs.Bytes.{slice};
 ghost use Rattle.model.specs.Entry.{entryOf};
-ghost use Rattle.model.specs.Time.{validMoment};
-ghost use Rattle.fields.specs.Calendar.{OnCalendar, shownAs};
+ghost use Rattle.model.specs.Time.{validDate, validMoment};
+ghost use Rattle.fields.specs.Calendar.{shownAs};
 
 // The shifts that a listing takes, in minutes: so far behind Japan, and so far ahead.
 const MOST_BEHIND: i32 = -1260;
@@ -37,7 +37,7 @@ pub fn is_shift(minutes: i32) -> bool
 }
 
 fn day_after(date: Date) -> Date
-    requires { ⌜ OnCalendar date ⌝ }
+    requires { ⌜ validDate date ≡ true ⌝ }
     ensures { λ r. ⌜ r ≡ dayAfter date ⌝ }
 {
     if date.day < days_in(date.year, date.month) {
@@ -62,7 +62,7 @@ fn day_after(date: Date) -> Date
 }
 
 fn day_before(date: Date) -> Date
-    requires { ⌜ OnCalendar date ⌝ }
+    requires { ⌜ validDate date ≡ true ⌝ }
     ensures { λ r. ⌜ r ≡ dayBefore date ⌝ }
 {
     if 1 < date.day {

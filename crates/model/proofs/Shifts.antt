@@ -10,7 +10,7 @@ use lib.IntN.{_+ℤ_, negsuc, negℤ, pos, subℕ, ℤ}
 use lib.Signed.{mag, nonNeg}
 use Rattle.model.specs.declared.Date.{Date}
 use Rattle.model.specs.declared.Moment.{Moment}
-use Rattle.model.specs.Time.{daysIn, inYears, validMoment}
+use Rattle.model.specs.Time.{daysIn, inYears, validDate, validMoment}
 use Rattle.model.specs.Calendar.{clockAt, daysEarlier, daysLater, fromMidnight, minuteOfDay, moved, shifted}
 use Rattle.model.proofs.Calendar.{Dated, dated-earlier, dated-later, earlier-later, later-earlier}
 use Rattle.model.proofs.Chains.{cond-ok}
@@ -26,26 +26,31 @@ pub record Valid (m : Moment) : Type 0 where
   pub dated : Dated (m .date)
   pub year-in : inYears (m .date .year) ≡ true
 
+pub date-facts : (d : Date) → validDate d ≡ true → Dated d × (inYears (d .year) ≡ true)
+date-facts d e =
+    let past-first = and-r (leb 1 (d .month)) _ e in
+    let past-month = and-r (leb (d .month) 12) _ past-first in
+    let past-year = and-r (inYears (d .year)) _ past-month in (
+      record {
+        month-from = leb-true 1 (d .month) (and-l (leb 1 (d .month)) _ e);
+        month-to = leb-true (d .month) 12 (and-l (leb (d .month) 12) _ past-first);
+        day-from = leb-true 1 (d .day) (and-l (leb 1 (d .day)) _ past-year);
+        day-to = leb-true (d .day) (daysIn (d .year) (d .month)) (and-r (leb 1 (d .day)) _ past-year);
+      },
+      and-l (inYears (d .year)) _ past-month,
+    )
+
 pub valid-facts : (m : Moment) → validMoment m ≡ true → Valid m
 valid-facts m e =
     let past-second = and-r (leb (m .second) 59) _ e in
     let past-minute = and-r (leb (m .minute) 59) _ past-second in
-    let past-hour = and-r (leb (m .hour) 23) _ past-minute in
-    let past-first = and-r (leb 1 (m .date .month)) _ past-hour in
-    let past-month = and-r (leb (m .date .month) 12) _ past-first in
-    let past-year = and-r (inYears (m .date .year)) _ past-month in
+    let date = date-facts (m .date) (and-r (leb (m .hour) 23) _ past-minute) in
     record {
       second-to = leb-true (m .second) 59 (and-l (leb (m .second) 59) _ e);
       minute-to = leb-true (m .minute) 59 (and-l (leb (m .minute) 59) _ past-second);
       hour-to = leb-true (m .hour) 23 (and-l (leb (m .hour) 23) _ past-minute);
-      dated =
-          record {
-            month-from = leb-true 1 (m .date .month) (and-l (leb 1 (m .date .month)) _ past-hour);
-            month-to = leb-true (m .date .month) 12 (and-l (leb (m .date .month) 12) _ past-first);
-            day-from = leb-true 1 (m .date .day) (and-l (leb 1 (m .date .day)) _ past-year);
-            day-to = leb-true (m .date .day) _ (and-r (leb 1 (m .date .day)) _ past-year);
-          };
-      year-in = and-l (inYears (m .date .year)) _ past-month;
+      dated = date .0;
+      year-in = date .1;
     }
 
 pub valid-by : (m : Moment) → Valid m → validMoment m ≡ true

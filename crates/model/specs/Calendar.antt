@@ -50,14 +50,15 @@ unfoldable pub fromMidnight : ℤ → Moment → Moment
 fromMidnight (pos n) m = clockAt m (daysLater (n / 1440) (m .date)) (n % 1440)
 fromMidnight (negsuc n) m = clockAt m (daysEarlier (n / 1440 + 1) (m .date)) (1439 - n % 1440)
 
--- The shifting rule, for any whole number of minutes, ahead where it is positive: nothing where the result is not in 1980 to 9999.
+-- so many minutes ahead, or behind where they are negative, whatever year that is
 abbrev pub moved : ℤ → Moment → Moment
 moved minutes m = fromMidnight (pos (minuteOfDay m) +ℤ minutes) m
 
+-- The shifting rule, for any whole number of minutes: nothing where the result is not in 1980 to 9999.
 unfoldable pub shifted : ℤ → Moment → Option Moment
 shifted minutes m = cond (inYears (moved minutes m .date .year)) (some (moved minutes m)) none
 
--- the shifts that a listing takes: from 1,260 minutes behind Japan to 300 ahead
+-- the shifts that a listing takes: from 1,260 minutes behind Japan (`negsuc 1259`) to 300 ahead
 abbrev pub isShift : ℤ → Bool
 isShift minutes = leZ (negsuc 1259) minutes && leZ minutes (pos 300)
 

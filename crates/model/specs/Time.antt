@@ -4,6 +4,7 @@ use mathlib.Core.Bool.{Bool, _&&_, _||_, false, not, true}
 use mathlib.Core.List.{List, [], _∷_}
 use lib.Dec.{eqb, leb}
 use lib.ListN.{getD, length}
+use Rattle.model.specs.declared.Date.{Date}
 use Rattle.model.specs.declared.Moment.{Moment}
 use Rattle.model.specs.Bytes.{half}
 
@@ -23,16 +24,15 @@ daysIn year month = getD (monthDays (isLeap year)) (month - 1) 0
 abbrev pub inYears : ℕ → Bool
 inYears year = leb 1980 year && leb year 9999
 
--- Second and minute to 59, hour to 23, day from 1 to the month's last, month 1 to 12, year 1980 to 9999.
+-- Month 1 to 12, year 1980 to 9999, day from 1 to the month's last.
+abbrev pub validDate : Date → Bool
+validDate d =
+    leb 1 (d .month)
+    && (leb (d .month) 12 && (inYears (d .year) && (leb 1 (d .day) && leb (d .day) (daysIn (d .year) (d .month)))))
+
+-- Second and minute to 59, hour to 23.
 abbrev pub validMoment : Moment → Bool
-validMoment m =
-    leb (m .second) 59
-    && (leb (m .minute) 59
-    && (leb (m .hour) 23
-    && (leb 1 (m .date .month)
-    && (leb (m .date .month) 12
-    && (inYears (m .date .year)
-    && (leb 1 (m .date .day) && leb (m .date .day) (daysIn (m .date .year) (m .date .month))))))))
+validMoment m = leb (m .second) 59 && (leb (m .minute) 59 && (leb (m .hour) 23 && validDate (m .date)))
 
 -- what eight bytes show: after byte 0 second, minute, hour, day, month, and a half for the year
 abbrev pub momentOf : List ℕ → Moment

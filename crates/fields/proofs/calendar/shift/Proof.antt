@@ -5,7 +5,7 @@ use mir.Syntax.{w32}
 use mir.ValLaws.{toZ-ofZ}
 use Rattle.model.specs.Calendar.{isShift}
 use Rattle.model.proofs.Shifts.{minute-below, valid-facts}
-use Rattle.fields.proofs.ShiftLaws.{lands-after, lands-before, lands-within, on-calendar, shifts-by}
+use Rattle.fields.proofs.ShiftLaws.{lands-after, lands-before, lands-within, moment-date, shifts-by}
 use borrow.Author.Needs.{needs}
 use Rattle.fields.proofs.calendar.shift.Statement.{statement}
 use Rattle.fields.proofs.calendar.shift.Tie as tie
@@ -24,7 +24,7 @@ add-shift-requires c κs =
 
 day-before-requires : tie.Need-day-before-requires
 day-before-requires c κs =
-    on-calendar (c .before .before .before .before .before .args .moment) (c .before .before .before .before .before .pre .0)
+    moment-date (c .before .before .before .before .before .args .moment) (c .before .before .before .before .before .pre .0)
 
 add-clock-at : tie.Need-add-clock-at
 add-clock-at c =
@@ -56,7 +56,7 @@ returns-2 c =
 
 day-after-requires : tie.Need-day-after-requires
 day-after-requires c κs =
-    on-calendar (c .before .before .before .before .before .before .args .moment) (c .before .before .before .before .before .before .pre .0)
+    moment-date (c .before .before .before .before .before .before .args .moment) (c .before .before .before .before .before .before .pre .0)
 
 sub-clock-at : tie.Need-sub-clock-at
 sub-clock-at c =
