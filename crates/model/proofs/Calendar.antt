@@ -85,7 +85,7 @@ by-after d P in-month in-year next = go (ltb (d .day) (daysIn (d .year) (d .mont
         let k = ltb-false (d .month) 12 f in
         rw (after-year (d .year) (d .month) (d .day) h k) (next h k)
 
-by-before : (d : Date) (P : Date → Type 0) → (1 < d .day → P (on (d .year) (d .month) (d .day - 1)))
+pub by-before : (d : Date) (P : Date → Type 0) → (1 < d .day → P (on (d .year) (d .month) (d .day - 1)))
     → (d .day ≤ 1 → 1 < d .month → P (on (d .year) (d .month - 1) (daysIn (d .year) (d .month - 1)))) → (d .day ≤ 1 → d .month ≤ 1 → P (on (d .year - 1) 12 31))
     → P (dayBefore d)
 by-before d P in-month in-year next = go (ltb 1 (d .day)) refl (ltb 1 (d .month)) refl

@@ -2,18 +2,17 @@
 use Prim.Native.Nat.{_%_, _*_, _+_, _-_, _/_, _<_, _≤_, suc, zero, ℕ}
 use mathlib.Core.Bool.{Bool, false, true}
 use mathlib.Core.List.{List, [], _∷_}
-use mathlib.Core.Option.{some}
 use mathlib.Core.Path.{_∙_, _≡_, ap, refl, sym}
 use native.Mathlib.Omega.{arith}
-use lib.IntN.{_+ℤ_, negsuc, negℤ, pos, ℤ}
+use lib.IntN.{_+ℤ_, negsuc, pos, ℤ}
 use lib.ListN.{getD, length, take}
 use Rattle.model.specs.declared.Date.{Date}
 use Rattle.model.specs.declared.Moment.{Moment}
 use Rattle.model.specs.Time.{daysIn, inYears, isLeap, monthDays}
-use Rattle.model.specs.Calendar.{dayAfter, dayBefore, daysEarlier, daysLater, fromMidnight, minuteOfDay, moved}
-use Rattle.model.specs.Shifts.{ShiftsReturn, dayNumber, daysOfYears, minuteNumber, totalOf}
+use Rattle.model.specs.Calendar.{dayAfter, dayBefore, daysEarlier, daysLater, fromMidnight, minuteOfDay}
+use Rattle.model.specs.Shifts.{dayNumber, daysOfYears, minuteNumber, totalOf}
 use Rattle.model.proofs.Calendar.{Dated, after-before, by-after, dated-after, dated-before, dated-earlier, december, on, year-before}
-use Rattle.model.proofs.Shifts.{Valid, back-by, earlier-by, later-by, moved-second, moved-valid, moved-zero, shifted-in, shifted-is, sub-more, valid-by, valid-facts, year-from}
+use Rattle.model.proofs.Shifts.{Valid, earlier-by, later-by, sub-more, year-from}
 
 total-take : (l : List ℕ) (k : ℕ) → k < length l → totalOf (take (suc k) l) ≡ totalOf (take k l) + getD l k 0
 unfolding totalOf
@@ -55,12 +54,12 @@ module _ (d : Date) (z : Dated d) (from : 1980 ≤ d .year) where
   year-after : 1980 ≤ (dayAfter d) .year
   year-after = by-after d (λ e. 1980 ≤ e .year) (λ h. from) (λ h k. from) (λ h k. omega (arith, from))
 
-number-later : (k : ℕ) (d : Date) → Dated d → 1980 ≤ d .year → dayNumber (daysLater k d) ≡ dayNumber d + k
+pub number-later : (k : ℕ) (d : Date) → Dated d → 1980 ≤ d .year → dayNumber (daysLater k d) ≡ dayNumber d + k
 unfolding daysLater
 number-later zero d z from = omega arith
 number-later (suc k) d z from = omega (arith, number-later k (dayAfter d) (dated-after d z) (year-after d z from), number-after d z from)
 
-number-earlier : (k : ℕ) (d : Date) → Dated d → 1980 ≤ (daysEarlier k d) .year → dayNumber d ≡ dayNumber (daysEarlier k d) + k
+pub number-earlier : (k : ℕ) (d : Date) → Dated d → 1980 ≤ (daysEarlier k d) .year → dayNumber d ≡ dayNumber (daysEarlier k d) + k
 unfolding daysEarlier
 number-earlier zero d z from = omega arith
 number-earlier (suc k) d z from =
@@ -90,22 +89,3 @@ module _ (m : Moment) (v : Valid m) where
       let days = number-earlier (k / 1440 + 1) (m .date) (v .dated) (year-from ((daysEarlier (k / 1440 + 1) (m .date)) .year) i) in
       earlier-by (minuteOfDay m) k s e (λ s. pos (minuteNumber (fromMidnight (negsuc k) m)) ≡ pos (midnight + minuteOfDay m) +ℤ s)
       (λ j h. ap pos (omega (arith, days, h)) ∙ sym (sub-more (midnight + minuteOfDay m) (suc j) (omega (arith, days, h))))
-
-pub shifts-return : ShiftsReturn
-shifts-return =
-    record {
-      stays = λ m e.
-          let v = valid-facts m e in
-          let same = moved-zero m v in
-          shifted-in (pos 0) m (ap (λ (n : Moment). inYears (n .date .year)) same ∙ v .year-in) ∙ ap some same;
-      leads = λ s m n e h.
-          let v = valid-facts m e in
-          let is = shifted-is s m n h in
-          let back = back-by m v s (pos (minuteOfDay m) +ℤ s) refl (is .0) in
-          record {
-            valid = rw (← is .1) (valid-by (moved s m) (moved-valid m v (pos (minuteOfDay m) +ℤ s) (is .0)));
-            exact = rw (← is .1) (exact-by m v s (pos (minuteOfDay m) +ℤ s) refl (is .0));
-            seconds = rw (← is .1) (moved-second m v (pos (minuteOfDay m) +ℤ s));
-            back = rw (← is .1) (shifted-in (negℤ s) (moved s m) (ap (λ (n : Moment). inYears (n .date .year)) back ∙ v .year-in) ∙ ap some back);
-          };
-    }

@@ -25,6 +25,7 @@ pub mod NeededPages
 pub mod Calendar
 pub mod Shifts
 pub mod DayNumbers
+pub mod Reaching
 pub mod ShiftNumbers
 pub mod PlanActs
 pub mod Directories

@@ -70,7 +70,7 @@ clock-shows : (m : Moment) (d : Date) (n : ℕ) → minuteOfDay (clockAt m d n) 
 clock-shows m d n = omega arith
 
 -- a clock set to what it shows
-clock-same : (m : Moment) → Valid m → clockAt m (m .date) (minuteOfDay m) ≡ m
+pub clock-same : (m : Moment) → Valid m → clockAt m (m .date) (minuteOfDay m) ≡ m
 clock-same m v =
     let hours : minuteOfDay m / 60 ≡ m .hour = omega (arith, v .minute-to) in
     let minutes : minuteOfDay m % 60 ≡ m .minute = omega (arith, v .minute-to) in
@@ -85,7 +85,7 @@ pub sub-more : (a b : ℕ) → b ≤ a → subℕ a b ≡ pos (a - b)
 sub-more a b h = rw (le-ltb a b h)
 
 -- equal differences
-sub-cross : (a b c d : ℕ) → a + d ≡ c + b → subℕ a b ≡ subℕ c d
+pub sub-cross : (a b c d : ℕ) → a + d ≡ c + b → subℕ a b ≡ subℕ c d
 sub-cross a b c d e = go (ltb a b) refl
   where
     go : (x : Bool) → ltb a b ≡ x → subℕ a b ≡ subℕ c d

@@ -37,9 +37,12 @@ pub record ShiftLeads (minutes : ℤ) (m n : Moment) : Type 0 where
   pub seconds : n .second ≡ m .second
   pub back : shifted (negℤ minutes) n ≡ some m
 
+-- A shift of 0 stays; one that leads somewhere leads exactly there; and one leads to every valid time that lies so many minutes away.
 pub record ShiftsReturn : Type 0 where
   pub stays : (m : Moment) → validMoment m ≡ true → shifted (pos 0) m ≡ some m
   pub leads : (minutes : ℤ) (m n : Moment) → validMoment m ≡ true → shifted minutes m ≡ some n → ShiftLeads minutes m n
+  pub reaches : (minutes : ℤ) (m n : Moment) → validMoment m ≡ true → validMoment n ≡ true → n .second ≡ m .second
+      → pos (minuteNumber n) ≡ pos (minuteNumber m) +ℤ minutes → shifted minutes m ≡ some n
 
 -- ---- numbers to meet: both ends of the allowed shifts, at ends of months, years and the calendar
 

@@ -77,7 +77,8 @@ pub fn bench_numbers()
     ensures { λ _. ⌜ BenchNumbers ⌝ }
 {}
 
-// A time shifted by any number of minutes: 0 leaves it, the opposite takes back, seconds stay, and exactly the minutes are added.
+// A time shifted by any number of minutes: 0 leaves it, the opposite takes back, seconds stay, and it is the one that lies exactly so
+// many minutes away, wherever that is in the calendar's years.
 pub fn shifts_return()
     ensures { λ _. ⌜ ShiftsReturn ⌝ }
 {}

@@ -1,5 +1,5 @@
--- `model::shifts_return` meets its contract: the claim is proved in proofs/DayNumbers.
-use Rattle.model.proofs.DayNumbers.{shifts-return}
+-- `model::shifts_return` meets its contract: the claim is proved in proofs/Reaching.
+use Rattle.model.proofs.Reaching.{shifts-return}
 use Rattle.model.proofs.shifts_return.Statement.{statement}
 use Rattle.model.proofs.shifts_return.Tie as tie
 
