@@ -10,12 +10,11 @@ use Rattle.model.specs.declared.Date.{Date}
 use Rattle.model.specs.declared.Moment.{Moment}
 use Rattle.model.specs.Time.{daysIn, inYears, isLeap, monthDays}
 use Rattle.model.specs.Calendar.{dayAfter, dayBefore, daysEarlier, daysLater, fromMidnight, minuteOfDay}
-use Rattle.model.specs.Shifts.{dayNumber, daysOfYears, minuteNumber, totalOf}
+use Rattle.model.specs.Shifts.{dayNumber, daysOf, daysOfYears, minuteNumber}
 use Rattle.model.proofs.Calendar.{Dated, after-before, by-after, dated-after, dated-before, dated-earlier, december, on, year-before}
 use Rattle.model.proofs.Shifts.{Valid, earlier-by, later-by, sub-more, year-from}
 
-total-take : (l : List ℕ) (k : ℕ) → k < length l → totalOf (take (suc k) l) ≡ totalOf (take k l) + getD l k 0
-unfolding totalOf
+total-take : (l : List ℕ) (k : ℕ) → k < length l → daysOf (take (suc k) l) ≡ daysOf (take k l) + getD l k 0
 total-take [] k h = absurd (omega arith)
 total-take (x ∷ l) zero h = omega arith
 total-take (x ∷ l) (suc k) h = omega (arith, total-take l k (omega arith))
@@ -26,20 +25,19 @@ months false = refl
 
 -- the days of the months before this one and its own
 month-total : (year month : ℕ) → 1 ≤ month → month ≤ 12
-    → totalOf (take (month + 1 - 1) (monthDays (isLeap year))) ≡ totalOf (take (month - 1) (monthDays (isLeap year))) + daysIn year month
+    → daysOf (take (month + 1 - 1) (monthDays (isLeap year))) ≡ daysOf (take (month - 1) (monthDays (isLeap year))) + daysIn year month
 month-total year month from to =
     let next : month + 1 - 1 ≡ suc (month - 1) = omega (arith, from) in
     rw next (total-take (monthDays (isLeap year)) (month - 1) (omega (arith, to, months (isLeap year))))
 
 -- all twelve
-year-total : (leap : Bool) → totalOf (monthDays leap) ≡ totalOf (take 11 (monthDays leap)) + 31
-unfolding totalOf
+year-total : (leap : Bool) → daysOf (monthDays leap) ≡ daysOf (take 11 (monthDays leap)) + 31
 year-total true = refl
 year-total false = refl
 
 module _ (d : Date) (z : Dated d) (from : 1980 ≤ d .year) where
   pub number-after : dayNumber (dayAfter d) ≡ dayNumber d + 1
-  unfolding daysOfYears totalOf
+  unfolding daysOfYears
   number-after =
       by-after d (λ e. dayNumber e ≡ dayNumber d + 1)
       (λ h. omega (arith, z .day-from))

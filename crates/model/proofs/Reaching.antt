@@ -12,7 +12,7 @@ use Rattle.model.specs.declared.Date.{Date}
 use Rattle.model.specs.declared.Moment.{Moment}
 use Rattle.model.specs.Time.{inYears}
 use Rattle.model.specs.Calendar.{clockAt, dayAfter, dayBefore, daysEarlier, daysLater, fromMidnight, minuteOfDay, moved, shifted}
-use Rattle.model.specs.Shifts.{ShiftsReturn, dayNumber, daysOfYears, minuteNumber, totalOf}
+use Rattle.model.specs.Shifts.{ShiftsReturn, dayNumber, daysOfYears, minuteNumber}
 use Rattle.model.proofs.Calendar.{Dated, after-before, by-before, dated-before, earlier-later, on}
 use Rattle.model.proofs.DayNumbers.{exact-by, number-after}
 use Rattle.model.proofs.Shifts.{Valid, back-by, clock-same, earlier-of, later-by, later-of, minute-below, moved-second, moved-valid, moved-zero, shifted-in, shifted-is, sub-cross, sub-more, valid-by, valid-facts, year-from}
@@ -57,7 +57,7 @@ later-sum zero b d = let none : 0 + b ≡ b = omega arith in rw none
 later-sum (suc a) b d = let next : suc a + b ≡ suc (a + b) = omega arith in rw next (later-sum a b (dayAfter d))
 
 since : (n : ℕ) (d : Date) → Dated d → 1980 ≤ d .year → dayNumber d ≡ n → daysLater n epoch ≡ d
-unfolding daysLater Follows daysOfYears totalOf
+unfolding daysLater Follows daysOfYears
 since zero d z from e = ⊎-elim (λ first. sym first) (λ f. absurd (omega (arith, e, f .1))) (first-or d z from)
 since (suc n) d z from e =
     ⊎-elim

@@ -4,13 +4,13 @@ pub mod Bytes
 pub mod Entry
 pub mod Time
 pub mod Calendar
-pub mod Shifts
 pub mod View
 pub mod Tree
 pub mod Holds
 pub mod Check
 pub mod Counts
 pub mod Needed
+pub mod Shifts
 pub mod Lookup
 pub mod Standing
 pub mod Pages

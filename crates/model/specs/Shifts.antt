@@ -1,7 +1,7 @@
 -- What is claimed of the shifting rule, for every valid time and every whole number of minutes, and numbers to meet.
 use Prim.Native.Nat.{_*_, _+_, _-_, suc, zero, ℕ}
 use mathlib.Core.Bool.{true}
-use mathlib.Core.List.{List, [], _∷_}
+use mathlib.Core.List.{List}
 use mathlib.Core.Option.{none, some}
 use mathlib.Core.Path.{_≡_}
 use lib.IntN.{_+ℤ_, negsuc, negℤ, pos, ℤ}
@@ -10,20 +10,21 @@ use Rattle.model.specs.declared.Date.{Date}
 use Rattle.model.specs.declared.Moment.{Moment}
 use Rattle.model.specs.Time.{isLeap, monthDays, validMoment}
 use Rattle.model.specs.Calendar.{minuteOfDay, shifted}
+use Rattle.model.specs.Needed.{totalOver}
 
 -- ---- minutes since 1980 began: a second way through the calendar, by whole years and months
 
-unfoldable pub totalOf : List ℕ → ℕ
-totalOf [] = 0
-totalOf (n ∷ ns) = n + totalOf ns
+-- the days of these months
+abbrev pub daysOf : List ℕ → ℕ
+daysOf months = totalOver (λ days. days) months
 
 -- the days of the first so many years
 unfoldable pub daysOfYears : ℕ → ℕ
 daysOfYears zero = 0
-daysOfYears (suc k) = daysOfYears k + totalOf (monthDays (isLeap (1980 + k)))
+daysOfYears (suc k) = daysOfYears k + daysOf (monthDays (isLeap (1980 + k)))
 
 abbrev pub dayNumber : Date → ℕ
-dayNumber d = daysOfYears (d .year - 1980) + totalOf (take (d .month - 1) (monthDays (isLeap (d .year)))) + (d .day - 1)
+dayNumber d = daysOfYears (d .year - 1980) + daysOf (take (d .month - 1) (monthDays (isLeap (d .year)))) + (d .day - 1)
 
 abbrev pub minuteNumber : Moment → ℕ
 minuteNumber m = dayNumber (m .date) * 1440 + minuteOfDay m
