@@ -20,7 +20,8 @@
  *   are the same in both formats; but a plain page has no code, so that none is unreadable or corrected.
  * image, image_length: the image, of any content and length. A card has 32 to 65,536 clusters, in steps of 8: an image
  *   of any other length than 1,056 bytes for each of them, or 1,024 where it is plain, is refused. No length is right
- *   for a number that names no format. Every call but the two conversions checks the whole card first.
+ *   for a number that names no format. Every call but the two conversions checks the whole card first; the listing
+ *   judges its minutes before that.
  * The check reads the superblock, the table and every directory, but NO FILE DATA: a card that it accepts may have
  *   files with unreadable pages. Only ps2card_read of all of a file's bytes shows that they can be read.
  * mended: how many chunks were corrected in the pages that the call needed, each page counted once. A raw page has four
