@@ -36,12 +36,12 @@ use Rattle.model.proofs.PageBytes.{length-new}
 use Rattle.model.proofs.Sites as tree
 use Rattle.change.specs.declared.entries.EntryAt.{EntryAt}
 use Rattle.change.specs.declared.entries.NewEntry.{NewEntry}
-use Rattle.change.specs.Calls.{CanAdd, CanAddIn, added, addedImage, addedIn, deadOf, doneWith, dotsOf, enough, needOf, newOf, pickOutcome, placeOf, refusedBy, slotsOf, unlessThere}
+use Rattle.change.specs.Calls.{CanAdd, CanAddIn, added, addedImage, addedIn, deadOf, doneWith, dotsOf, enough, lockedAt, needOf, newOf, pickOutcome, placeOf, refusedBy, slotsOf, unlessLocked, unlessThere}
 use Rattle.change.specs.Changed.{changed}
 use Rattle.change.specs.Deeds.{entriesOf, lastOf, numberBy}
 use Rattle.change.specs.Words.{freeList}
 use Rattle.change.proofs.AddPlans.{DeadAt, slots-many}
-use Rattle.change.proofs.Added.{Adds, added-exists, added-full, create-done, make-done}
+use Rattle.change.proofs.Added.{Adds, added-exists, added-full, added-locked, create-done, make-done}
 use Rattle.change.proofs.ChainWords.{last-times}
 use Rattle.change.proofs.ChangedLaws.{checked-parts}
 use Rattle.change.proofs.ChangedView.{end-is, no-words}
@@ -123,11 +123,11 @@ module _ (format : Format) (image : List ℕ) (s : Superblock) (root : Root) (m 
         let f = name-found (see s image) (site .below) (slotsOf (tableOf image s) here) (site .slots) held-slots (lastName p) k q e in
         ap mustLack (f .2) ∙ there-11 (f .0) (f .1) (f .5)
 
-  -- ---- a change that puts a new entry down, with what the model does of it where the name is absent and enough is free
+  -- ---- a change that puts a new entry down, with what the model does of it where the name is absent, nothing locked and enough free
   module _ (c : Change) (fine : static c ≡ 0) (creating : creates c ≡ true) (lacking : (g : Found) → own c g ≡ mustLack g) (here : EntryAt)
       (site : Site (see s image) (tableOf image s) root (path c) here) (new : NewEntry) (dead-is : new .dead ≡ deadOf (see s image) (tableOf image s) here) (time bytes : List ℕ)
       (many : size c ≡ clustersFor (length bytes)) (few-bytes : clustersFor (length bytes) ≤ mostClusters → new .count < wordLimit)
-      (does : lookIn (site .slots) (lastName (path c) ∷ []) ≡ absent → needOf here (new .dead) bytes ≤ length (freeList s (tableOf image s)) → Adds format image s here c new time (lastName (path c)) bytes) where
+      (does : lookIn (site .slots) (lastName (path c) ∷ []) ≡ absent → lockedAt here ≡ false → needOf here (new .dead) bytes ≤ length (freeList s (tableOf image s)) → Adds format image s here c new time (lastName (path c)) bytes) where
     at-dead : DeadAt (entryPages (Slot.directory (entryOf (here .page)) (site .chain))) (site .slots) (new .dead)
     at-dead = rw dead-is (dead-so (path c) here site)
 
@@ -143,19 +143,25 @@ module _ (format : Format) (image : List ℕ) (s : Superblock) (root : Root) (m 
           low-last = last-low (path c) here site;
           low-slot = rw dead-is (numbered (path c) here site);
           small = λ e. few-bytes (omega (arith, room-for e, free-few));
-          lands = λ e. (does (absent-so (path c) here site lacks) (room-for e)) .lands;
+          lands = λ o e. (does (absent-so (path c) here site lacks) o (room-for e)) .lands;
         }
 
-    judged : placeOf (see s image) (tableOf image s) here (lastName (path c)) ≡ place.Nowhere → (b : Bool) → enough s (tableOf image s) (needOf here (new .dead) bytes) ≡ b
+    judged : placeOf (see s image) (tableOf image s) here (lastName (path c)) ≡ place.Nowhere → lockedAt here ≡ false → (b : Bool) → enough s (tableOf image s) (needOf here (new .dead) bytes) ≡ b
         → pickOutcome b (doneWith (addedImage s image (tableOf image s) here new time (lastName (path c)) bytes)) (refusedBy 12 image) ≡ changed format c image
-    judged l true e = sym ((does (absent-so (path c) here site l) (room-for e)) .done)
-    judged l false e =
-        sym (added-full format image s root m checked c fine here site creating (new .dead) at-dead (lacking _ ∙ ap mustLack (absent-so (path c) here site l))
+    judged l o true e = sym ((does (absent-so (path c) here site l) o (room-for e)) .done)
+    judged l o false e =
+        sym (added-full format image s root m checked c fine here site creating (new .dead) at-dead (lacking _ ∙ ap mustLack (absent-so (path c) here site l)) (rw (absent-so (path c) here site l, o))
         (omega (arith, many, leb-false (needOf here (new .dead) bytes) (length (freeList s (tableOf image s))) e)))
+
+    opened-up : placeOf (see s image) (tableOf image s) here (lastName (path c)) ≡ place.Nowhere → (b : Bool) → lockedAt here ≡ b
+        → unlessLocked s image (tableOf image s) b (pickOutcome (enough s (tableOf image s) (needOf here (new .dead) bytes)) (doneWith (addedImage s image (tableOf image s) here new time (lastName (path c)) bytes)) (refusedBy 12 image)) ≡ changed format c image
+    opened-up l false o = judged l o (enough s (tableOf image s) (needOf here (new .dead) bytes)) refl
+    opened-up l true o =
+        sym (added-locked format image s root m checked c fine here site creating (new .dead) at-dead (lacking _ ∙ ap mustLack (absent-so (path c) here site l)) (rw (absent-so (path c) here site l, o)))
 
     pub added-at : (x : Place) → placeOf (see s image) (tableOf image s) here (lastName (path c)) ≡ x
         → unlessThere s image (tableOf image s) x (added s image (tableOf image s) here new time (lastName (path c)) bytes) ≡ changed format c image
-    added-at place.Nowhere e = judged e (enough s (tableOf image s) (needOf here (new .dead) bytes)) refl
+    added-at place.Nowhere e = opened-up e (lockedAt here) refl
     added-at (place.At k q) e = sym (added-exists format image s root m checked c fine here site creating (new .dead) at-dead 10 (lacking _ ∙ exists-11 (path c) here site k q e))
 
   -- ---- the two creations
@@ -172,7 +178,7 @@ module _ (format : Format) (image : List ℕ) (s : Superblock) (root : Root) (m 
     pub can-create : static (create p time bytes) ≡ 0 → CanAddIn s image (tableOf image s) here false (lastName p) time bytes
     can-create fine directory lacks =
         can-add (create p time bytes) fine refl (λ g. refl) here site (newOf false bytes dead) refl time bytes refl (λ few. omega arith)
-        (λ l room. create-done format image s root m checked p time here site dead (dead-so p here site) l bytes fine room) lacks
+        (λ l o room. create-done format image s root m checked p time here site dead (dead-so p here site) l o bytes fine room) lacks
 
     pub created-here : isDirectory (entryOf (here .page)) ≡ true → static (create p time bytes) ≡ 0
         → addedIn s image (tableOf image s) here false (lastName p) time bytes ≡ changed format (create p time bytes) image
@@ -180,12 +186,12 @@ module _ (format : Format) (image : List ℕ) (s : Superblock) (root : Root) (m 
     created-here directory fine =
         rw directory
         (added-at (create p time bytes) fine refl (λ g. refl) here site (newOf false bytes dead) refl time bytes refl (λ few. omega arith)
-        (λ l room. create-done format image s root m checked p time here site dead (dead-so p here site) l bytes fine room) (placeOf (see s image) (tableOf image s) here (lastName p)) refl)
+        (λ l o room. create-done format image s root m checked p time here site dead (dead-so p here site) l o bytes fine room) (placeOf (see s image) (tableOf image s) here (lastName p)) refl)
 
     pub can-make : static (makeDirectory p time) ≡ 0 → CanAddIn s image (tableOf image s) here true (lastName p) time bytes
     can-make fine directory lacks =
         can-add (makeDirectory p time) fine refl (λ g. refl) here site (newOf true bytes dead) refl time dots (sym one) (λ few. omega arith)
-        (λ l room. make-done format image s root m checked p time here site dead (dead-so p here site) l bytes fine room) lacks
+        (λ l o room. make-done format image s root m checked p time here site dead (dead-so p here site) l o bytes fine room) lacks
 
     pub made-here : isDirectory (entryOf (here .page)) ≡ true → static (makeDirectory p time) ≡ 0
         → addedIn s image (tableOf image s) here true (lastName p) time bytes ≡ changed format (makeDirectory p time) image
@@ -193,4 +199,4 @@ module _ (format : Format) (image : List ℕ) (s : Superblock) (root : Root) (m 
     made-here directory fine =
         rw directory
         (added-at (makeDirectory p time) fine refl (λ g. refl) here site (newOf true bytes dead) refl time dots (sym one) (λ few. omega arith)
-        (λ l room. make-done format image s root m checked p time here site dead (dead-so p here site) l bytes fine room) (placeOf (see s image) (tableOf image s) here (lastName p)) refl)
+        (λ l o room. make-done format image s root m checked p time here site dead (dead-so p here site) l o bytes fine room) (placeOf (see s image) (tableOf image s) here (lastName p)) refl)

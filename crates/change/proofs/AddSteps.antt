@@ -15,7 +15,7 @@ use Rattle.model.specs.Plan.{firstOf, newEntry, withLength}
 use Rattle.tree.specs.Slots.{clusterAt}
 use Rattle.change.specs.declared.entries.EntryAt.{EntryAt}
 use Rattle.change.specs.declared.entries.NewEntry.{NewEntry}
-use Rattle.change.specs.Calls.{added, addedImage, doneWith, enough, needOf, refusedBy}
+use Rattle.change.specs.Calls.{added, addedImage, doneWith, enough, lockedAt, needOf, refusedBy}
 use Rattle.change.specs.Deeds.{Listed, addedTable, addedWrites, entriesOf, growthBy, growthOf, lastOf, lengthBy, pageBy, relinked, takenOf, writesOf}
 use Rattle.change.specs.Image.{Lands}
 use Rattle.change.specs.Words.{freeList}
@@ -82,15 +82,18 @@ module _ {s : Superblock} {table list bytes : List ℕ} {directory : EntryAt} {d
           (record { always = false; page = directory .at; bytes = longer }) (record { always = true; page = slot; bytes = page }))
       lands-so end h = subst (Lands end) (sym writes-so) h
 
--- ---- judged against what is free
+-- ---- judged by the directory's lock and against what is free
 pub need-so : (directory : EntryAt) (dead : Place) (bytes : List ℕ) {entries growing own : ℕ} → own ≡ clustersFor (length bytes) → entries ≡ entriesOf directory → growing ≡ growthBy dead entries
     → own + growing ≡ needOf directory dead bytes
 need-so directory dead bytes o e g = ap₂ (λ a b. a + b) o (g ∙ ap (growthBy dead) e)
 
 module _ (s : Superblock) (image table : List ℕ) (directory : EntryAt) (new : NewEntry) (time name bytes : List ℕ) where
-  pub added-full : length (freeList s table) < needOf directory (new .dead) bytes → added s image table directory new time name bytes ≡ refusedBy 12 image
-  added-full h = rw (lt-leb (needOf directory (new .dead) bytes) (length (freeList s table)) h)
+  pub added-locked : lockedAt directory ≡ true → added s image table directory new time name bytes ≡ refusedBy 16 image
+  added-locked l = rw l
 
-  pub added-done : {after : List ℕ} → needOf directory (new .dead) bytes ≤ length (freeList s table) → after ≡ addedImage s image table directory new time name bytes
+  pub added-full : lockedAt directory ≡ false → length (freeList s table) < needOf directory (new .dead) bytes → added s image table directory new time name bytes ≡ refusedBy 12 image
+  added-full o h = rw (o, lt-leb (needOf directory (new .dead) bytes) (length (freeList s table)) h)
+
+  pub added-done : {after : List ℕ} → lockedAt directory ≡ false → needOf directory (new .dead) bytes ≤ length (freeList s table) → after ≡ addedImage s image table directory new time name bytes
       → added s image table directory new time name bytes ≡ doneWith after
-  added-done h e = rw (le-leb (needOf directory (new .dead) bytes) (length (freeList s table)) h) (ap doneWith (sym e))
+  added-done o h e = rw (o, le-leb (needOf directory (new .dead) bytes) (length (freeList s table)) h) (ap doneWith (sym e))

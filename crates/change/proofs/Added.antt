@@ -32,7 +32,7 @@ use Rattle.model.proofs.PageBytes.{length-new}
 use Rattle.model.proofs.Refusals.{refusal-accepts}
 use Rattle.change.specs.declared.entries.EntryAt.{EntryAt}
 use Rattle.change.specs.declared.entries.NewEntry.{NewEntry}
-use Rattle.change.specs.Calls.{addedImage, doneWith, dotsOf, needOf, newOf}
+use Rattle.change.specs.Calls.{addedImage, doneWith, dotsOf, lockedAt, needOf, newOf}
 use Rattle.change.specs.Changed.{changed, rulesOf}
 use Rattle.change.specs.Deeds.{addedTable, addedWrites, entriesOf, growthBy, growthOf, lastOf, numberBy, takenOf}
 use Rattle.change.specs.Words.{freeList}
@@ -45,7 +45,7 @@ use Rattle.change.proofs.FreeLaws.{growth-small}
 use Rattle.change.specs.Image.{Lands}
 use Rattle.change.proofs.PlanTable.{same-words}
 use Rattle.change.proofs.SiteFacts.{free-is, last-is, last-of-chain, two-pages}
-use Rattle.change.proofs.SiteRefusals.{refusal-here}
+use Rattle.change.proofs.SiteRefusals.{locksAt, refusal-here}
 use Rattle.change.proofs.Sites.{Site, directoryAt}
 
 -- what the code does of an accepted creation
@@ -77,22 +77,28 @@ module _ (format : Format) (image : List ℕ) (s : Superblock) (root : Root) (m 
           rw creating (ap (λ n. size c + n) (growth-is (entryOf (here .page)) (site .chain) (site .slots) (see s image) (site .below) (site .two) (site .long) (site .held) dead d))
 
       added-refusal : refusal (rulesOf s) c (see s image) root
-          ≡ first (own c (lookIn (site .slots) (lastName (path c) ∷ []))) (cond (leb (size c + growthBy dead (entriesOf here)) (length (freeList s (tableOf image s)))) 0 12)
+          ≡ first (own c (lookIn (site .slots) (lastName (path c) ∷ [])))
+          (first (cond (locksAt here (lookIn (site .slots) (lastName (path c) ∷ []))) 16 0) (cond (leb (size c + growthBy dead (entriesOf here)) (length (freeList s (tableOf image s)))) 0 12))
       added-refusal =
           refusal-here image s root c here site fine (free-is format image s opened)
-          ∙ ap (λ n. first (own c (lookIn (site .slots) (lastName (path c) ∷ []))) (cond (leb n (length (freeList s (tableOf image s)))) 0 12)) need-is
+          ∙ ap (λ n. first (own c (lookIn (site .slots) (lastName (path c) ∷ []))) (first (cond (locksAt here (lookIn (site .slots) (lastName (path c) ∷ []))) 16 0) (cond (leb n (length (freeList s (tableOf image s)))) 0 12))) need-is
 
       -- refused by what stands at the name
       pub added-exists : (n : ℕ) → own c (lookIn (site .slots) (lastName (path c) ∷ [])) ≡ suc n → changed format c image ≡ record { answer = fault (suc n) 0; image = image }
       added-exists n e = (refuses format image s root m checked c n (added-refusal ∙ rw e)) .0
 
+      -- refused where the directory is locked
+      pub added-locked : own c (lookIn (site .slots) (lastName (path c) ∷ [])) ≡ 0 → locksAt here (lookIn (site .slots) (lastName (path c) ∷ [])) ≡ true
+          → changed format c image ≡ record { answer = fault 16 0; image = image }
+      added-locked e l = (refuses format image s root m checked c 15 (added-refusal ∙ rw (e, l))) .0
+
       -- refused for want of room
-      pub added-full : own c (lookIn (site .slots) (lastName (path c) ∷ [])) ≡ 0 → length (freeList s (tableOf image s)) < size c + growthBy dead (entriesOf here)
+      pub added-full : own c (lookIn (site .slots) (lastName (path c) ∷ [])) ≡ 0 → locksAt here (lookIn (site .slots) (lastName (path c) ∷ [])) ≡ false → length (freeList s (tableOf image s)) < size c + growthBy dead (entriesOf here)
           → changed format c image ≡ record { answer = fault 12 0; image = image }
-      added-full e l = (refuses format image s root m checked c 11 (added-refusal ∙ rw (e, lt-leb _ _ l))) .0
+      added-full e o l = (refuses format image s root m checked c 11 (added-refusal ∙ rw (e, o, lt-leb _ _ l))) .0
 
       -- accepted, with a filling that is a new entry
-      module _ (free : own c (lookIn (site .slots) (lastName (path c) ∷ [])) ≡ 0) (room : size c + growthBy dead (entriesOf here) ≤ length (freeList s (tableOf image s)))
+      module _ (free : own c (lookIn (site .slots) (lastName (path c) ∷ [])) ≡ 0) (unlocked : locksAt here (lookIn (site .slots) (lastName (path c) ∷ [])) ≡ false) (room : size c + growthBy dead (entriesOf here) ≤ length (freeList s (tableOf image s)))
           (f : List ℕ → Filling) (mode count : ℕ) (time name bytes : List ℕ) (many : size c ≡ clustersFor (length bytes))
           (plan-so : planOf (rulesOf s) c (see s image) root ≡ some (made (rulesOf s) (see s image) (directoryAt here (site .chain)) (adding (directoryAt here (site .chain)) (site .slots) (clustersFor (length bytes)) f)))
           (pages : (own : List ℕ) → (f own) .pages ≡ dataPages bytes) (new : (own : List ℕ) → (f own) .isNew ≡ true)
@@ -101,7 +107,7 @@ module _ (format : Format) (image : List ℕ) (s : Superblock) (root : Root) (m 
         plan = made (rulesOf s) (see s image) (directoryAt here (site .chain)) (adding (directoryAt here (site .chain)) (site .slots) (clustersFor (length bytes)) f)
 
         none-met : refusal (rulesOf s) c (see s image) root ≡ 0
-        none-met = added-refusal ∙ rw (free, le-leb _ _ room)
+        none-met = added-refusal ∙ rw (free, unlocked, le-leb _ _ room)
 
         deed : Deed (rulesOf s) (see s image) root (made (rulesOf s) (see s image) (directoryAt here (site .chain)) (adding (directoryAt here (site .chain)) (site .slots) (clustersFor (length bytes)) f))
         deed = deed-of c none-met _ plan-so
@@ -148,11 +154,11 @@ module _ (format : Format) (image : List ℕ) (s : Superblock) (root : Root) (m 
 -- ---- the two creations
 module _ (format : Format) (image : List ℕ) (s : Superblock) (root : Root) (m : Marks) (checked : checkImage format image ≡ ok (s, root, m)) (p : Path) (time : List ℕ) (here : EntryAt)
     (site : Site (see s image) (tableOf image s) root p here) (dead : Place) (d : DeadAt (entryPages (Slot.directory (entryOf (here .page)) (site .chain))) (site .slots) dead)
-    (absent-so : lookIn (site .slots) (lastName p ∷ []) ≡ absent) where
+    (absent-so : lookIn (site .slots) (lastName p ∷ []) ≡ absent) (unlocked : lockedAt here ≡ false) where
   pub create-done : (bytes : List ℕ) → static (create p time bytes) ≡ 0 → needOf here dead bytes ≤ length (freeList s (tableOf image s))
       → Adds format image s here (create p time bytes) (newOf false bytes dead) time (lastName p) bytes
   create-done bytes fine room =
-      adds format image s root m checked (create p time bytes) fine here site refl dead d (rw absent-so) room (newFile (lastName p) time bytes) fileMode (length bytes) time (lastName p) bytes
+      adds format image s root m checked (create p time bytes) fine here site refl dead d (rw absent-so) (rw (absent-so, unlocked)) room (newFile (lastName p) time bytes) fileMode (length bytes) time (lastName p) bytes
       refl (planned-at format image s root m checked (create p time bytes) fine here site) (λ o. refl) (λ o. refl) (λ o. refl)
 
   -- the first two entries of a new directory
@@ -181,7 +187,7 @@ module _ (format : Format) (image : List ℕ) (s : Superblock) (root : Root) (m 
       → Adds format image s here (makeDirectory p time) (newOf true bytes dead) time (lastName p) (dotsOf (here .first) (numberBy dead (entriesOf here)) time)
   make-done bytes fine room =
       let f = newDirectory (lastName p) time (firstOf (site .chain)) (2 + firstDead (site .slots)) in
-      adds format image s root m checked (makeDirectory p time) fine here site refl dead d (rw absent-so) (omega (arith, one-cluster)) f directoryMode 2 time (lastName p)
+      adds format image s root m checked (makeDirectory p time) fine here site refl dead d (rw absent-so) (rw (absent-so, unlocked)) (omega (arith, one-cluster)) f directoryMode 2 time (lastName p)
       (dotsOf (here .first) (numberBy dead (entriesOf here)) time) (sym one-cluster)
       (planned-at format image s root m checked (makeDirectory p time) fine here site
       ∙ ap (λ k. some (made (rulesOf s) (see s image) (directoryAt here (site .chain)) (adding (directoryAt here (site .chain)) (site .slots) k f))) (sym one-cluster))

@@ -12,7 +12,7 @@ use Rattle.lookup.specs.Descend.{entered}
 use Rattle.model.specs.Entry.{clustersFor, entryOf, isDirectory}
 use Rattle.change.specs.declared.editing.Action.{Action}
 use Rattle.change.specs.declared.entries.EntryAt.{EntryAt}
-use Rattle.change.specs.Calls.{CanEdit, CanEditIn, deletedEntry, doneWith, edited, editedIn, liveOf, refusedBy, removedEntry, removedImage}
+use Rattle.change.specs.Calls.{CanEdit, CanEditIn, deletedEntry, doneWith, edited, eitherLocked, editedIn, liveOf, refusedBy, removedEntry, removedImage}
 use Rattle.change.specs.Deeds.{entriesOf}
 
 -- ---- where the name leads
@@ -47,15 +47,21 @@ module _ (s : Superblock) (image table : List ℕ) (directory entry : EntryAt) w
   pub removed-kind : isDirectory (entryOf (entry .page)) ≡ false → removedEntry s image table directory entry ≡ refusedBy 10 image
   removed-kind d = rw d
 
+  pub deleted-locked : isDirectory (entryOf (entry .page)) ≡ false → eitherLocked directory entry ≡ true → deletedEntry s image table directory entry ≡ refusedBy 16 image
+  deleted-locked file l = rw (file, l)
+
   module _ {size : ℕ} (size-is : size ≡ entriesOf entry) where
-    pub deleted-done : {count : ℕ} {after : List ℕ} → isDirectory (entryOf (entry .page)) ≡ false → count ≡ clustersFor size
+    pub deleted-done : {count : ℕ} {after : List ℕ} → isDirectory (entryOf (entry .page)) ≡ false → eitherLocked directory entry ≡ false → count ≡ clustersFor size
         → after ≡ removedImage s image table directory entry count → deletedEntry s image table directory entry ≡ doneWith after
-    deleted-done file c e = rw file (ap doneWith (sym (e ∙ ap (removedImage s image table directory entry) (c ∙ ap clustersFor size-is))))
+    deleted-done file o c e = rw (file, o) (ap doneWith (sym (e ∙ ap (removedImage s image table directory entry) (c ∙ ap clustersFor size-is))))
 
     module _ (is-directory : isDirectory (entryOf (entry .page)) ≡ true) where
       pub removed-live : (k p : ℕ) → liveOf (viewBy (s .geometry) table image) table entry ≡ place.At k p → removedEntry s image table directory entry ≡ refusedBy 13 image
       removed-live k p e = rw (is-directory, e)
 
-      pub removed-done : {count : ℕ} {after : List ℕ} → liveOf (viewBy (s .geometry) table image) table entry ≡ place.Nowhere
+      pub removed-locked : liveOf (viewBy (s .geometry) table image) table entry ≡ place.Nowhere → eitherLocked directory entry ≡ true → removedEntry s image table directory entry ≡ refusedBy 16 image
+      removed-locked n l = rw (is-directory, n, l)
+
+      pub removed-done : {count : ℕ} {after : List ℕ} → liveOf (viewBy (s .geometry) table image) table entry ≡ place.Nowhere → eitherLocked directory entry ≡ false
           → count ≡ (size + 1) / 2 → after ≡ removedImage s image table directory entry count → removedEntry s image table directory entry ≡ doneWith after
-      removed-done n c e = rw (is-directory, n) (ap doneWith (sym (e ∙ ap (removedImage s image table directory entry) (c ∙ ap (λ k. (k + 1) / 2) size-is))))
+      removed-done n o c e = rw (is-directory, n, o) (ap doneWith (sym (e ∙ ap (removedImage s image table directory entry) (c ∙ ap (λ k. (k + 1) / 2) size-is))))

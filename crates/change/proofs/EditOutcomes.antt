@@ -5,7 +5,7 @@ use mathlib.Core.List.{List, [], _∷_}
 use mathlib.Core.Option.{Option, none, some}
 use mathlib.Core.Path.{_∙_, _≡_, ap, refl, sym}
 use native.Mathlib.Omega.{arith}
-use borrow.Author.Tests.{leb-false, leb-true, ne-eqb}
+use borrow.Author.Tests.{eq-eqb, leb-false, leb-true, ne-eqb}
 use lib.Dec.{eqb, leb→le}
 use lib.ListN.{getD, length}
 use Rattle.page.specs.declared.Format.{Format}
@@ -36,12 +36,12 @@ use Rattle.tree.proofs.ChainPages.{directory-pages}
 use Rattle.change.specs.declared.editing.Action.{Action}
 use Rattle.change.specs.declared.editing.Action.the-variants as action
 use Rattle.change.specs.declared.entries.EntryAt.{EntryAt}
-use Rattle.change.specs.Calls.{CanEdit, CanEditIn, EditLands, doneWith, edited, editedIn, enough, liveOf, onEntry, pickOutcome, placeOf, refusedBy, removedImage, replacedImage, slotsOf, unlessLive}
+use Rattle.change.specs.Calls.{CanEdit, CanEditIn, EditLands, doneWith, edited, editedIn, eitherLocked, enough, liveOf, onEntry, pickOutcome, placeOf, refusedBy, removedImage, replacedImage, slotsOf, unlessLive, unlessLocked}
 use Rattle.change.specs.Changed.{changed}
 use Rattle.change.specs.Words.{freeList}
 use Rattle.change.proofs.AddOutcomes.{held-slots}
 use Rattle.change.proofs.ChangedLaws.{checked-parts}
-use Rattle.change.proofs.Edited.{IsDirectory, IsFile, There, delete-done, directory-here, edit-full, edit-refused, file-here, remove-done, replace-done}
+use Rattle.change.proofs.Edited.{IsDirectory, IsFile, There, delete-done, directory-here, edit-full, edit-refused, file-here, remove-done, replace-done, unless-locked}
 use Rattle.change.proofs.Sites.{Site, entryIn}
 
 -- a page that an entry is read from
@@ -102,29 +102,36 @@ module _ (format : Format) (image : List ℕ) (s : Superblock) (root : Root) (m 
 
   replaced-at : (time bytes : List ℕ) → static (replace p time bytes) ≡ 0 → (q : ℕ) (x : Stands q) → (b : Bool) → isDirectory (entryOf (x .entry)) ≡ b
       → pickOutcome b (refusedBy 10 image)
-      (pickOutcome (enough s (tableOf image s) (clustersFor (length bytes))) (doneWith (replacedImage s image (tableOf image s) here (entryIn q (x .entry)) time bytes)) (refusedBy 12 image))
+      (unlessLocked s image (tableOf image s) (eitherLocked here (entryIn q (x .entry)))
+      (pickOutcome (enough s (tableOf image s) (clustersFor (length bytes))) (doneWith (replacedImage s image (tableOf image s) here (entryIn q (x .entry)) time bytes)) (refusedBy 12 image)))
       ≡ changed format (replace p time bytes) image
   replaced-at time bytes fine q x true e =
       let d = directory-here format image s root m checked p here site q (x .entry) (x .there) e in
       sym (edit-refused format image s root m checked (replace p time bytes) fine refl here site 9 (rw (d .found-directory)))
-  replaced-at time bytes fine q x false e = room (enough s (tableOf image s) (clustersFor (length bytes))) refl
+  replaced-at time bytes fine q x false e =
+      unless-locked format image s root m checked (replace p time bytes) fine refl here site (entryIn q (x .entry)) (rw (file .found-file)) (rw (file .found-file)) _
+      (λ o. room o (enough s (tableOf image s) (clustersFor (length bytes))) refl)
     where
       file : IsFile format image s root m checked p here site q (x .entry) (x .there)
       file = file-here format image s root m checked p here site q (x .entry) (x .there) e
 
-      room : (b : Bool) → enough s (tableOf image s) (clustersFor (length bytes)) ≡ b
+      room : eitherLocked here (entryIn q (x .entry)) ≡ false → (b : Bool) → enough s (tableOf image s) (clustersFor (length bytes)) ≡ b
           → pickOutcome b (doneWith (replacedImage s image (tableOf image s) here (entryIn q (x .entry)) time bytes)) (refusedBy 12 image) ≡ changed format (replace p time bytes) image
-      room true h = sym ((replace-done format image s root m checked p here site q (x .entry) (x .there) time bytes fine file (leb-true (clustersFor (length bytes)) (length (freeList s (tableOf image s))) h)) .done)
-      room false h =
-          sym (edit-full format image s root m checked (replace p time bytes) fine refl here site (rw (file .found-file)) (leb-false (clustersFor (length bytes)) (length (freeList s (tableOf image s))) h))
+      room o true h = sym ((replace-done format image s root m checked p here site q (x .entry) (x .there) time bytes fine file o (leb-true (clustersFor (length bytes)) (length (freeList s (tableOf image s))) h)) .done)
+      room o false h =
+          sym (edit-full format image s root m checked (replace p time bytes) fine refl here site (rw (file .found-file)) (rw (file .found-file) o) (leb-false (clustersFor (length bytes)) (length (freeList s (tableOf image s))) h))
 
   deleted-at : static (delete p) ≡ 0 → (q : ℕ) (x : Stands q) → (b : Bool) → isDirectory (entryOf (x .entry)) ≡ b
-      → pickOutcome b (refusedBy 10 image) (doneWith (removedImage s image (tableOf image s) here (entryIn q (x .entry)) (clustersFor (word (x .entry) 4)))) ≡ changed format (delete p) image
+      → pickOutcome b (refusedBy 10 image)
+      (unlessLocked s image (tableOf image s) (eitherLocked here (entryIn q (x .entry))) (doneWith (removedImage s image (tableOf image s) here (entryIn q (x .entry)) (clustersFor (word (x .entry) 4)))))
+      ≡ changed format (delete p) image
   deleted-at fine q x true e =
       let d = directory-here format image s root m checked p here site q (x .entry) (x .there) e in
       sym (edit-refused format image s root m checked (delete p) fine refl here site 9 (rw (d .found-directory)))
   deleted-at fine q x false e =
-      sym ((delete-done format image s root m checked p here site q (x .entry) (x .there) fine (file-here format image s root m checked p here site q (x .entry) (x .there) e)) .done)
+      let f = file-here format image s root m checked p here site q (x .entry) (x .there) e in
+      unless-locked format image s root m checked (delete p) fine refl here site (entryIn q (x .entry)) (rw (f .found-file)) (rw (f .found-file)) _
+      (λ o. sym ((delete-done format image s root m checked p here site q (x .entry) (x .there) fine f o) .done))
 
   -- the slots of a directory that is to go are those that the code scans
   inside-held : (q : ℕ) (entry : List ℕ) (there : There image s (site .below) (entryPages (Slot.directory (entryOf (here .page)) (site .chain))) (site .slots) (lastName p) q entry)
@@ -137,7 +144,8 @@ module _ (format : Format) (image : List ℕ) (s : Superblock) (root : Root) (m 
   removed-at : static (removeDirectory p) ≡ 0 → (q : ℕ) (x : Stands q) → (b : Bool) → isDirectory (entryOf (x .entry)) ≡ b
       → pickOutcome b
       (unlessLive s image (tableOf image s) (liveOf (see s image) (tableOf image s) (entryIn q (x .entry)))
-      (doneWith (removedImage s image (tableOf image s) here (entryIn q (x .entry)) ((word (x .entry) 4 + 1) / 2)))) (refusedBy 10 image)
+      (unlessLocked s image (tableOf image s) (eitherLocked here (entryIn q (x .entry)))
+      (doneWith (removedImage s image (tableOf image s) here (entryIn q (x .entry)) ((word (x .entry) 4 + 1) / 2))))) (refusedBy 10 image)
       ≡ changed format (removeDirectory p) image
   removed-at fine q x false e =
       let f = file-here format image s root m checked p here site q (x .entry) (x .there) e in
@@ -151,28 +159,31 @@ module _ (format : Format) (image : List ℕ) (s : Superblock) (root : Root) (m 
       full i j h = ne-eqb _ _ (live-at (see s image) (pred (site .below)) (slotsOf (tableOf image s) (entryIn q (x .entry))) (x .there .inside) (inside-held q (x .entry) (x .there) d) i j h)
 
       go : (z : Place) → liveOf (see s image) (tableOf image s) (entryIn q (x .entry)) ≡ z
-          → unlessLive s image (tableOf image s) z (doneWith (removedImage s image (tableOf image s) here (entryIn q (x .entry)) ((word (x .entry) 4 + 1) / 2))) ≡ changed format (removeDirectory p) image
+          → unlessLive s image (tableOf image s) z
+          (unlessLocked s image (tableOf image s) (eitherLocked here (entryIn q (x .entry))) (doneWith (removedImage s image (tableOf image s) here (entryIn q (x .entry)) ((word (x .entry) 4 + 1) / 2))))
+          ≡ changed format (removeDirectory p) image
       go place.Nowhere h =
-          sym ((remove-done format image s root m checked p here site q (x .entry) (x .there) fine d
-          (live-nowhere (see s image) (pred (site .below)) (slotsOf (tableOf image s) (entryIn q (x .entry))) (x .there .inside) (inside-held q (x .entry) (x .there) d) h)) .done)
+          let empty = live-nowhere (see s image) (pred (site .below)) (slotsOf (tableOf image s) (entryIn q (x .entry))) (x .there .inside) (inside-held q (x .entry) (x .there) d) h in
+          unless-locked format image s root m checked (removeDirectory p) fine refl here site (entryIn q (x .entry)) (rw (d .found-directory, eq-eqb _ _ empty)) (rw (d .found-directory)) _
+          (λ o. sym ((remove-done format image s root m checked p here site q (x .entry) (x .there) fine d empty o) .done))
       go (place.At i j) h = sym (edit-refused format image s root m checked (removeDirectory p) fine refl here site 12 (rw (d .found-directory, full i j h)))
 
   -- ---- what is known of an entry before it is replaced or removed: its pages land
 
   replace-lands : (time bytes : List ℕ) → static (replace p time bytes) ≡ 0 → (q : ℕ) (x : Stands q) → EditLands s image (tableOf image s) action.Replace here time bytes (entryIn q (x .entry))
-  replace-lands time bytes fine q x kind room =
+  replace-lands time bytes fine q x kind unlocked room =
       (replace-done format image s root m checked p here site q (x .entry) (x .there) time bytes fine
-      (file-here format image s root m checked p here site q (x .entry) (x .there) kind) (leb-true (clustersFor (length bytes)) (length (freeList s (tableOf image s))) room)) .lands
+      (file-here format image s root m checked p here site q (x .entry) (x .there) kind) unlocked (leb-true (clustersFor (length bytes)) (length (freeList s (tableOf image s))) room)) .lands
 
   delete-lands : (time bytes : List ℕ) → static (delete p) ≡ 0 → (q : ℕ) (x : Stands q) → EditLands s image (tableOf image s) action.Delete here time bytes (entryIn q (x .entry))
-  delete-lands time bytes fine q x kind =
-      (delete-done format image s root m checked p here site q (x .entry) (x .there) fine (file-here format image s root m checked p here site q (x .entry) (x .there) kind)) .lands
+  delete-lands time bytes fine q x kind unlocked =
+      (delete-done format image s root m checked p here site q (x .entry) (x .there) fine (file-here format image s root m checked p here site q (x .entry) (x .there) kind) unlocked) .lands
 
   remove-lands : (time bytes : List ℕ) → static (removeDirectory p) ≡ 0 → (q : ℕ) (x : Stands q) → EditLands s image (tableOf image s) action.Remove here time bytes (entryIn q (x .entry))
-  remove-lands time bytes fine q x kind empty =
+  remove-lands time bytes fine q x kind empty unlocked =
       let d = directory-here format image s root m checked p here site q (x .entry) (x .there) kind in
       (remove-done format image s root m checked p here site q (x .entry) (x .there) fine d
-      (live-nowhere (see s image) (pred (site .below)) (slotsOf (tableOf image s) (entryIn q (x .entry))) (x .there .inside) (inside-held q (x .entry) (x .there) d) empty)) .lands
+      (live-nowhere (see s image) (pred (site .below)) (slotsOf (tableOf image s) (entryIn q (x .entry))) (x .there .inside) (inside-held q (x .entry) (x .there) d) empty) unlocked) .lands
 
 -- ---- a change of an entry that stands: 9 where the name is absent, and else by what is done there
 module _ (format : Format) (image : List ℕ) (s : Superblock) (root : Root) (m : Marks) (checked : checkImage format image ≡ ok (s, root, m)) (c : Change) (fine : static c ≡ 0) (standing : creates c ≡ false)

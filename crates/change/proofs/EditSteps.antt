@@ -17,7 +17,7 @@ use Rattle.model.specs.View.{topBit}
 use Rattle.model.specs.Writes.{PageWrite}
 use Rattle.change.specs.declared.editing.Action.the-variants as action
 use Rattle.change.specs.declared.entries.EntryAt.{EntryAt}
-use Rattle.change.specs.Calls.{CanEdit, doneWith, refusedBy, replacedEntry, replacedImage}
+use Rattle.change.specs.Calls.{CanEdit, doneWith, eitherLocked, refusedBy, replacedEntry, replacedImage}
 use Rattle.change.specs.Deeds.{Open, lengthWrite, entriesOf, keptWrite, relinked, removedWrites, replacedTable, replacedWrites, writesOf}
 use Rattle.change.specs.Image.{Lands}
 use Rattle.change.specs.Words.{freeList}
@@ -72,18 +72,21 @@ module _ (s : Superblock) (table list bytes : List ℕ) (listed : list ≡ freeL
         → Lands end (writesOf [] (take own list) bytes (record { always = false; page = directory .at; bytes = kept }) (record { always = false; page = entry .at; bytes = contents }))
     replaced-lands end h = subst (Lands end) (sym replaced-writes) h
 
--- ---- judged against what is free
+-- ---- judged by its locks and against what is free
 module _ (s : Superblock) (image table : List ℕ) (directory entry : EntryAt) (time bytes : List ℕ) where
   pub replaced-kind : isDirectory (entryOf (entry .page)) ≡ true → replacedEntry s image table directory entry time bytes ≡ refusedBy 10 image
   replaced-kind d = rw d
 
-  module _ (file : isDirectory (entryOf (entry .page)) ≡ false) where
+  pub replaced-locked : isDirectory (entryOf (entry .page)) ≡ false → eitherLocked directory entry ≡ true → replacedEntry s image table directory entry time bytes ≡ refusedBy 16 image
+  replaced-locked f l = rw (f, l)
+
+  module _ (file : isDirectory (entryOf (entry .page)) ≡ false) (unlocked : eitherLocked directory entry ≡ false) where
     pub replaced-full : length (freeList s table) < clustersFor (length bytes) → replacedEntry s image table directory entry time bytes ≡ refusedBy 12 image
-    replaced-full h = rw (file, lt-leb (clustersFor (length bytes)) (length (freeList s table)) h)
+    replaced-full h = rw (file, unlocked, lt-leb (clustersFor (length bytes)) (length (freeList s table)) h)
 
     module _ (room : clustersFor (length bytes) ≤ length (freeList s table)) where
       pub can-land : CanEdit s image table action.Replace directory time bytes entry → Lands (s .end) (replacedWrites s table directory entry time bytes)
-      can-land can = can .lands file (le-leb (clustersFor (length bytes)) (length (freeList s table)) room)
+      can-land can = can .lands file unlocked (le-leb (clustersFor (length bytes)) (length (freeList s table)) room)
 
       pub replaced-done : {after : List ℕ} → after ≡ replacedImage s image table directory entry time bytes → replacedEntry s image table directory entry time bytes ≡ doneWith after
-      replaced-done e = rw (file, le-leb (clustersFor (length bytes)) (length (freeList s table)) room) (ap doneWith (sym e))
+      replaced-done e = rw (file, unlocked, le-leb (clustersFor (length bytes)) (length (freeList s table)) room) (ap doneWith (sym e))

@@ -1,6 +1,6 @@
 -- Replacing a file, deleting one and removing a directory, as the code does them on the entry that it found.
 use Prim.Native.Nat.{ℕ, suc, pred, _+_, _/_, _<_, _≤_}
-use mathlib.Core.Bool.{cond, false, true}
+use mathlib.Core.Bool.{Bool, cond, false, true}
 use mathlib.Core.List.{List, [], _++_, _∷_}
 use mathlib.Core.Logic.{_⊎_, inl, inr}
 use mathlib.Core.Option.{Option, some}
@@ -32,6 +32,7 @@ use Rattle.model.proofs.Outcome.{Deed}
 use Rattle.reached.specs.Table.{tableLinks}
 use Rattle.lookup.proofs.EnterLaws.{file-kind, some-same}
 use Rattle.change.specs.declared.entries.EntryAt.{EntryAt}
+use Rattle.change.specs.Calls.{eitherLocked, unlessLocked}
 use Rattle.change.specs.Changed.{Outcome, changed, rulesOf}
 use Rattle.change.specs.Deeds.{imageBy, relinked, removedTable, removedWrites, replacedTable, replacedWrites}
 use Rattle.change.specs.Words.{freeList}
@@ -43,7 +44,7 @@ use Rattle.change.proofs.EditWrites.{removed-writes, replaced-writes}
 use Rattle.change.specs.Image.{Lands}
 use Rattle.change.proofs.PlanTable.{same-words}
 use Rattle.change.proofs.SiteFacts.{free-is}
-use Rattle.change.proofs.SiteRefusals.{refusal-here}
+use Rattle.change.proofs.SiteRefusals.{locksAt, refusal-here}
 use Rattle.change.proofs.Sites.{Site, directoryAt, entryIn}
 
 -- the chain that an entry's first cluster leads to, as the code steps through it
@@ -61,23 +62,37 @@ module _ (format : Format) (image : List ℕ) (s : Superblock) (root : Root) (m 
   opened = (checked-parts format image s root m checked) .0
 
   edit-refusal : refusal (rulesOf s) c (see s image) root
-      ≡ first (own c (lookIn (site .slots) (lastName (path c) ∷ []))) (cond (leb (size c + 0) (length (freeList s (tableOf image s)))) 0 12)
+      ≡ first (own c (lookIn (site .slots) (lastName (path c) ∷ [])))
+      (first (cond (locksAt here (lookIn (site .slots) (lastName (path c) ∷ []))) 16 0) (cond (leb (size c + 0) (length (freeList s (tableOf image s)))) 0 12))
   edit-refusal =
       refusal-here image s root c here site fine (free-is format image s opened)
-      ∙ ap (λ b. first (own c (lookIn (site .slots) (lastName (path c) ∷ []))) (cond (leb (size c + cond b (growthWithOne (entryOf (here .page)) (site .slots)) 0) (length (freeList s (tableOf image s)))) 0 12)) standing
+      ∙ ap (λ b. first (own c (lookIn (site .slots) (lastName (path c) ∷ []))) (first (cond (locksAt here (lookIn (site .slots) (lastName (path c) ∷ []))) 16 0)
+      (cond (leb (size c + cond b (growthWithOne (entryOf (here .page)) (site .slots)) 0) (length (freeList s (tableOf image s)))) 0 12))) standing
 
-  -- refused by what stands at the name, or for want of room
+  -- refused by what stands at the name, by a lock, or for want of room
   pub edit-refused : (n : ℕ) → own c (lookIn (site .slots) (lastName (path c) ∷ [])) ≡ suc n → changed format c image ≡ record { answer = fault (suc n) 0; image = image }
   edit-refused n e = (refuses format image s root m checked c n (edit-refusal ∙ rw e)) .0
 
-  pub edit-full : own c (lookIn (site .slots) (lastName (path c) ∷ [])) ≡ 0 → length (freeList s (tableOf image s)) < size c → changed format c image ≡ record { answer = fault 12 0; image = image }
-  edit-full e l = (refuses format image s root m checked c 11 (edit-refusal ∙ rw (e, lt-leb (size c + 0) (length (freeList s (tableOf image s))) (omega arith)))) .0
+  edit-locked : own c (lookIn (site .slots) (lastName (path c) ∷ [])) ≡ 0 → locksAt here (lookIn (site .slots) (lastName (path c) ∷ [])) ≡ true → changed format c image ≡ record { answer = fault 16 0; image = image }
+  edit-locked e l = (refuses format image s root m checked c 15 (edit-refusal ∙ rw (e, l))) .0
 
-  module _ (lacks : own c (lookIn (site .slots) (lastName (path c) ∷ [])) ≡ 0) (room : size c ≤ length (freeList s (tableOf image s)))
+  -- 16 where the entry or its directory is locked, and else the rest
+  pub unless-locked : (entry : EntryAt) → own c (lookIn (site .slots) (lastName (path c) ∷ [])) ≡ 0 → locksAt here (lookIn (site .slots) (lastName (path c) ∷ [])) ≡ eitherLocked here entry
+      → (rest : Outcome) → (eitherLocked here entry ≡ false → rest ≡ changed format c image) → unlessLocked s image (tableOf image s) (eitherLocked here entry) rest ≡ changed format c image
+  unless-locked entry stands same rest does = go (eitherLocked here entry) refl
+    where
+      go : (b : Bool) → eitherLocked here entry ≡ b → unlessLocked s image (tableOf image s) b rest ≡ changed format c image
+      go true h = sym (edit-locked stands (same ∙ h))
+      go false h = does h
+
+  pub edit-full : own c (lookIn (site .slots) (lastName (path c) ∷ [])) ≡ 0 → locksAt here (lookIn (site .slots) (lastName (path c) ∷ [])) ≡ false → length (freeList s (tableOf image s)) < size c → changed format c image ≡ record { answer = fault 12 0; image = image }
+  edit-full e o l = (refuses format image s root m checked c 11 (edit-refusal ∙ rw (e, o, lt-leb (size c + 0) (length (freeList s (tableOf image s))) (omega arith)))) .0
+
+  module _ (lacks : own c (lookIn (site .slots) (lastName (path c) ∷ [])) ≡ 0) (unlocked : locksAt here (lookIn (site .slots) (lastName (path c) ∷ [])) ≡ false) (room : size c ≤ length (freeList s (tableOf image s)))
       (k : ℕ) (given : List ℕ) (f : List ℕ → Filling)
       (plan-so : planOf (rulesOf s) c (see s image) root ≡ some (made (rulesOf s) (see s image) (directoryAt here (site .chain)) (altering (directoryAt here (site .chain)) (site .slots) (lastName (path c)) k given f))) where
     none-met : refusal (rulesOf s) c (see s image) root ≡ 0
-    none-met = edit-refusal ∙ rw (lacks, le-leb (size c + 0) (length (freeList s (tableOf image s))) (omega arith))
+    none-met = edit-refusal ∙ rw (lacks, unlocked, le-leb (size c + 0) (length (freeList s (tableOf image s))) (omega arith))
 
     deed : Deed (rulesOf s) (see s image) root (made (rulesOf s) (see s image) (directoryAt here (site .chain)) (altering (directoryAt here (site .chain)) (site .slots) (lastName (path c)) k given f))
     deed = deed-of format image s root m checked c none-met _ plan-so
@@ -183,19 +198,20 @@ module _ (format : Format) (image : List ℕ) (s : Superblock) (root : Root) (m 
     pub lands : Lands (s .end) writes
     pub done : changed format c image ≡ record { answer = ok tt; image = imageBy s image writes table }
 
-  pub replace-done : (time bytes : List ℕ) → static (replace p time bytes) ≡ 0 → IsFile → clustersFor (length bytes) ≤ length (freeList s (tableOf image s))
+  pub replace-done : (time bytes : List ℕ) → static (replace p time bytes) ≡ 0 → IsFile → eitherLocked here (entryIn slot entry) ≡ false → clustersFor (length bytes) ≤ length (freeList s (tableOf image s))
       → Edits (replace p time bytes) (replacedWrites s (tableOf image s) here (entryIn slot entry) time bytes) (replacedTable s (tableOf image s) (entryIn slot entry) bytes)
-  replace-done time bytes fine file room =
+  replace-done time bytes fine file unlocked room =
       let c = replace p time bytes in
       let stands : own (replace p time bytes) (lookIn (site .slots) (lastName p ∷ [])) ≡ 0 = rw (file .found-file) in
+      let free : locksAt here (lookIn (site .slots) (lastName p ∷ [])) ≡ false = rw (file .found-file) unlocked in
       let plan =
       planned-at format image s root m checked (replace p time bytes) fine here site
       ∙ ap (λ g. planBy (rulesOf s) (see s image) (directoryAt here (site .chain)) (editFor (replace p time bytes) (directoryAt here (site .chain)) (site .slots) g)) (file .found-file) in
       let written = replaced-writes image s root p here site (lastName p) slot entry (there .read) (there .placed) (free-is format image s ((checked-parts format image s root m checked) .0)) (file .given) time bytes in
       record {
-        lands = edit-lands format image s root m checked (replace p time bytes) fine refl here site stands room (clustersFor (length bytes)) (file .given) (newContents (entryOf entry) time bytes) plan _ written (word entry 0x10) (file .leads);
+        lands = edit-lands format image s root m checked (replace p time bytes) fine refl here site stands free room (clustersFor (length bytes)) (file .given) (newContents (entryOf entry) time bytes) plan _ written (word entry 0x10) (file .leads);
         done =
-            edit-done format image s root m checked (replace p time bytes) fine refl here site stands room (clustersFor (length bytes)) (file .given) (newContents (entryOf entry) time bytes) plan _ written (word entry 0x10) (file .leads)
+            edit-done format image s root m checked (replace p time bytes) fine refl here site stands free room (clustersFor (length bytes)) (file .given) (newContents (entryOf entry) time bytes) plan _ written (word entry 0x10) (file .leads)
             ∙ ap (λ n. record { answer = ok tt; image = imageBy s image (replacedWrites s (tableOf image s) here (entryIn slot entry) time bytes) (relinked (word entry 0x10) n (take (clustersFor (length bytes)) (freeList s (tableOf image s))) 0 [] (tableOf image s)) }) (file .many);
       }
 
@@ -207,29 +223,31 @@ module _ (format : Format) (image : List ℕ) (s : Superblock) (root : Root) (m 
       (record { answer = ok tt; image = imageBy s image (removedWrites here (entryIn slot entry)) (removedTable (tableOf image s) (entryIn slot entry) k) })
   gone-as n k e = ap (λ i. record { answer = ok tt; image = imageBy s image (removedWrites here (entryIn slot entry)) (removedTable (tableOf image s) (entryIn slot entry) i) }) e
 
-  pub delete-done : static (delete p) ≡ 0 → IsFile → Edits (delete p) (removedWrites here (entryIn slot entry)) (removedTable (tableOf image s) (entryIn slot entry) (clustersFor (word entry 4)))
-  delete-done fine file =
+  pub delete-done : static (delete p) ≡ 0 → IsFile → eitherLocked here (entryIn slot entry) ≡ false → Edits (delete p) (removedWrites here (entryIn slot entry)) (removedTable (tableOf image s) (entryIn slot entry) (clustersFor (word entry 4)))
+  delete-done fine file unlocked =
       let stands : own (delete p) (lookIn (site .slots) (lastName p ∷ [])) ≡ 0 = rw (file .found-file) in
+      let free : locksAt here (lookIn (site .slots) (lastName p ∷ [])) ≡ false = rw (file .found-file) unlocked in
       let plan =
       planned-at format image s root m checked (delete p) fine here site
       ∙ ap (λ g. planBy (rulesOf s) (see s image) (directoryAt here (site .chain)) (editFor (delete p) (directoryAt here (site .chain)) (site .slots) g)) (file .found-file) in
       record {
-        lands = edit-lands format image s root m checked (delete p) fine refl here site stands (omega arith) 0 (file .given) (removal (entryOf entry)) plan _ (written-gone (file .given)) (word entry 0x10) (file .leads);
+        lands = edit-lands format image s root m checked (delete p) fine refl here site stands free (omega arith) 0 (file .given) (removal (entryOf entry)) plan _ (written-gone (file .given)) (word entry 0x10) (file .leads);
         done =
-            edit-done format image s root m checked (delete p) fine refl here site stands (omega arith) 0 (file .given) (removal (entryOf entry)) plan _ (written-gone (file .given)) (word entry 0x10) (file .leads)
+            edit-done format image s root m checked (delete p) fine refl here site stands free (omega arith) 0 (file .given) (removal (entryOf entry)) plan _ (written-gone (file .given)) (word entry 0x10) (file .leads)
             ∙ gone-as (length (file .given)) (clustersFor (word entry 4)) (file .many);
       }
 
-  pub remove-done : static (removeDirectory p) ≡ 0 → IsDirectory → slotCount (there .inside) ≡ deadSlots (there .inside)
+  pub remove-done : static (removeDirectory p) ≡ 0 → IsDirectory → slotCount (there .inside) ≡ deadSlots (there .inside) → eitherLocked here (entryIn slot entry) ≡ false
       → Edits (removeDirectory p) (removedWrites here (entryIn slot entry)) (removedTable (tableOf image s) (entryIn slot entry) ((word entry 4 + 1) / 2))
-  remove-done fine directory empty =
+  remove-done fine directory empty unlocked =
       let stands : own (removeDirectory p) (lookIn (site .slots) (lastName p ∷ [])) ≡ 0 = rw (directory .found-directory, eq-eqb _ _ empty) in
+      let free : locksAt here (lookIn (site .slots) (lastName p ∷ [])) ≡ false = rw (directory .found-directory) unlocked in
       let plan =
       planned-at format image s root m checked (removeDirectory p) fine here site
       ∙ ap (λ g. planBy (rulesOf s) (see s image) (directoryAt here (site .chain)) (editFor (removeDirectory p) (directoryAt here (site .chain)) (site .slots) g)) (directory .found-directory) in
       record {
-        lands = edit-lands format image s root m checked (removeDirectory p) fine refl here site stands (omega arith) 0 (directory .given) (removal (entryOf entry)) plan _ (written-gone (directory .given)) (word entry 0x10) (directory .leads);
+        lands = edit-lands format image s root m checked (removeDirectory p) fine refl here site stands free (omega arith) 0 (directory .given) (removal (entryOf entry)) plan _ (written-gone (directory .given)) (word entry 0x10) (directory .leads);
         done =
-            edit-done format image s root m checked (removeDirectory p) fine refl here site stands (omega arith) 0 (directory .given) (removal (entryOf entry)) plan _ (written-gone (directory .given)) (word entry 0x10) (directory .leads)
+            edit-done format image s root m checked (removeDirectory p) fine refl here site stands free (omega arith) 0 (directory .given) (removal (entryOf entry)) plan _ (written-gone (directory .given)) (word entry 0x10) (directory .leads)
             ∙ gone-as (length (directory .given)) ((word entry 4 + 1) / 2) (directory .many);
       }

@@ -1,6 +1,6 @@
 -- The five changes as the code does them in the directory that a path leads to: what is refused there, and the image afterwards.
 use Prim.Native.Nat.{ℕ, _+_, _-_, _*_, _/_, _<_, _≤_}
-use mathlib.Core.Bool.{Bool, false, true}
+use mathlib.Core.Bool.{Bool, _||_, false, true}
 use mathlib.Core.List.{List, _++_}
 use mathlib.Core.Path.{_≡_}
 use lib.Dec.{leb}
@@ -17,7 +17,7 @@ use Rattle.tree.specs.Scan.{bearing, dying, livingFrom, scan}
 use Rattle.model.specs.Bytes.{word, wordLimit}
 use Rattle.model.specs.Change.{directoryMode, fileMode}
 use Rattle.model.specs.Check.{fault, ok}
-use Rattle.model.specs.Entry.{clustersFor, entryOf, isDirectory}
+use Rattle.model.specs.Entry.{clustersFor, entryOf, isDirectory, isLocked}
 use Rattle.model.specs.Names.{Name, dotDotName, dotName}
 use Rattle.model.specs.Pages.{newPage}
 use Rattle.model.specs.Plan.{newEntry}
@@ -69,6 +69,13 @@ abbrev pub contentsOf : Bool → EntryAt → Place → List ℕ → List ℕ →
 contentsOf false directory dead time bytes = bytes
 contentsOf true directory dead time bytes = dotsOf (directory .first) (numberBy dead (entriesOf directory)) time
 
+-- an entry is locked, and an entry or the directory directly around it
+abbrev pub lockedAt : EntryAt → Bool
+lockedAt entry = isLocked ((entryOf (entry .page)) .mode)
+
+abbrev pub eitherLocked : EntryAt → EntryAt → Bool
+eitherLocked directory entry = lockedAt entry || lockedAt directory
+
 -- enough clusters are free
 abbrev pub enough : Superblock → List ℕ → ℕ → Bool
 enough s table need = leb need (length (freeList s table))
@@ -78,14 +85,18 @@ abbrev pub needOf : EntryAt → Place → List ℕ → ℕ
 needOf directory dead bytes = clustersFor (length bytes) + growthBy dead (entriesOf directory)
 
 module _ (s : Superblock) (image table : List ℕ) where
-  -- ---- a new entry: 12 where fewer clusters are free than it needs
+  -- ---- a new entry: 16 where the directory is locked, 12 where fewer clusters are free than it needs
+  abbrev pub unlessLocked : Bool → Outcome → Outcome
+  unlessLocked locks rest = pickOutcome locks (refusedBy 16 image) rest
+
   abbrev pub addedImage : EntryAt → NewEntry → List ℕ → Name → List ℕ → List ℕ
   addedImage directory new time name bytes =
       imageBy s image (addedWrites s table directory new time name bytes) (addedTable s table directory (new .dead) bytes)
 
   abbrev pub added : EntryAt → NewEntry → List ℕ → Name → List ℕ → Outcome
   added directory new time name bytes =
-      pickOutcome (enough s table (needOf directory (new .dead) bytes)) (doneWith (addedImage directory new time name bytes)) (refusedBy 12 image)
+      unlessLocked (lockedAt directory)
+      (pickOutcome (enough s table (needOf directory (new .dead) bytes)) (doneWith (addedImage directory new time name bytes)) (refusedBy 12 image))
 
   -- what the code knows of a new entry: its numbers fit, and its pages land
   pub record CanAdd (directory : EntryAt) (new : NewEntry) (time name bytes : List ℕ) : Type 0 where
@@ -95,7 +106,7 @@ module _ (s : Superblock) (image table : List ℕ) where
     pub low-last : lastOf table directory < topBit
     pub low-slot : numberBy (new .dead) (entriesOf directory) ≤ 2 * mostClusters
     pub small : enough s table (needOf directory (new .dead) bytes) ≡ true → new .count < wordLimit
-    pub lands : enough s table (needOf directory (new .dead) bytes) ≡ true → Lands (s .end) (addedWrites s table directory new time name bytes)
+    pub lands : lockedAt directory ≡ false → enough s table (needOf directory (new .dead) bytes) ≡ true → Lands (s .end) (addedWrites s table directory new time name bytes)
 
   -- 11 where the name is there, 10 where a file stands in the directory's place
   abbrev pub unlessThere : Place → Outcome → Outcome
@@ -123,18 +134,20 @@ module _ (s : Superblock) (image table : List ℕ) where
   replacedImage directory entry time bytes =
       imageBy s image (replacedWrites s table directory entry time bytes) (replacedTable s table entry bytes)
 
-  -- 12 where too few clusters are free; the old ones do not help
+  -- 16 where it or its directory is locked, 12 where too few clusters are free; the old ones do not help
   abbrev pub replacedEntry : EntryAt → EntryAt → List ℕ → List ℕ → Outcome
   replacedEntry directory entry time bytes =
       pickOutcome (isDirectory (entryOf (entry .page))) (refusedBy 10 image)
-      (pickOutcome (enough s table (clustersFor (length bytes))) (doneWith (replacedImage directory entry time bytes)) (refusedBy 12 image))
+      (unlessLocked (eitherLocked directory entry)
+      (pickOutcome (enough s table (clustersFor (length bytes))) (doneWith (replacedImage directory entry time bytes)) (refusedBy 12 image)))
 
   abbrev pub removedImage : EntryAt → EntryAt → ℕ → List ℕ
   removedImage directory entry count = imageBy s image (removedWrites directory entry) (removedTable table entry count)
 
   abbrev pub deletedEntry : EntryAt → EntryAt → Outcome
   deletedEntry directory entry =
-      pickOutcome (isDirectory (entryOf (entry .page))) (refusedBy 10 image) (doneWith (removedImage directory entry (clustersFor (word (entry .page) 4))))
+      pickOutcome (isDirectory (entryOf (entry .page))) (refusedBy 10 image)
+      (unlessLocked (eitherLocked directory entry) (doneWith (removedImage directory entry (clustersFor (word (entry .page) 4)))))
 
   -- 13 where a live entry is in the directory
   abbrev pub unlessLive : Place → Outcome → Outcome
@@ -144,7 +157,8 @@ module _ (s : Superblock) (image table : List ℕ) where
   abbrev pub removedEntry : EntryAt → EntryAt → Outcome
   removedEntry directory entry =
       pickOutcome (isDirectory (entryOf (entry .page)))
-      (unlessLive (liveOf (viewBy (s .geometry) table image) table entry) (doneWith (removedImage directory entry ((entriesOf entry + 1) / 2))))
+      (unlessLive (liveOf (viewBy (s .geometry) table image) table entry)
+      (unlessLocked (eitherLocked directory entry) (doneWith (removedImage directory entry ((entriesOf entry + 1) / 2)))))
       (refusedBy 10 image)
 
   abbrev pub edited : Action → EntryAt → List ℕ → List ℕ → EntryAt → Outcome
@@ -155,11 +169,11 @@ module _ (s : Superblock) (image table : List ℕ) where
   -- what the code knows of the entry: where none of these is met, its pages land
   abbrev pub EditLands : Action → EntryAt → List ℕ → List ℕ → EntryAt → Type 0
   EditLands action.Replace directory time bytes entry =
-      isDirectory (entryOf (entry .page)) ≡ false → enough s table (clustersFor (length bytes)) ≡ true → Lands (s .end) (replacedWrites s table directory entry time bytes)
+      isDirectory (entryOf (entry .page)) ≡ false → eitherLocked directory entry ≡ false → enough s table (clustersFor (length bytes)) ≡ true → Lands (s .end) (replacedWrites s table directory entry time bytes)
   EditLands action.Delete directory time bytes entry =
-      isDirectory (entryOf (entry .page)) ≡ false → Lands (s .end) (removedWrites directory entry)
+      isDirectory (entryOf (entry .page)) ≡ false → eitherLocked directory entry ≡ false → Lands (s .end) (removedWrites directory entry)
   EditLands action.Remove directory time bytes entry =
-      isDirectory (entryOf (entry .page)) ≡ true → liveOf (viewBy (s .geometry) table image) table entry ≡ place.Nowhere → Lands (s .end) (removedWrites directory entry)
+      isDirectory (entryOf (entry .page)) ≡ true → liveOf (viewBy (s .geometry) table image) table entry ≡ place.Nowhere → eitherLocked directory entry ≡ false → Lands (s .end) (removedWrites directory entry)
 
   pub record CanEdit (action : Action) (directory : EntryAt) (time bytes : List ℕ) (entry : EntryAt) : Type 0 where
     pub card : Open s image table

@@ -9,7 +9,7 @@ use Rattle.fields.specs.PathBytes.{pathOf}
 use Rattle.layout.specs.declared.Superblock.{Superblock}
 use Rattle.layout.specs.See.{checkImage, see}
 use Rattle.layout.specs.Superblock.{mayTakeBy}
-use Rattle.model.specs.Change.{Change, Rules, baseRules}
+use Rattle.model.specs.Change.{Change, Rules}
 use Rattle.model.specs.Check.{Marks, Result, fault, ok}
 use Rattle.model.specs.Names.{Path}
 use Rattle.model.specs.Plan.{Plan, planOf}
@@ -22,9 +22,9 @@ pub record Outcome : Type 0 where
   pub answer : Result (Unit {0})
   pub image : List ℕ
 
--- The base rules of a card. On every card that the check opens alloc_end is within the limit.
+-- The rules of a card. On every card that the check opens alloc_end is within the limit.
 abbrev pub rulesOf : Superblock → Rules
-rulesOf s = baseRules (min (s .end) mostClusters) (omega arith) (mayTakeBy s)
+rulesOf s = record { allocEnd = min (s .end) mostClusters; limited = omega arith; mayTake = mayTakeBy s }
 
 -- An accepted change has a plan (`writes_give_view` of the model). Without one, which never comes, what it needs would be absent: 9.
 abbrev pub outcomeWith : Superblock → List ℕ → Option Plan → Outcome

@@ -16,6 +16,7 @@ use crate::sizes::number_by;
 use crate::sizes::page_by;
 use crate::words::collect_free;
 use fields::kinds::is_directory;
+use fields::kinds::is_locked;
 use fields::numbers::word_at;
 use layout::Refusal;
 use layout::Superblock;
@@ -26,12 +27,13 @@ use tree::along::find_name;
 use tree::along::first_dead;
 use tree::slots::next_of;
 use tree::slots::slots_of;
+ghost use mathlib.Core.Bool.{false};
 ghost use mathlib.Core.Path.{_≡_};
 ghost use Rattle.change.specs.Answers.{Leaves};
-ghost use Rattle.change.specs.Calls.{CanAdd, CanAddIn, added, addedImage, addedIn, dotsOf, needOf};
+ghost use Rattle.change.specs.Calls.{CanAdd, CanAddIn, added, addedImage, addedIn, dotsOf, lockedAt, needOf};
 ghost use Rattle.change.specs.Deeds.{Listed};
 
-// Puts a new entry down; the free clusters are listed, and enough.
+// Puts a new entry down in a directory that is not locked; the free clusters are listed, and enough.
 fn add_listed(
     image: &mut [u8],
     table: &mut [u32],
@@ -43,7 +45,7 @@ fn add_listed(
     name: &[u8],
     bytes: &[u8],
 )
-    requires { ⌜ Listed s (now table) (now list) (needOf directory (new .dead) (now bytes)) × CanAdd s (now image) (now table) directory new (now time) (now name) (now bytes) ⌝ }
+    requires { ⌜ Listed s (now table) (now list) (needOf directory (new .dead) (now bytes)) × CanAdd s (now image) (now table) directory new (now time) (now name) (now bytes) × (lockedAt directory ≡ false) ⌝ }
     ensures { λ _. ⌜ now (image .exit) ≡ addedImage s (now (image .entry)) (now (table .entry)) directory new (now (time .entry)) (now (name .entry)) (now (bytes .entry)) ⌝ }
 {
     let entries = word_at(&directory.page, 0x04);
@@ -77,7 +79,7 @@ fn add_listed(
     );
 }
 
-// Judges need against what is free, and then puts the entry down.
+// Judges the directory's lock and need against what is free, and then puts the entry down.
 fn add(
     image: &mut [u8],
     table: &mut [u32],
@@ -91,6 +93,9 @@ fn add(
     requires { ⌜ CanAdd s (now image) (now table) directory new (now time) (now name) (now bytes) ⌝ }
     ensures { λ r. ⌜ Leaves (added s (now (image .entry)) (now (table .entry)) directory new (now (time .entry)) (now (name .entry)) (now (bytes .entry))) r (now (image .exit)) ⌝ }
 {
+    if is_locked(&directory.page) {
+        return Answer::Refused(Refusal::Locked);
+    }
     let mut list = [0u32; MOST_CLUSTERS];
     let free = collect_free(table, s, &mut list);
     let dead = new.dead;

@@ -13,6 +13,7 @@ use crate::sizes::file_clusters;
 use crate::sizes::first_of;
 use crate::words::collect_free;
 use fields::kinds::is_directory;
+use fields::kinds::is_locked;
 use fields::numbers::word_at;
 use layout::Refusal;
 use layout::Superblock;
@@ -27,7 +28,8 @@ ghost use mathlib.Core.List.{[]};
 ghost use mathlib.Core.Path.{_≡_};
 ghost use lib.ListN.{length};
 ghost use Rattle.change.specs.declared.editing.Action.the-variants as action;
-ghost use Rattle.model.specs.Entry.{clustersFor};
+ghost use mathlib.Core.Bool.{_||_};
+ghost use Rattle.model.specs.Entry.{clustersFor, entryOf, isLocked};
 ghost use Rattle.change.specs.Answers.{Leaves};
 ghost use Rattle.change.specs.Calls.{CanEdit, CanEditIn, deletedEntry, editedIn, removedEntry, removedImage, replacedEntry, replacedImage};
 ghost use Rattle.change.specs.Deeds.{Listed, Open, removedWrites, replacedWrites};
@@ -38,6 +40,13 @@ pub(crate) enum Action {
     Replace,
     Delete,
     Remove,
+}
+
+// Whether an entry is locked, or the directory directly around it.
+fn either_locked(entry: &[u8; 512], directory: &[u8; 512]) -> bool
+    ensures { λ r. ⌜ r ≡ (isLocked ((entryOf (now (entry .entry))) .mode) || isLocked ((entryOf (now (directory .entry))) .mode)) ⌝ }
+{
+    is_locked(entry) | is_locked(directory)
 }
 
 // Puts new contents down; the free clusters are listed, and enough.
@@ -81,7 +90,7 @@ fn replace_listed(
     );
 }
 
-// Replaces the bytes of a file: judges need against what is free, and then puts the new contents down.
+// Replaces the bytes of a file: judges locks and need against what is free, and then puts the new contents down.
 fn replace_entry(
     image: &mut [u8],
     table: &mut [u32],
@@ -96,6 +105,9 @@ fn replace_entry(
 {
     if is_directory(&entry.page) {
         return Answer::Refused(Refusal::WrongKind);
+    }
+    if either_locked(&entry.page, &directory.page) {
+        return Answer::Refused(Refusal::Locked);
     }
     let mut list = [0u32; MOST_CLUSTERS];
     let free = collect_free(table, s, &mut list);
@@ -165,6 +177,9 @@ fn delete_entry(
     if is_directory(&entry.page) {
         return Answer::Refused(Refusal::WrongKind);
     }
+    if either_locked(&entry.page, &directory.page) {
+        return Answer::Refused(Refusal::Locked);
+    }
     let count = file_clusters(word_at(&entry.page, 0x04));
     take_away(image, table, s, directory, entry, count);
     Answer::Done
@@ -190,6 +205,9 @@ fn remove_entry(
     match live {
         Place::At { slot: _, page: _ } => Answer::Refused(Refusal::NotEmpty),
         Place::Nowhere => {
+            if either_locked(&entry.page, &directory.page) {
+                return Answer::Refused(Refusal::Locked);
+            }
             take_away(
                 image,
                 table,

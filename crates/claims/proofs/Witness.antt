@@ -22,7 +22,7 @@ use Rattle.model.specs.Change.{Change, create}
 use Rattle.model.specs.Counts.{listWords, noBlock}
 use Rattle.model.specs.Check.{checkTree, ok}
 use Rattle.model.specs.Holds.{HoldsCard}
-use Rattle.model.specs.Refusal.{refusal}
+use Rattle.model.specs.Refusal.{lockRefusal, refusal}
 use Rattle.model.specs.Time.{validTime}
 use Rattle.model.specs.Tree.{Root, end, reached}
 use Rattle.model.specs.View.{View}
@@ -217,11 +217,11 @@ module _ (format : Format) where
   refused-by c = ap (λ (v : View). refusal (rulesOf card) c v root) view-is
 
   full : refusal (rulesOf card) (file 28672) view root ≡ 0
-  unfolding refusal validTime
+  unfolding refusal lockRefusal validTime
   full = refl
 
   too-much : refusal (rulesOf card) (file 28673) view root ≡ 12
-  unfolding refusal validTime
+  unfolding refusal lockRefusal validTime
   too-much = refl
 
   -- all its codes match, so that no chunk is corrected

@@ -4,7 +4,7 @@ use crate::names::name_is_good;
 use crate::numbers::half_at;
 use crate::numbers::word_at;
 ghost use mathlib.Core.Path.{_≡_};
-ghost use Rattle.model.specs.Entry.{entryOf, isLive, isDirectory, isRoot};
+ghost use Rattle.model.specs.Entry.{entryOf, isDirectory, isLive, isLocked, isRoot};
 ghost use Rattle.fields.specs.Kinds.{kindOf};
 
 // What an entry from slot 2 on is. File: its bytes and its first cluster. Directory: its entries and its first cluster.
@@ -30,6 +30,13 @@ pub fn is_directory(page: &[u8; 512]) -> bool
 {
     let mode = half_at(page, 0x00);
     (mode / 0x8000 % 2 == 1) & (mode / 0x20 % 2 == 1) & !(mode / 0x10 % 2 == 1)
+}
+
+// Whether the entry lacks the write bit.
+pub fn is_locked(page: &[u8; 512]) -> bool
+    ensures { λ r. ⌜ r ≡ isLocked ((entryOf (now (page .entry))) .mode) ⌝ }
+{
+    !(half_at(page, 0x00) / 0x0002 % 2 == 1)
 }
 
 // Whether a page can be the root's own first entry.

@@ -19,6 +19,7 @@ numberOf is.WrongKind = 10
 numberOf is.Exists = 11
 numberOf is.NotEmpty = 13
 numberOf is.BadOffset = 15
+numberOf is.Locked = 16
 numberOf is.NoRoom = 12
 numberOf is.WrongOutput = 23
 
@@ -38,5 +39,6 @@ pageOf is.WrongKind = 0
 pageOf is.Exists = 0
 pageOf is.NotEmpty = 0
 pageOf is.BadOffset = 0
+pageOf is.Locked = 0
 pageOf is.NoRoom = 0
 pageOf is.WrongOutput = 0

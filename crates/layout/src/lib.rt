@@ -40,6 +40,7 @@ pub enum Refusal {
     Exists,
     NotEmpty,
     BadOffset,
+    Locked,
     NoRoom,
     WrongOutput,
 }
@@ -65,6 +66,7 @@ impl Refusal {
             Refusal::Exists => 11,
             Refusal::NotEmpty => 13,
             Refusal::BadOffset => 15,
+            Refusal::Locked => 16,
             Refusal::NoRoom => 12,
             Refusal::WrongOutput => 23,
         }
@@ -90,6 +92,7 @@ impl Refusal {
             Refusal::Exists => 0,
             Refusal::NotEmpty => 0,
             Refusal::BadOffset => 0,
+            Refusal::Locked => 0,
             Refusal::NoRoom => 0,
             Refusal::WrongOutput => 0,
         }

@@ -7,12 +7,12 @@ use Rattle.model.specs.Check.{andThen, checkTree}
 use Rattle.model.specs.Pages.{dataPages, newPage, zeroPage}
 use Rattle.model.specs.Perform.{perform}
 use Rattle.model.specs.Plan.{freeBelow}
-use Rattle.model.specs.Refusal.{refusal}
+use Rattle.model.specs.Refusal.{lockRefusal, refusal}
 use Rattle.model.specs.Time.{validTime}
 use Rattle.model.specs.View.{Link, linkOf}
 
 pub bench-numbers : BenchNumbers
-unfolding bench perform checkTree andThen refusal freeBelow validTime dataPages newPage zeroPage
+unfolding bench perform checkTree andThen refusal lockRefusal freeBelow validTime dataPages newPage zeroPage
 bench-numbers =
     record
     { fresh = refl; full = refl; tooMuch = refl; fullAgain = refl; tooMuchAgain = refl; removedFirst = refl; createdFirst = refl; saved = refl }

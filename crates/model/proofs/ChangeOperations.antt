@@ -8,7 +8,7 @@ use mathlib.Core.Path.{_∙_, _≡_, ap, ap₂, refl, sym}
 use lib.Dec.{eqb}
 use Rattle.model.specs.Change.{Change, Crossed, Rules, create, creates, delete, makeDirectory, path, removeDirectory, removes, replace, size, standingAfter}
 use Rattle.model.specs.Names.{Path, beginning, parent, samePath}
-use Rattle.model.specs.Refusal.{first, static}
+use Rattle.model.specs.Refusal.{first, lockRefusal, static}
 use Rattle.model.specs.Standing.{Standing}
 use Rattle.model.proofs.Equality.{Eq-name, Eq-path, beginning-parent, beginning-self, tf}
 use Rattle.model.proofs.Operations.{AbstractCard, Accepts, Agree, Apart, Creation, Local, NoClash, Operation, Room, effect, free-comm, look-comm, ok-comm}
@@ -83,7 +83,7 @@ module _ (y : Rules) where
         adds = adds c;
         kills = kills c;
         size = λ σ. size c;
-        test = λ σ. first (static c) (first (standingWay (σ .look) (path c)) (first (standingOwn c (σ .look (path c)) (σ .room (path c))) (y .locked c (σ .look (parent (path c))) (σ .look (path c)))));
+        test = λ σ. first (static c) (first (standingWay (σ .look) (path c)) (first (standingOwn c (σ .look (path c)) (σ .room (path c))) (lockRefusal (σ .look (path c)) (σ .look (parent (path c))))));
         freed = λ σ. freed c (σ .look (path c)) (σ .room (path c));
         puts = λ σ r. standingAfter c (σ .look (path c));
         rooms = λ σ r. roomOf c;

@@ -16,7 +16,7 @@ use Rattle.model.specs.Lookup.{Found, firstDead, pageAtPath}
 use Rattle.model.specs.Names.{Path, dotDotName, dotName, goodName, goodPath, lastName, parent}
 use Rattle.model.specs.Plan.{Plan, adding, after, dotDotEntry, dotEntry, firstOf, freeClusters, growthWithOne, made, newDirectory, newFile, ownClusters, planAt, returned}
 use Rattle.model.specs.Pages.{dataPages, decoded}
-use Rattle.model.specs.Refusal.{first, static}
+use Rattle.model.specs.Refusal.{first, lockRefusal, static}
 use Rattle.model.specs.Time.{validTime}
 use Rattle.model.specs.Tree.{Root, Slot, nameUses, reached, times}
 use Rattle.model.specs.View.{Link, View, pagesOf}
@@ -80,7 +80,7 @@ module _ (y : Rules) where
         a : Change
         a = create p t b
 
-        m : (static a ≡ 0) × (first (standingWay (σ .look) p) (first (standingLack (σ .look p)) (y .locked a (σ .look (parent p)) (σ .look p))) ≡ 0)
+        m : (static a ≡ 0) × (first (standingWay (σ .look) p) (first (standingLack (σ .look p)) (lockRefusal (σ .look p) (σ .look (parent p)))) ≡ 0)
         m = first-0 (static a) _ (o .0)
 
         m₂ : (standingWay (σ .look) p ≡ 0) × (standingLack (σ .look p) ≡ 0)
@@ -139,7 +139,7 @@ module _ (y : Rules) where
         a : Change
         a = makeDirectory p t
 
-        m : (static a ≡ 0) × (first (standingWay (σ .look) p) (first (standingLack (σ .look p)) (y .locked a (σ .look (parent p)) (σ .look p))) ≡ 0)
+        m : (static a ≡ 0) × (first (standingWay (σ .look) p) (first (standingLack (σ .look p)) (lockRefusal (σ .look p) (σ .look (parent p)))) ≡ 0)
         m = first-0 (static a) _ (o .0)
 
         m₂ : (standingWay (σ .look) p ≡ 0) × (standingLack (σ .look p) ≡ 0)

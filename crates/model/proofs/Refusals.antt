@@ -14,7 +14,7 @@ use Rattle.model.specs.Holds.{HoldsCard, deepest}
 use Rattle.model.specs.Lookup.{Found, absent, found, lookUp, tell}
 use Rattle.model.specs.Names.{Path, goodPath, parent}
 use Rattle.model.specs.Plan.{growthWithOne}
-use Rattle.model.specs.Refusal.{first, growthIn, mustEmpty, mustFile, mustLack, needed, onWay, own, refusal, roomRefusal, static, way}
+use Rattle.model.specs.Refusal.{first, growthIn, lockRefusal, mustEmpty, mustFile, mustLack, needed, onWay, own, refusal, roomRefusal, static, way}
 use Rattle.model.specs.Standing.{standing, standsAt}
 use Rattle.model.specs.Time.{validTime}
 use Rattle.model.specs.Tree.{Root, Slot, Tree, deadSlots, entryPages, slotCount}
@@ -105,8 +105,8 @@ module _ (y : Rules) (v : View) (r : Root) (h : HoldsCard v r) where
   own-same (removeDirectory p) = empty-same p (lookUp r p) refl
 
   test-is : (c : Change)
-      → first (static c) (first (way (lookUp r) (path c)) (first (own c (lookUp r (path c))) (y .locked c (standsAt r (parent (path c))) (standsAt r (path c))))) ≡ (op y c) .test σ
-  test-is c = ap₂ (λ a b. first (static c) (first a (first b (y .locked c (standsAt r (parent (path c))) (standsAt r (path c)))))) (way-same (lookUp r) (path c)) (own-same c)
+      → first (static c) (first (way (lookUp r) (path c)) (first (own c (lookUp r (path c))) (lockRefusal (standsAt r (path c)) (standsAt r (parent (path c)))))) ≡ (op y c) .test σ
+  test-is c = ap₂ (λ a b. first (static c) (first a (first b (lockRefusal (standsAt r (path c)) (standsAt r (parent (path c))))))) (way-same (lookUp r) (path c)) (own-same c)
 
   -- where the operation's test passes, what it needs is what the change needs
   pub needed-is : (c : Change) → (op y c) .test σ ≡ 0 → needed c r ≡ need (op y c) σ

@@ -15,7 +15,7 @@ use Rattle.model.specs.Holds.{HoldsCard, HoldsSlot, HoldsSlots, deepest}
 use Rattle.model.specs.Lookup.{Found, absent, found, indexOf, lookIn, pageAtPath, tell}
 use Rattle.model.specs.Names.{Name, Path, goodName, goodPath, lastName, parent}
 use Rattle.model.specs.Plan.{Plan, after, altering, editFor, killed, made, planAt, planBy, removal, returned, withLength}
-use Rattle.model.specs.Refusal.{first, static}
+use Rattle.model.specs.Refusal.{first, lockRefusal, static}
 use Rattle.model.specs.Tree.{Root, Slot, Tree, chainOf, clusterUses, deadHit, deadSlots, end, entryPages, nameUses, reached, slotCount}
 use Rattle.model.specs.View.{Link, View, pagesOf}
 use Rattle.model.proofs.AbstractCards.{abstractOf, noRoom, roomOfSlot}
@@ -62,7 +62,7 @@ module _ (y : Rules) where
         a : Change
         a = delete p
 
-        m : (static a ≡ 0) × (first (standingWay (σ .look) p) (first (standingFile (σ .look p)) (y .locked a (σ .look (parent p)) (σ .look p))) ≡ 0)
+        m : (static a ≡ 0) × (first (standingWay (σ .look) p) (first (standingFile (σ .look p)) (lockRefusal (σ .look p) (σ .look (parent p)))) ≡ 0)
         m = first-0 (static a) _ (o .0)
 
         m₂ : (standingWay (σ .look) p ≡ 0) × (standingFile (σ .look p) ≡ 0)
@@ -124,7 +124,7 @@ module _ (y : Rules) where
         a : Change
         a = removeDirectory p
 
-        m : (static a ≡ 0) × (first (standingWay (σ .look) p) (first (standingEmpty (σ .room p) (σ .look p)) (y .locked a (σ .look (parent p)) (σ .look p))) ≡ 0)
+        m : (static a ≡ 0) × (first (standingWay (σ .look) p) (first (standingEmpty (σ .room p) (σ .look p)) (lockRefusal (σ .look p) (σ .look (parent p)))) ≡ 0)
         m = first-0 (static a) _ (o .0)
 
         m₂ : (standingWay (σ .look) p ≡ 0) × (standingEmpty (σ .room p) (σ .look p) ≡ 0)

@@ -17,7 +17,7 @@ use Rattle.model.specs.Lookup.{Found, found, indexOf, lookIn, pageAtPath
 use Rattle.model.specs.Names.{Path, goodName, goodPath, lastName, parent}
 use Rattle.model.specs.Plan.{Plan, after, altering, editFor, freeClusters, made, newContents, ownClusters, planAt, planBy}
 use Rattle.model.specs.Pages.{dataPages}
-use Rattle.model.specs.Refusal.{first, static}
+use Rattle.model.specs.Refusal.{first, lockRefusal, static}
 use Rattle.model.specs.Standing.{Standing, content, fieldsOf, standing}
 use Rattle.model.specs.Time.{validTime}
 use Rattle.model.specs.Tree.{Root, Slot, Tree, clusterUses, end, reached}
@@ -48,7 +48,7 @@ module _ (y : Rules) where
         a : Change
         a = replace p t b
 
-        m : (static a ≡ 0) × (first (standingWay (σ .look) p) (first (standingFile (σ .look p)) (y .locked a (σ .look (parent p)) (σ .look p))) ≡ 0)
+        m : (static a ≡ 0) × (first (standingWay (σ .look) p) (first (standingFile (σ .look p)) (lockRefusal (σ .look p) (σ .look (parent p)))) ≡ 0)
         m = first-0 (static a) _ (o .0)
 
         m₂ : (standingWay (σ .look) p ≡ 0) × (standingFile (σ .look p) ≡ 0)

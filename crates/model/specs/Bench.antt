@@ -6,7 +6,7 @@ use mathlib.Core.Option.{some}
 use mathlib.Core.Path.{_≡_}
 use lib.Dec.{eqb, lit≤}
 use lib.ListN.{length, replicate}
-use Rattle.model.specs.Change.{Change, Rules, baseRules, create, delete, directoryMode, makeDirectory, size}
+use Rattle.model.specs.Change.{Change, Rules, create, delete, directoryMode, makeDirectory, size}
 use Rattle.model.specs.Check.{Marks, Result, checkTree, fault, ok}
 use Rattle.model.specs.Counts.{listWords, mayTakeOn, noBlock, orphanCount, reachedCount}
 use Rattle.model.specs.Entry.{Entry, entryOf}
@@ -18,7 +18,7 @@ use Rattle.model.specs.Tree.{Root}
 use Rattle.model.specs.View.{Link, View}
 
 abbrev pub benchRules : Rules
-benchRules = baseRules 30 (lit≤ tt) (mayTakeOn 56 30 10 (replicate listWords noBlock))
+benchRules = record { allocEnd = 30; limited = lit≤ tt; mayTake = mayTakeOn 56 30 10 (replicate listWords noBlock) }
 
 abbrev pub benchEntry : ℕ → Name → Entry
 benchEntry length n = newEntry directoryMode length 0 0 (replicate 8 0) n

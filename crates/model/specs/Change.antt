@@ -85,14 +85,8 @@ standingAfter (replace p time bytes) old = replaced time bytes old
 standingAfter (delete p) old = none
 standingAfter (removeDirectory p) old = none
 
--- What differs from card to card, or will with a request: the allocatable clusters, which of the free ones may be taken,
--- and the refusal of what is locked, by what stands at the directory and at the path itself.
+-- What differs from card to card: the allocatable clusters, and which of the free ones may be taken.
 pub record Rules : Type 0 where
   pub allocEnd : ℕ
   pub limited : allocEnd ≤ mostClusters
   pub mayTake : ℕ → Bool
-  pub locked : Change → Option Standing → Option Standing → ℕ
-
--- as the rules stand, nothing is locked
-abbrev pub baseRules : (allocEnd : ℕ) → allocEnd ≤ mostClusters → (ℕ → Bool) → Rules
-baseRules allocEnd limited mayTake = record { allocEnd = allocEnd; limited = limited; mayTake = mayTake; locked = λ c d f. 0 }

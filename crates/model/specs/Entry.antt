@@ -1,6 +1,6 @@
 -- A directory entry is one page (RULES, "Directories").
 --
---   0x00 half  mode        0x8000 exists, 0x20 directory, 0x10 file
+--   0x00 half  mode        0x8000 exists, 0x20 directory, 0x10 file, 0x02 may be written
 --   0x04 word  length      bytes of a file, entries of a directory
 --   0x08 8     created
 --   0x10 word  first cluster
@@ -48,6 +48,10 @@ endMark = 0xFFFFFFFF
 -- the mode has this bit
 abbrev pub hasBit : ℕ → ℕ → Bool
 hasBit mode bit = eqb (mode / bit % 2) 1
+
+-- the entry lacks the write bit: the file or directory that it stands for is locked
+abbrev pub isLocked : ℕ → Bool
+isLocked mode = not (hasBit mode 0x0002)
 
 -- an entry without 0x8000 is dead
 abbrev pub isLive : Entry → Bool

@@ -1,14 +1,16 @@
 -- Which refusal a change on an accepted card meets, in the order of the rows; 0 where it meets none.
 use Prim.Native.Nat.{_+_, suc, zero, ℕ}
-use mathlib.Core.Bool.{cond}
+use mathlib.Core.Bool.{Bool, _||_, cond, false}
 use mathlib.Core.List.{List, [], _∷_}
+use mathlib.Core.Option.{Option, none, some}
 use lib.Dec.{eqb, leb}
 use Rattle.model.specs.Change.{Change, Rules, create, creates, delete, makeDirectory, path, removeDirectory, replace, size}
+use Rattle.model.specs.Entry.{isLocked}
 use Rattle.model.specs.Holds.{deepest, mostNames}
 use Rattle.model.specs.Lookup.{Found, absent, found, lookUp}
 use Rattle.model.specs.Names.{Path, goodPath, parent}
 use Rattle.model.specs.Plan.{freeOf, growthWithOne}
-use Rattle.model.specs.Standing.{standsAt}
+use Rattle.model.specs.Standing.{Standing, standsAt}
 use Rattle.model.specs.Time.{validTime}
 use Rattle.model.specs.Tree.{Root, Slot, deadSlots, slotCount}
 use Rattle.model.specs.View.{View}
@@ -71,6 +73,17 @@ own (replace p time bytes) g = mustFile g
 own (delete p) g = mustFile g
 own (removeDirectory p) g = mustEmpty g
 
+-- 16: what stands at the path is locked, a file to replace or delete or a directory to remove, or the directory directly around it is.
+-- Where a path is created nothing stands. Of a directory below the root the entry in its parent is looked at, of the root its
+-- own first entry. Nothing farther up or down counts.
+abbrev pub locked : Option Standing → Bool
+locked none = false
+locked (some (Standing.file f c)) = isLocked (f .mode)
+locked (some (Standing.directory f)) = isLocked (f .mode)
+
+unfoldable pub lockRefusal : Option Standing → Option Standing → ℕ
+lockRefusal self directory = cond (locked self || locked directory) 16 0
+
 -- the clusters that a change needs, its directory's growth counted
 abbrev pub growthIn : Change → Found → ℕ
 growthIn c absent = 0
@@ -90,4 +103,4 @@ refusal y c v r =
     first (static c)
     (first (way (lookUp r) (path c))
     (first (own c (lookUp r (path c)))
-    (first (y .locked c (standsAt r (parent (path c))) (standsAt r (path c))) (roomRefusal y c v r))))
+    (first (lockRefusal (standsAt r (path c)) (standsAt r (parent (path c)))) (roomRefusal y c v r))))

@@ -116,7 +116,7 @@ put-down-requires c κs =
       filled = own-long k;
       lands =
           lands-so k (reached .cluster-at .ensures) (a .new .mode) (a .new .count) (a .time .now) (a .name .now) (named .before .before .before .page-by .ensures) (named .before .first-of .ensures)
-          (named .new-page .ensures) (paged .before .length-by .ensures) (paged .with-length .ensures) (a .s .end) (start .pre .1 .lands (room-so k));
+          (named .new-page .ensures) (paged .before .length-by .ensures) (paged .with-length .ensures) (a .s .end) (start .pre .1 .lands (start .pre .2) (room-so k));
     }
 
 same-length : tie.Need-same-length
