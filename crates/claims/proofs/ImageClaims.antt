@@ -1,9 +1,9 @@
 -- The claims on images, from those of the model: an image and its view are changed together.
 use Prim.Native.Nat.{ℕ, zero, suc, _*_, _+_, _-_}
-use mathlib.Core.Bool.{cond, false}
+use mathlib.Core.Bool.{_||_, cond, false}
 use mathlib.Core.List.{List}
 use mathlib.Core.Option.{Option, none, some}
-use mathlib.Core.Path.{_∙_, _≡_, ap, refl, sym}
+use mathlib.Core.Path.{_∙_, _≡_, ap, ap₂, refl, sym}
 use lib.ListN.{length}
 use Rattle.page.specs.declared.Format.{Format}
 use Rattle.change.proofs.ChangedLaws.{Done, accepted, answered, checked-parts, performs}
@@ -22,10 +22,10 @@ use Rattle.model.specs.Check.{Marks, Result, andThen, fault, ok}
 use Rattle.model.specs.Claims as model
 use Rattle.model.specs.Claims.{chainBack}
 use Rattle.model.specs.Counts.{freeCount, heldCount}
-use Rattle.model.specs.Names.{Path, beginning, samePath}
+use Rattle.model.specs.Names.{Path, beginning, parent, samePath}
 use Rattle.model.specs.Perform.{done, perform}
 use Rattle.model.specs.Plan.{Plan, freeOf, heldOf, planOf, returned, withheld}
-use Rattle.model.specs.Refusal.{needed, refusal}
+use Rattle.model.specs.Refusal.{locked, needed, refusal}
 use Rattle.model.specs.Standing.{standingsOf, treeOf}
 use Rattle.model.specs.Tree.{Root}
 use Rattle.model.specs.View.{Link, View}
@@ -122,6 +122,10 @@ module _ (format : Format) (image : List ℕ) (s : Superblock) (root : Root) (m 
             let same : s ≡ t = ok-inj s t (sym (ap superblockIn checked) ∙ e) in
             let free : (see s image) .link x ≡ Link.free = rw same f in
             rw (← same, left) (k .untaken x (rw same n) free);
+        locks = λ q l.
+            ap (λ i. treeIn format i q) left ∙ tree-is format (d .after) s (d .newRoot) (d .newMarks) (d .again) q
+            ∙ k .locks q (ap₂ (λ a b. locked a || locked b) (sym (tree-is format image s root m checked q)) (sym (tree-is format image s root m checked (parent q))) ∙ l)
+            ∙ sym (tree-is format image s root m checked q);
       }
 
 pub keeps : ChangeKeeps

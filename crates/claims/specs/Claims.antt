@@ -1,6 +1,6 @@
 -- The claims on images. An accepted image is one for which the check tells counts.
 use Prim.Native.Nat.{ℕ, _+_, _-_, _≤_}
-use mathlib.Core.Bool.{cond, false, true}
+use mathlib.Core.Bool.{_||_, cond, false, true}
 use mathlib.Core.List.{List}
 use mathlib.Core.Logic.{_↔_}
 use mathlib.Core.Path.{_≡_}
@@ -12,9 +12,9 @@ use Rattle.layout.specs.See.{checkImage, see}
 use Rattle.model.specs.Change.{Change, Crossed, creates, path, standingAfter}
 use Rattle.model.specs.Check.{Marks, Result, fault, ok}
 use Rattle.model.specs.Claims.{chainBack}
-use Rattle.model.specs.Names.{Path, beginning, samePath}
+use Rattle.model.specs.Names.{Path, beginning, parent, samePath}
 use Rattle.model.specs.Plan.{returned, withheld}
-use Rattle.model.specs.Refusal.{needed}
+use Rattle.model.specs.Refusal.{locked, needed}
 use Rattle.model.specs.Tree.{Root}
 use Rattle.model.specs.View.{Link}
 use Rattle.tree.specs.Counted.{checkOf, superblockIn}
@@ -60,6 +60,8 @@ pub record Kept (format : Format) (image : List ℕ) (c : Change) : Type 0 where
   -- a free table word from the limit up is still free
   pub untaken : (s : Superblock) → superblockIn (checkImage format image) ≡ ok s → (d : ℕ) → (rulesOf s) .mayTake d ≡ false
       → (see s image) .link d ≡ Link.free → (see s (imageLeft format c image)) .link d ≡ Link.free
+  -- what is locked stays, and so does all that stands directly inside a locked directory
+  pub locks : (q : Path) → (locked (treeIn format image q) || locked (treeIn format image (parent q))) ≡ true → treeIn format (imageLeft format c image) q ≡ treeIn format image q
 
 abbrev pub ChangeKeeps : Type 0
 ChangeKeeps = (format : Format) (image : List ℕ) (counts : Counts) → checkOf format image ≡ ok counts → (c : Change) → Accepts format image c → Kept format image c

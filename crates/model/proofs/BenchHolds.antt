@@ -2,7 +2,7 @@
 use mathlib.Core.Bool.{false, true}
 use mathlib.Core.List.{[], _∷_}
 use mathlib.Core.Path.{_≡_, refl}
-use Rattle.model.specs.Bench.{BenchNumbers, bench}
+use Rattle.model.specs.Bench.{BenchNumbers, bench, lockedBench}
 use Rattle.model.specs.Check.{andThen, checkTree}
 use Rattle.model.specs.Pages.{dataPages, newPage, zeroPage}
 use Rattle.model.specs.Perform.{perform}
@@ -12,10 +12,22 @@ use Rattle.model.specs.Time.{validTime}
 use Rattle.model.specs.View.{Link, linkOf}
 
 pub bench-numbers : BenchNumbers
-unfolding bench perform checkTree andThen refusal lockRefusal freeBelow validTime dataPages newPage zeroPage
+unfolding bench lockedBench perform checkTree andThen refusal lockRefusal freeBelow validTime dataPages newPage zeroPage
 bench-numbers =
-    record
-    { fresh = refl; full = refl; tooMuch = refl; fullAgain = refl; tooMuchAgain = refl; removedFirst = refl; createdFirst = refl; saved = refl }
+    record {
+      fresh = refl;
+      full = refl;
+      tooMuch = refl;
+      fullAgain = refl;
+      tooMuchAgain = refl;
+      removedFirst = refl;
+      createdFirst = refl;
+      saved = refl;
+      lockedCounts = refl;
+      lockedCreate = refl;
+      lockedMake = refl;
+      lockedAbsent = refl;
+    }
 
 -- The numbers of times and table words that are marked P, for the one list of them.
 pub record RuleNumbers : Type 0 where

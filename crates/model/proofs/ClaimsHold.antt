@@ -1,6 +1,6 @@
 -- The claims of specs/Claims hold: the check, the counts, one change and demand 3.
 use Prim.Native.Nat.{_+_, suc, zero, ℕ}
-use mathlib.Core.Bool.{Bool, cond, false, true}
+use mathlib.Core.Bool.{Bool, _||_, cond, false, true}
 use mathlib.Core.List.{[]}
 use mathlib.Core.Logic.{_⊎_, inl, inr}
 use mathlib.Core.Option.{some}
@@ -10,19 +10,20 @@ use Rattle.model.specs.Change.{Change, Rules, create, delete, makeDirect
 use Rattle.model.specs.Claims.{Accepted, AcceptedExactly, ViewChangeKeeps, CheckIsHolding, ViewCommute, ViewCountsAddUp, ViewDemand3, ViewKept, ViewOrder, chainBack, chainIn}
 use Rattle.model.specs.Counts.{totalBelow}
 use Rattle.model.specs.Lookup.{Found, absent, found, lookUp, tell}
-use Rattle.model.specs.Names.{Path, beginning, samePath}
+use Rattle.model.specs.Names.{Path, beginning, parent, samePath}
 use Rattle.model.specs.Perform.{Answer, decide, done, perform, performOn, refused, write}
 use Rattle.model.specs.Plan.{after, freeOf, heldOf, planOf, returned, withheld}
-use Rattle.model.specs.Refusal.{needed, refusal}
+use Rattle.model.specs.Refusal.{lockRefusal, locked, needed, refusal, static}
 use Rattle.model.specs.Standing.{standingsOf, treeOf}
 use Rattle.model.specs.Tree.{Slot, reached}
 use Rattle.model.specs.View.{Link, View}
 use Rattle.model.proofs.AbstractCards.{abstractOf, noRoom, roomOfSlot}
 use Rattle.model.proofs.Allocation.{four-counts}
 use Rattle.model.proofs.ChangeActs.{acts}
-use Rattle.model.proofs.ChangeOperations.{Both, demand-3, op}
+use Rattle.model.proofs.ChangeOperations.{Both, demand-3, op, standingOwn, standingWay}
 use Rattle.model.proofs.CheckHolds.{check-holds, holds-check}
-use Rattle.model.proofs.Equality.{Eq-path, bool}
+use Rattle.model.proofs.Directories.{first-0}
+use Rattle.model.proofs.Equality.{Eq-path, bool, tf}
 use Rattle.model.proofs.Operations.{AbstractCard, Accepts, effect, need}
 use Rattle.model.proofs.Outcome.{Outcome}
 use Rattle.model.proofs.PerformLaws.{Sound, abs-is, absR, abstract, machine, performs, ran, viewOf}
@@ -133,6 +134,26 @@ module _ (y : Rules) (v : View) (a : Accepted y v) (c : Change) (w : View) (e : 
   untaken d n f =
       ap (λ (u : View). u .link d) (sym left) ∙ untaken-law y v (a .root) (outcome .plan) (sound-of y v a .1) (outcome .deed .fit) (outcome .pool) d n f
 
+  -- where the change was accepted, neither its path nor its directory is locked
+  unlocked : (locked (treeOf v (path c)) || locked (treeOf v (parent (path c)))) ≡ false
+  unfolding lockRefusal
+  unlocked =
+      let passed-static = first-0 (static c) _ (ran-so .1 .0) in
+      let passed-way = first-0 (standingWay ((abstract y v) .look) (path c)) _ (passed-static .1) in
+      let passed-own = first-0 (standingOwn y c ((abstract y v) .look (path c)) ((abstract y v) .room (path c))) _ (passed-way .1) in
+      rw (tree-is y v a (path c), tree-is y v a (parent (path c))) (none-of _ (passed-own .1))
+    where
+      none-of : (b : Bool) → _≡_ {A = ℕ} (cond b 16 0) 0 → b ≡ false
+      none-of true e = absurd (omega arith)
+      none-of false e = refl
+
+  locks : (q : Path) → (locked (treeOf v q) || locked (treeOf v (parent q))) ≡ true → treeOf w q ≡ treeOf v q
+  locks q l = paths q ∙ go (bool (samePath q (path c)))
+    where
+      go : (samePath q (path c) ≡ true) ⊎ (samePath q (path c) ≡ false) → cond (samePath q (path c)) (standingAfter c (treeOf v q)) (treeOf v q) ≡ treeOf v q
+      go (inl i) = tf l (ap (λ p. locked (treeOf v p) || locked (treeOf v (parent p))) (Eq-path .sound q (path c) i) ∙ unlocked)
+      go (inr i) = rw i
+
   pub kept : ViewKept y c v w (a .root)
   unfolding effect
   kept =
@@ -145,6 +166,7 @@ module _ (y : Rules) (v : View) (a : Accepted y v) (c : Change) (w : View) (e : 
             ∙ rw (need-is, free-is y v a, back-is);
         held = held;
         untaken = untaken;
+        locks = locks;
       }
 
 pub change-keeps : ViewChangeKeeps

@@ -1,4 +1,5 @@
--- The bench card (RULES, "Numbers to meet") as a view: 56 clusters, 30 of them allocatable, only a root of length 2, no bad block. Its numbers to meet.
+-- The bench card (RULES, "Numbers to meet") as a view: 56 clusters, 30 of them allocatable, only a root of length 2, no bad block. Its numbers to meet,
+-- and the refusals of the same card with a locked root.
 use Prim.Native.Nat.{ℕ}
 use mathlib.Core.Bool.{cond}
 use mathlib.Core.List.{List, [], _∷_}
@@ -20,16 +21,23 @@ use Rattle.model.specs.View.{Link, View}
 abbrev pub benchRules : Rules
 benchRules = record { allocEnd = 30; limited = lit≤ tt; mayTake = mayTakeOn 56 30 10 (replicate listWords noBlock) }
 
-abbrev pub benchEntry : ℕ → Name → Entry
-benchEntry length n = newEntry directoryMode length 0 0 (replicate 8 0) n
+abbrev pub benchEntry : ℕ → ℕ → Name → Entry
+benchEntry mode length n = newEntry mode length 0 0 (replicate 8 0) n
 
-unfoldable pub bench : View
-bench =
+-- by the mode of the root's own first entry
+abbrev pub benchWith : ℕ → View
+benchWith mode =
     record {
-      page = λ p. cond (eqb p 0) (some (newPage (benchEntry 2 dotName))) (cond (eqb p 1) (some (newPage (benchEntry 0 dotDotName))) (some zeroPage));
-      entry = λ p. cond (eqb p 0) (some (benchEntry 2 dotName)) (cond (eqb p 1) (some (benchEntry 0 dotDotName)) (some (entryOf zeroPage)));
+      page = λ p. cond (eqb p 0) (some (newPage (benchEntry mode 2 dotName))) (cond (eqb p 1) (some (newPage (benchEntry directoryMode 0 dotDotName))) (some zeroPage));
+      entry = λ p. cond (eqb p 0) (some (benchEntry mode 2 dotName)) (cond (eqb p 1) (some (benchEntry directoryMode 0 dotDotName)) (some (entryOf zeroPage)));
       link = λ c. cond (eqb c 0) Link.last Link.free;
     }
+
+unfoldable pub bench : View
+bench = benchWith directoryMode
+
+unfoldable pub lockedBench : View
+lockedBench = benchWith 0x8425
 
 -- 12:34:56 on 29 February 2000
 abbrev pub benchTime : List ℕ
@@ -73,3 +81,8 @@ pub record BenchNumbers : Type 0 where
   pub removedFirst : countsAfter (create pathA benchTime [] ∷ create pathC benchTime [] ∷ delete pathA ∷ create pathB benchTime [] ∷ []) bench ≡ 28 ∷ 2 ∷ 0 ∷ 0 ∷ []
   pub createdFirst : countsAfter (create pathA benchTime [] ∷ create pathC benchTime [] ∷ create pathB benchTime [] ∷ delete pathA ∷ []) bench ≡ 27 ∷ 3 ∷ 0 ∷ 0 ∷ []
   pub saved : countsAfter (makeDirectory pathSave benchTime ∷ create pathSaveA benchTime (bytes 1500) ∷ []) bench ≡ 24 ∷ 6 ∷ 0 ∷ 0 ∷ []
+  -- a locked root: 16 before 12 and after 9; the check does not mind
+  pub lockedCounts : countsAfter [] lockedBench ≡ 29 ∷ 1 ∷ 0 ∷ 0 ∷ []
+  pub lockedCreate : countsAfter (create pathA benchTime (bytes 28673) ∷ []) lockedBench ≡ 16 ∷ []
+  pub lockedMake : countsAfter (makeDirectory pathSave benchTime ∷ []) lockedBench ≡ 16 ∷ []
+  pub lockedAbsent : countsAfter (delete pathA ∷ []) lockedBench ≡ 9 ∷ []

@@ -1,6 +1,6 @@
 -- What is claimed of the model.
 use Prim.Native.Nat.{_+_, _-_, _≤_, suc, ℕ}
-use mathlib.Core.Bool.{Bool, cond, false, true}
+use mathlib.Core.Bool.{Bool, _||_, cond, false, true}
 use mathlib.Core.List.{List, []}
 use mathlib.Core.Logic.{_↔_}
 use mathlib.Core.Option.{some}
@@ -10,10 +10,10 @@ use Rattle.model.specs.Check.{Marks, SoundChain, checkTree, followChain,
 use Rattle.model.specs.Counts.{freeCount, heldCount, orphanCount, reachedCount}
 use Rattle.model.specs.Holds.{HoldsCard}
 use Rattle.model.specs.Lookup.{lookUp, tell}
-use Rattle.model.specs.Names.{Path, beginning, samePath}
+use Rattle.model.specs.Names.{Path, beginning, parent, samePath}
 use Rattle.model.specs.Perform.{done, perform, refused}
 use Rattle.model.specs.Plan.{Plan, after, freeOf, heldOf, planOf, returned, withheld}
-use Rattle.model.specs.Refusal.{needed, refusal}
+use Rattle.model.specs.Refusal.{locked, needed, refusal}
 use Rattle.model.specs.Standing.{treeOf}
 use Rattle.model.specs.Tree.{Root, Slot, Tree, chainOf, reached}
 use Rattle.model.specs.View.{Link, View, free}
@@ -56,7 +56,7 @@ chainBack c r = cond (creates c) [] (tell chainIn [] (lookUp r (path c)))
 
 -- After an accepted change the card is accepted again; its own path is what the rules say and every other path stays.
 -- The free count is the old one less what was taken, plus what came back and may be taken; the rest of that is held back.
--- A free cluster that may not be taken is still free.
+-- A free cluster that may not be taken is still free. What is locked stays, and so does all that stands directly inside a locked directory.
 pub record ViewKept (y : Rules) (c : Change) (v w : View) (r : Root) : Type 0 where
   pub again : Accepted y w
   pub paths : (q : Path) → treeOf w q ≡ cond (samePath q (path c)) (standingAfter c (treeOf v q)) (treeOf v q)
@@ -64,6 +64,7 @@ pub record ViewKept (y : Rules) (c : Change) (v w : View) (r : Root) : Type 0 wh
   pub free : freeOf y w ≡ freeOf y v - needed c r + returned y (chainBack c r)
   pub held : heldOf y w ≡ heldOf y v + withheld y (chainBack c r)
   pub untaken : (d : ℕ) → y .mayTake d ≡ false → v .link d ≡ Link.free → w .link d ≡ Link.free
+  pub locks : (q : Path) → (locked (treeOf v q) || locked (treeOf v (parent q))) ≡ true → treeOf w q ≡ treeOf v q
 
 abbrev pub ViewChangeKeeps : Type 0
 ViewChangeKeeps = (y : Rules) (v : View) (a : Accepted y v) (c : Change) (w : View) → perform y c v ≡ done w → ViewKept y c v w (a .root)
