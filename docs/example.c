@@ -63,8 +63,9 @@ static void show_directory(const char *path) {
         if (!found) {
             return;
         }
-        printf("%s %lu %.*s\n", ps2card_is_directory(&entry) ? "directory" : "file", (unsigned long)entry.length,
-               (int)ps2card_name_length(&entry), (const char *)entry.name);
+        printf("%s %lu %.*s%s\n", ps2card_is_directory(&entry) ? "directory" : "file", (unsigned long)entry.length,
+               (int)ps2card_name_length(&entry), (const char *)entry.name,
+               ps2card_is_locked(&entry) ? " (locked)" : "");
         slot++;
     }
 }

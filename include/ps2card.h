@@ -35,6 +35,11 @@
  *   clusters each, in 32 words at 0xD0 of its first page, 0xFFFFFFFF for none. No change takes a new cluster in the
  *   tail or in a listed block: one that the table has as free there, also one that a change has just freed, is held
  *   back and not free. What stands there is read, replaced and deleted as anywhere else.
+ * Locked: an entry whose mode lacks PS2CARD_MODE_WRITE, 0x0002. A change is refused (16) where the file or directory
+ *   that it replaces, deletes or removes is locked, or the directory directly around its path; nothing farther up or
+ *   down counts. A directory is locked by its entry in its parent, the root by its own first entry: those that
+ *   ps2card_find hands out. The first two entries of other directories lock nothing. Reading asks for no such bit. No
+ *   call locks or unlocks what is there, and what a change makes is not locked.
  * path, path_length: a path on the card as bytes, without a zero at the end: "/" alone, or one to eight names, each
  *   after a "/". A name has 1 to 31 bytes from 0x20 to 0x7E, none of them * / or ?, and is neither "." nor "..". Names
  *   are compared whole: case and blanks count. Directories have one to seven names, files one to eight. So a path has
@@ -61,9 +66,9 @@
 #include <stddef.h>
 #include <stdint.h>
 
-#define PS2CARD_VERSION "0.7.0"
+#define PS2CARD_VERSION "0.8.0"
 /* 10,000 for each major, 100 for each minor version, and the patch. */
-#define PS2CARD_VERSION_NUMBER 700
+#define PS2CARD_VERSION_NUMBER 800
 
 /* Clusters of the largest card. */
 #define PS2CARD_MOST_CLUSTERS 65536
@@ -105,15 +110,16 @@ enum ps2card_refusal {
     PS2CARD_EXISTS = 11,         /* the path to create exists */
     PS2CARD_NOT_EMPTY = 13,      /* the directory to remove has a live entry after its first two */
     PS2CARD_BAD_OFFSET = 15,     /* the read's offset lies beyond the file's length */
+    PS2CARD_LOCKED = 16,         /* the file or directory itself, or the directory directly around it, is locked */
     PS2CARD_NO_ROOM = 12,        /* fewer free clusters than needed; those held back are not free */
     PS2CARD_WRONG_OUTPUT = 23    /* the output of a conversion isn't exactly as long as needed */
 };
 
-/* Mode bits of an entry. A live one has EXISTS and exactly one of FILE and DIRECTORY; no other bit is judged. A new
- * file has the mode 0x8417, a new directory 0x8427. */
+/* Mode bits of an entry. A live one has EXISTS and exactly one of FILE and DIRECTORY; the check judges no other bit. A
+ * change asks for WRITE; no call asks for a further one. A new file has the mode 0x8417, a new directory 0x8427. */
 enum ps2card_mode {
     PS2CARD_MODE_READ = 0x0001,
-    PS2CARD_MODE_WRITE = 0x0002,
+    PS2CARD_MODE_WRITE = 0x0002, /* where it is clear, the entry is locked (16) */
     PS2CARD_MODE_EXECUTE = 0x0004,
     PS2CARD_MODE_PROTECTED = 0x0008, /* the console's browser does not copy it */
     PS2CARD_MODE_FILE = 0x0010,
@@ -191,32 +197,32 @@ size_t ps2card_list(uint32_t format, const uint8_t *image, size_t image_length, 
                     size_t out_length);
 
 /* Creates a file with these bytes at a path; both its times become the given one.
- * Refusals: 1 to 12, 14. Untouched on a refusal: the whole image.
+ * Refusals: 1 to 12, 14, 16. Untouched on a refusal: the whole image.
  * Stack: at most 1,200 KiB. */
 uint32_t ps2card_create(uint32_t format, uint8_t *image, size_t image_length, const uint8_t *path, size_t path_length,
                         const uint8_t *time, const uint8_t *bytes, size_t bytes_length, size_t *page);
 
 /* Replaces the bytes of the file at a path; its time of change becomes the given one. The new bytes need room beside
  * the old ones.
- * Refusals: 1 to 10, 12, 14. Untouched on a refusal: the whole image.
+ * Refusals: 1 to 10, 12, 14, 16. Untouched on a refusal: the whole image.
  * Stack: at most 1,200 KiB. */
 uint32_t ps2card_replace(uint32_t format, uint8_t *image, size_t image_length, const uint8_t *path, size_t path_length,
                          const uint8_t *time, const uint8_t *bytes, size_t bytes_length, size_t *page);
 
 /* Deletes the file at a path.
- * Refusals: 1 to 10. Untouched on a refusal: the whole image.
+ * Refusals: 1 to 10, 16. Untouched on a refusal: the whole image.
  * Stack: at most 1,200 KiB. */
 uint32_t ps2card_delete(uint32_t format, uint8_t *image, size_t image_length, const uint8_t *path, size_t path_length,
                         size_t *page);
 
 /* Makes an empty directory at a path of one to seven names; its times become the given one.
- * Refusals: 1 to 12, 14. Untouched on a refusal: the whole image.
+ * Refusals: 1 to 12, 14, 16. Untouched on a refusal: the whole image.
  * Stack: at most 1,200 KiB. */
 uint32_t ps2card_make_dir(uint32_t format, uint8_t *image, size_t image_length, const uint8_t *path, size_t path_length,
                           const uint8_t *time, size_t *page);
 
 /* Removes the directory at a path, which must have no live entry after its first two.
- * Refusals: 1 to 10, 13. Untouched on a refusal: the whole image.
+ * Refusals: 1 to 10, 13, 16. Untouched on a refusal: the whole image.
  * Stack: at most 1,200 KiB. */
 uint32_t ps2card_remove_dir(uint32_t format, uint8_t *image, size_t image_length, const uint8_t *path,
                             size_t path_length, size_t *page);
@@ -287,6 +293,11 @@ static inline uint32_t ps2card_step_entry(uint32_t format, const uint8_t *image,
 /* Whether an entry is a directory; what find and step hand out is a file otherwise. */
 static inline int ps2card_is_directory(const ps2card_entry *entry) {
     return (entry->mode & PS2CARD_MODE_DIRECTORY) != 0;
+}
+
+/* Whether an entry is locked. */
+static inline int ps2card_is_locked(const ps2card_entry *entry) {
+    return (entry->mode & PS2CARD_MODE_WRITE) == 0;
 }
 
 /* The length of an entry's name. */

@@ -47,7 +47,7 @@ mod stamp;
 pub const STACK: usize = 1_200 * 1024;
 
 pub use card::{Card, CardMut, CardRef, Counts};
-pub use entry::{Entry, Kind};
+pub use entry::{Entry, Kind, MODE_BITS};
 pub use format::{allowed_clusters, Format, MOST_BYTES, MOST_CLUSTERS, STANDARD_CLUSTERS};
 pub use listing::Line;
 pub use local_time::LocalTime;

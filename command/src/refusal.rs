@@ -5,7 +5,7 @@ use std::fmt;
 /// A refusal. The image and every output are as they were before the call.
 ///
 /// Of several that apply, 17 is told before all others, then the first of 1 to 7 that the check meets, then the first in
-/// this order: 8, 14, 9, 10, 11, 13, 15, 12. A conversion tells 1, 23, 2 in this order.
+/// this order: 8, 14, 9, 10, 11, 13, 15, 16, 12. A conversion tells 1, 23, 2 in this order.
 ///
 /// ```
 /// use ps2card::{Card, Refusal};
@@ -47,6 +47,9 @@ pub enum Refusal {
     BadTime,
     /// 15: the read's offset lies beyond the file's length.
     BadOffset,
+    /// 16: the file or directory itself, or the directory directly around it, is locked, as
+    /// [`Entry::is_locked`](crate::Entry::is_locked) says.
+    Locked,
     /// 17: the number of minutes is none from -1,260 to 300.
     BadShift,
     /// 23: the output of a conversion isn't exactly as long as needed.
@@ -75,6 +78,7 @@ impl Refusal {
             13 => Refusal::NotEmpty,
             14 => Refusal::BadTime,
             15 => Refusal::BadOffset,
+            16 => Refusal::Locked,
             17 => Refusal::BadShift,
             23 => Refusal::WrongOutput,
             other => Refusal::Unknown(other),
@@ -107,6 +111,7 @@ impl Refusal {
             Refusal::NotEmpty => 13,
             Refusal::BadTime => 14,
             Refusal::BadOffset => 15,
+            Refusal::Locked => 16,
             Refusal::BadShift => 17,
             Refusal::WrongOutput => 23,
             Refusal::Unknown(number) => number,
@@ -141,6 +146,7 @@ impl Refusal {
             Refusal::NotEmpty => "the directory is not empty",
             Refusal::BadTime => "this is no valid time from 1980 to 9999",
             Refusal::BadOffset => "the offset lies beyond the end of the file",
+            Refusal::Locked => "it is locked: the write bit (mode 0x0002) of the file or directory itself, or of the directory directly around it, is clear",
             Refusal::BadShift => "this shift is none from 1,260 minutes behind Japan to 300 minutes ahead (zones -12:00 to +14:00)",
             Refusal::WrongOutput => "the buffer for the converted card isn't exactly as long as needed",
             Refusal::Unknown(_) => "the library gives a reason that this program does not know",
@@ -164,7 +170,7 @@ impl std::error::Error for Refusal {}
 mod tests {
     use super::*;
 
-    const NUMBERS: [u32; 17] = [1, 2, 3, 4, 5, 6, 7, 8, 9, 10, 11, 12, 13, 14, 15, 17, 23];
+    const NUMBERS: [u32; 18] = [1, 2, 3, 4, 5, 6, 7, 8, 9, 10, 11, 12, 13, 14, 15, 16, 17, 23];
 
     #[test]
     fn numbers_come_back() {
@@ -180,7 +186,7 @@ mod tests {
     /// A number of another library is kept and told, and no panic.
     #[test]
     fn unknown_numbers() {
-        for number in [16, 18, 22, 24, u32::MAX] {
+        for number in [18, 22, 24, u32::MAX] {
             let refusal = Refusal::told(number, 77).expect("a refusal");
             assert_eq!((refusal, refusal.number(), refusal.page()), (Refusal::Unknown(number), number, None));
             assert!(refusal.to_string().starts_with(&format!("refused {number}: ")), "{refusal}");

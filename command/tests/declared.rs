@@ -9,7 +9,7 @@ use std::fmt::Write;
 
 use c::Way;
 use common::Folder;
-use ps2card::{Card, Format, Refusal, Stamp, MINUTES, MOST_BYTES, MOST_CLUSTERS};
+use ps2card::{Card, Entry, Format, Refusal, Stamp, MINUTES, MODE_BITS, MOST_BYTES, MOST_CLUSTERS};
 use reader::build::{self, Assembly};
 
 fn header() -> &'static str {
@@ -80,7 +80,7 @@ fn numbers(name: &str) -> Vec<(&'static str, u32)> {
 fn constants() {
     let refusals = numbers("ps2card_refusal");
     let order: Vec<u32> = refusals.iter().map(|refusal| refusal.1).collect();
-    assert_eq!(order, [0, 17, 1, 2, 3, 4, 5, 6, 7, 8, 14, 9, 10, 11, 13, 15, 12, 23]);
+    assert_eq!(order, [0, 17, 1, 2, 3, 4, 5, 6, 7, 8, 14, 9, 10, 11, 13, 15, 16, 12, 23]);
     for (name, number) in &refusals[1..] {
         let known = KNOWN.iter().find(|refusal| refusal.number() == *number).expect("a refusal of the wrapper");
         assert_eq!(in_rust(name), format!("{known:?}").split('(').next().expect("a name"));
@@ -106,7 +106,8 @@ fn constants() {
     assert_eq!(MOST_BYTES, Format::Raw.most_bytes().max(Format::Plain.most_bytes()));
 }
 
-/// The mode bits of what a change makes, as the header gives them.
+/// The mode bits of what a change makes, as the header gives them; those that the wrapper names, and the one that is a
+/// lock where it is clear.
 #[test]
 fn modes() {
     let time = Stamp(build::usual_time());
@@ -119,15 +120,24 @@ fn modes() {
     };
     let kinds = bit("EXISTS") | bit("FILE") | bit("DIRECTORY");
     for (path, kind, told) in
-        [(b"/F", "FILE", "new\n * file has the mode 0x"), (b"/D", "DIRECTORY", "a new directory 0x")]
+        [(b"/F", "FILE", "A new file has the mode 0x"), (b"/D", "DIRECTORY", "a new directory 0x")]
     {
-        let mode = card.find(path).expect("an entry").mode;
-        assert_eq!(mode & kinds, bit("EXISTS") | bit(kind));
+        let entry = card.find(path).expect("an entry");
+        let mode = entry.mode;
+        assert_eq!((mode & kinds, entry.is_locked()), (bit("EXISTS") | bit(kind), false));
         assert!(header().contains(&format!("{told}{mode:x}")), "{mode:x}");
+    }
+    let declared = header().matches("    PS2CARD_MODE_").count();
+    assert_eq!(declared, MODE_BITS.len());
+    for (value, name) in MODE_BITS {
+        assert_eq!(bit(&name.to_uppercase()), value);
+    }
+    for mode in 0..=u16::MAX {
+        assert_eq!(Entry { mode, ..Entry::default() }.is_locked(), mode & bit("WRITE") == 0);
     }
 }
 
-const KNOWN: [Refusal; 17] = [
+const KNOWN: [Refusal; 18] = [
     Refusal::BadLength,
     Refusal::UnreadablePage(0),
     Refusal::BadText,
@@ -143,6 +153,7 @@ const KNOWN: [Refusal; 17] = [
     Refusal::NotEmpty,
     Refusal::BadTime,
     Refusal::BadOffset,
+    Refusal::Locked,
     Refusal::BadShift,
     Refusal::WrongOutput,
 ];

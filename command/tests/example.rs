@@ -8,7 +8,8 @@ use std::path::Path;
 use std::process::{Command, Output};
 
 use c::{Done, Program, Way};
-use common::Folder;
+use common::locked::lock;
+use common::{in_reader, Folder};
 use ps2card::{Card, Format, Stamp};
 use reader::build;
 
@@ -45,6 +46,14 @@ fn example_is_right_in(format: Format, folder: &Folder, program: &Program) {
     assert!(order(&entry.created.0) <= order(&Stamp::now().0));
     // It tells of a refusal, of a page that cannot be read and of wrong usage.
     folder.write("short", &card.image()[1..]);
+    // Whatever is locked it shows, and makes nothing in a locked root.
+    let mut locked = card.image().to_vec();
+    lock(in_reader(format), &mut locked, &["/", "/SAVE"]);
+    folder.write("locked", &locked);
+    assert_eq!(
+        String::from_utf8_lossy(&run(&["locked", "again"]).0.stdout),
+        format!("{counts}\ndirectory 3 SAVE (locked)\n")
+    );
     let mut damaged = card.into_image();
     damaged[0] ^= 3;
     folder.write("damaged", &damaged);
@@ -54,6 +63,7 @@ fn example_is_right_in(format: Format, folder: &Folder, program: &Program) {
         (&["changed", "again"][..], 1, "make /EXAMPLE: refused 11\n"),
         (&["short", "again"], 1, "check: refused 1\n"),
         (&["damaged", "again"], 1, told),
+        (&["locked", "again"], 1, "make /EXAMPLE: refused 16\n"),
         (&["card"], 2, concat!("usage: example [--plain] IMAGE NEW-IMAGE (ps2card ", env!("CARGO_PKG_VERSION"), ")\n")),
     ] {
         let Done(output) = run(names);

@@ -73,14 +73,16 @@ impl Script {
 
     fn find(&mut self, path: &str) {
         let answer = self.card.find_mended(path.as_bytes());
-        // The bytes of no entry: no directory's bit among them, and no zero in the name.
-        let (mended, directory, length, entry) = match &answer {
+        // The bytes of no entry: no directory's bit among them, none to write, and no zero in the name.
+        let (mended, bits, length, entry) = match &answer {
             Ok(Mended { answer, chunks }) => {
-                (*chunks, i32::from(answer.kind() == Kind::Directory), answer.name().len(), Some(answer))
+                let bits = [answer.kind() == Kind::Directory, answer.is_locked()];
+                (*chunks, bits, answer.name().len(), Some(answer))
             }
-            Err(_) => (UNTOUCHED, 0, 32, None),
+            Err(_) => (UNTOUCHED, [false, true], 32, None),
         };
-        self.say(format!("find {} {mended} {directory} {length}{}", told(&answer), fields(entry)));
+        let [directory, locked] = bits.map(i32::from);
+        self.say(format!("find {} {mended} {directory} {locked} {length}{}", told(&answer), fields(entry)));
     }
 
     fn step(&mut self, path: &str, slot: u32) {

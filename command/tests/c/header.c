@@ -52,8 +52,8 @@ static void find(const char *path) {
     uint32_t number;
     memset(&e, UNTOUCHED, sizeof e);
     number = ps2card_find_entry(format, image, image_length, text(path), strlen(path), &page, &e, &mended);
-    printf("find %lu %lu %lu %d %lu", (unsigned long)number, (unsigned long)page, (unsigned long)mended,
-           ps2card_is_directory(&e), (unsigned long)ps2card_name_length(&e));
+    printf("find %lu %lu %lu %d %d %lu", (unsigned long)number, (unsigned long)page, (unsigned long)mended,
+           ps2card_is_directory(&e), ps2card_is_locked(&e), (unsigned long)ps2card_name_length(&e));
     print_entry(&e);
 }
 

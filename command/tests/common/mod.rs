@@ -1,6 +1,7 @@
 //! What the tests of the command share: a folder of their own, and runs of the command.
 #![allow(dead_code)]
 
+pub mod locked;
 pub mod mended;
 
 use std::ffi::OsStr;
@@ -186,6 +187,14 @@ pub fn in_wrapper(format: Format) -> ps2card::Format {
     match format {
         Raw => ps2card::Format::Raw,
         Plain => ps2card::Format::Plain,
+    }
+}
+
+/// The reader's word for a format.
+pub fn in_reader(format: ps2card::Format) -> Format {
+    match format {
+        ps2card::Format::Raw => Raw,
+        ps2card::Format::Plain => Plain,
     }
 }
 
