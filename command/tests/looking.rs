@@ -135,9 +135,24 @@ fn fields(entry: &Entry) -> String {
             false => common::raw_stamp(time),
         }
     };
+    let named = [
+        (0x8000, "exists"),
+        (0x10, "file"),
+        (0x20, "directory"),
+        (1, "read"),
+        (2, "write"),
+        (4, "execute"),
+        (8, "protected"),
+        (0x800, "pocketstation"),
+        (0x1000, "psx"),
+        (0x2000, "hidden"),
+    ];
+    let bits: Vec<&str> = named.iter().filter(|(bit, _)| entry.mode & bit != 0).map(|(_, name)| *name).collect();
+    let locked = if entry.mode & 2 == 0 { "; locked" } else { "" };
     format!(
-        "mode 0x{:04x}\nlength {}\ncreated {}\nmodified {}\nfirst {}\ndir_entry {}\nattribute {}\nname {}\n",
+        "mode 0x{:04x} ({}{locked})\nlength {}\ncreated {}\nmodified {}\nfirst {}\ndir_entry {}\nattribute {}\nname {}\n",
         entry.mode,
+        bits.join(", "),
         entry.length,
         time(&entry.created),
         time(&entry.modified),

@@ -1,4 +1,5 @@
-//! A directory of 4,000 entries, and one of 60,000: a command checks the card a few times, not once an entry.
+//! A directory of 4,000 entries, and one of 60,000: a command checks the card a few times, not once an entry; but `ls`,
+//! which shows what is locked, as often as it shows entries.
 
 mod common;
 
@@ -33,9 +34,7 @@ fn a_few_checks_of(entries: usize) {
     folder.write("card", &crowd(entries));
     let last = format!("/SAVE/file{}", entries - 1);
     let one = shortest(&folder, &["check", "card"]);
-    let runs: [&[&str]; 9] = [
-        &["ls", "card", "/SAVE"],
-        &["ls", "card", "/SAVE", "-l"],
+    let runs: [&[&str]; 7] = [
         &["ls", "card", &last, "--zone", "+01:00"],
         &["ls", "card"],
         &["list", "card"],
@@ -44,16 +43,29 @@ fn a_few_checks_of(entries: usize) {
         &["get", "card", &last, "-"],
         &["mkdir", "card", "/D"],
     ];
-    for words in &runs[..8] {
+    for words in &runs[..6] {
         let took = shortest(&folder, words);
         println!("{words:?}: {took:?}, one check {one:?}");
         assert!(took < 10 * one, "{words:?} took {took:?}, a check {one:?}");
     }
     let start = Instant::now();
-    folder.run(runs[8]).done();
+    folder.run(runs[6]).done();
     assert!(start.elapsed() < 50 * one, "{:?}", start.elapsed());
+}
+
+/// A check for each entry shown, one for its directory and one for the listing, and the start of one command: fewer
+/// starts and reads of the image than so many commands have.
+#[test]
+fn ls_of_many() {
+    const ENTRIES: u32 = 1_000;
+    let folder = Folder::new();
+    folder.write("card", &crowd(ENTRIES as usize));
+    let one = shortest(&folder, &["check", "card"]);
+    let start = Instant::now();
     let text = folder.run(&["ls", "card", "/SAVE"]).text();
-    let lines: Vec<&str> = text.lines().collect();
-    let named = |number: usize| format!("file  0 bytes  file{number:04}");
-    assert_eq!((lines.len(), lines[0], lines[entries - 1]), (entries, &*named(0), &*named(entries - 1)));
+    let took = start.elapsed();
+    println!("ls: {took:?}, one check {one:?}");
+    assert!(took < (ENTRIES + 2) * one * 3 / 2, "{took:?}, a check {one:?}");
+    let named = |number: u32| format!("file  0 bytes  file{number:04}");
+    assert!(text.lines().eq((0..ENTRIES).map(named)));
 }

@@ -245,6 +245,9 @@ fn progress() {
     // And nothing of what is short.
     let (shown, _) = on_terminal(&folder, &[b"ls", b"card", b"/"], None);
     assert!(!shown.contains("ps2card ls"), "{shown}");
+    // `ls` looks at each entry that it shows, and at the directory.
+    let (shown, _) = on_terminal(&folder, &[b"ls", b"card", b"/SAVE"], None);
+    assert!(shown.contains("ps2card ls: ") && shown.contains(&format!(" of {}", files + 1)), "{shown:?}");
     // Into a file it is told.
     let file = File::create(folder.path("sums")).expect("a file");
     let (shown, _) = on_terminal(&folder, &[b"verify", b"card"], Some(file.into()));

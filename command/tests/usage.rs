@@ -52,6 +52,8 @@ fn help() {
         assert_eq!((text.contains("--stamp"), form.contains("[--stamp TIME]")), (timed, timed), "{text}");
         let zoned = ["list", "ls"].contains(&command);
         assert_eq!((text.contains("--zone "), form.contains("[--minutes M | --zone Z]")), (zoned, zoned), "{text}");
+        let locks = ["ls", "find", "put", "create", "replace", "delete", "mkdir", "rmdir"].contains(&command);
+        assert_eq!(text.contains("locked"), locks, "{text}");
         let formats = match command {
             "convert" => "--to-plain|--to-raw",
             "compare" => "[--plain | --plain-a | --plain-b]",

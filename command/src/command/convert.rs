@@ -2,7 +2,7 @@
 
 use std::path::Path;
 
-use ps2card::{image_file, Format};
+use ps2card::{image_file, Format, Refusal};
 
 use super::image::Image;
 use super::{say, Command};
@@ -36,8 +36,9 @@ fn convert(call: &Call) -> Result<(), Failure> {
         Format::Raw => image.card.to_raw(),
     };
     // Nothing but the length and the pages is judged, before or after.
-    let converted = converted
-        .map_err(|refusal| Failure::refused(refusal, image.name).with_hint(size_hint(to, image.card.image().len())))?;
+    let hint = size_hint(to, image.card.image().len());
+    let converted =
+        converted.map_err(|refusal| Failure::refused(refusal, image.name).with_hint(Refusal::BadLength, hint))?;
     image_file::create_unjudged(new, &mut |notice| say(new, notice), &converted)
         .map_err(|error| Failure::of_image("make", new, error))
 }

@@ -83,12 +83,12 @@ impl<'a> Image<'a> {
     }
 
     fn refused(&self, refusal: Refusal) -> Failure {
-        Failure::refused(refusal, self.name).with_hint(&size_hint(&self.card, self.option))
+        Failure::refused(refusal, self.name).with_hint(Refusal::BadLength, &size_hint(&self.card, self.option))
     }
 
     /// A refusal of a call that reads a file.
     pub fn refused_at(&self, refusal: Refusal, path: &[u8]) -> Failure {
-        Failure::refused_at(refusal, self.name, path).with_hint(&size_hint(&self.card, self.option))
+        Failure::refused_at(refusal, self.name, path).with_hint(Refusal::BadLength, &size_hint(&self.card, self.option))
     }
 
     /// A refusal of a call that reads no file: an unreadable page has nothing to do with the path.

@@ -1,5 +1,7 @@
 //! The commands that are one look each: list, find, step, read.
 
+use ps2card::{Entry, MODE_BITS};
+
 use super::image::Image;
 use super::{look, print, Command};
 use crate::arguments::{Call, Opt, Syntax};
@@ -52,13 +54,27 @@ pub const READ: Command = Command {
 fn find(image: &Image, call: &Call) -> Result<(), Failure> {
     let entry = image.find(call.bytes(1))?;
     let mut text = format!(
-        "mode 0x{:04x}\nlength {}\ncreated {}\nmodified {}\nfirst {}\ndir_entry {}\nattribute {}\nname ",
-        entry.mode, entry.length, entry.created, entry.modified, entry.first, entry.dir_entry, entry.attribute
+        "mode {}\nlength {}\ncreated {}\nmodified {}\nfirst {}\ndir_entry {}\nattribute {}\nname ",
+        mode(&entry),
+        entry.length,
+        entry.created,
+        entry.modified,
+        entry.first,
+        entry.dir_entry,
+        entry.attribute
     )
     .into_bytes();
     text.extend_from_slice(entry.name());
     text.push(b'\n');
     print(&text)
+}
+
+/// The number, for programs, then for people the bits that have a name, and that the entry is locked where it is.
+fn mode(entry: &Entry) -> String {
+    let bits = MODE_BITS.iter().filter(|(bit, _)| entry.mode & bit != 0);
+    let names: Vec<&str> = bits.map(|(_, name)| *name).collect();
+    let locked = if entry.is_locked() { "; locked" } else { "" };
+    format!("0x{:04x} ({}{locked})", entry.mode, names.join(", "))
 }
 
 fn step(call: &Call) -> Result<(), Failure> {

@@ -8,6 +8,7 @@ use super::image::Image;
 use super::{look, print, Command};
 use crate::arguments::{Call, Opt, Syntax};
 use crate::failure::Failure;
+use crate::output;
 
 pub const LS: Command = Command {
     syntax: Syntax {
@@ -20,62 +21,90 @@ pub const LS: Command = Command {
     run: |call| look(call, |image| ls(image, call)),
 };
 
-/// One entry: kind, size, the time where it is asked for, name.
+/// One entry: kind, whether it is locked, size, the time where it is asked for, name.
 struct Row {
     kind: Kind,
+    locked: bool,
     size: String,
     time: Option<String>,
     name: String,
 }
 
+/// The column of the locks, with what stands between it and the next.
+const LOCKED: &str = "locked  ";
+
 fn ls(image: &Image, call: &Call) -> Result<(), Failure> {
     let path: &[u8] = if call.has(1) { call.bytes(1) } else { b"/" };
-    // The listing has all that is shown: one check of the card.
     let tree = image.tree_at(call.minutes().unwrap_or(0))?;
-    let lines: Vec<&Line> = match tree.iter().find(|line| line.path == path) {
-        Some(line) if line.kind == Kind::File => vec![line],
+    let (around, lines): (_, Vec<&Line>) = match tree.iter().find(|line| line.path == path) {
+        Some(line) if line.kind == Kind::File => (line.parent(), vec![line]),
         // In slot order, which the tree's order is inside a directory.
-        found if found.is_some() || path == b"/" => tree.iter().filter(|line| line.parent() == path).collect(),
+        found if found.is_some() || path == b"/" => (path, tree.iter().filter(|line| line.parent() == path).collect()),
         // Nothing stands there: the library says why.
         _ => return image.find(path).map(drop),
     };
-    match lines.is_empty() {
-        true => print(format!("{} is empty\n", path.escape_ascii()).as_bytes()),
-        false => show(&rows(&tree, &lines, call.asked(Opt::Long) || call.minutes().is_some())),
+    let (around_is_locked, locks) = locks(image, around, &lines)?;
+    let mut text = String::new();
+    if around_is_locked {
+        let rule = "nothing directly inside it can be created, replaced or deleted";
+        text += &format!("{} is locked: {rule}\n", around.escape_ascii());
     }
+    text += &match lines.is_empty() {
+        true => format!("{} is empty\n", path.escape_ascii()),
+        false => shown(&rows(&tree, &lines, &locks, call.asked(Opt::Long) || call.minutes().is_some())),
+    };
+    print(text.as_bytes())
 }
 
-fn rows(tree: &[Line], lines: &[&Line], timed: bool) -> Vec<Row> {
+/// Whether the directory around the entries is locked, and whether each of them is. The listing has no modes: this is a
+/// look at each, with a check of its own.
+fn locks(image: &Image, around: &[u8], lines: &[&Line]) -> Result<(bool, Vec<bool>), Failure> {
+    output::expect(1 + lines.len());
+    let is_locked = |path: &[u8]| {
+        let entry = image.find(path)?;
+        output::advance();
+        Ok(entry.is_locked())
+    };
+    let around_is_locked = is_locked(around)?;
+    Ok((around_is_locked, lines.iter().map(|line| is_locked(&line.path)).collect::<Result<_, Failure>>()?))
+}
+
+fn rows(tree: &[Line], lines: &[&Line], locks: &[bool], timed: bool) -> Vec<Row> {
     let mut inside: HashMap<&[u8], usize> = HashMap::new();
     tree.iter().for_each(|line| *inside.entry(line.parent()).or_default() += 1);
-    let row = |line: &&Line| {
+    let row = |(line, &locked): (&&Line, &bool)| {
         let size = match line.kind {
             Kind::File => counted(line.length as usize, "byte", "bytes"),
             Kind::Directory => counted(inside.get(&line.path[..]).copied().unwrap_or(0), "entry", "entries"),
         };
         let time = || line.modified.map_or("unknown".to_string(), |time| time.to_string());
         let name = line.path.rsplit(|&byte| byte == b'/').next().unwrap_or_default();
-        Row { kind: line.kind, size, time: timed.then(time), name: String::from_utf8_lossy(name).into_owned() }
+        Row { kind: line.kind, locked, size, time: timed.then(time), name: String::from_utf8_lossy(name).into_owned() }
     };
-    lines.iter().map(row).collect()
+    lines.iter().zip(locks).map(row).collect()
 }
 
 fn counted(count: usize, one: &str, more: &str) -> String {
     format!("{count} {}", if count == 1 { one } else { more })
 }
 
-fn show(rows: &[Row]) -> Result<(), Failure> {
+/// The rows, their columns aligned. That of the locks is there where a row needs it: either way, `locked` or a number
+/// stands behind the kind.
+fn shown(rows: &[Row]) -> String {
+    let lock_width = if rows.iter().any(|row| row.locked) { LOCKED.len() } else { 0 };
     let size_width = rows.iter().map(|row| row.size.len()).max().unwrap_or(0);
     let time_width = rows.iter().filter_map(|row| row.time.as_ref()).map(String::len).max().unwrap_or(0);
-    let lines = rows.iter().map(|Row { kind, size, time, name }| {
+    let line = |Row { kind, locked, size, time, name }: &Row| {
         let kind = match kind {
             Kind::File => "file",
             Kind::Directory => "dir",
         };
+        let lock = if *locked { LOCKED } else { "" };
+        let start = format!("{kind:4}  {lock:lock_width$}{size:>size_width$}");
         match time {
-            Some(time) => format!("{kind:4}  {size:>size_width$}  {time:time_width$}  {name}\n"),
-            None => format!("{kind:4}  {size:>size_width$}  {name}\n"),
+            Some(time) => format!("{start}  {time:time_width$}  {name}\n"),
+            None => format!("{start}  {name}\n"),
         }
-    });
-    print(lines.collect::<String>().as_bytes())
+    };
+    rows.iter().map(line).collect()
 }

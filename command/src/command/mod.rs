@@ -7,6 +7,7 @@ mod convert;
 mod fresh;
 mod get;
 mod image;
+mod locked;
 mod look;
 mod ls;
 mod mended;
@@ -83,16 +84,25 @@ fn change(call: &Call, edit: impl FnOnce(&mut Card) -> Result<(), (Refusal, Vec<
     let mut met_at = None;
     let done = image_file::change(call.format(), image, &mut |notice| say(image, notice), |card| {
         edit(card).map_err(|(refusal, path)| {
-            met_at = Some((path, size_hint(card, PLAIN)));
+            met_at = Some((hint(card, refusal, &path), path));
             refusal.into()
         })
     });
     done.map_err(|error| match (error, met_at) {
-        (image_file::Error::Refused(refusal), Some((path, hint))) => {
-            Failure::refused_at(refusal, image, &path).with_hint(&hint)
+        (image_file::Error::Refused(refusal), Some((hint, path))) => {
+            Failure::refused_at(refusal, image, &path).with_hint(refusal, &hint)
         }
         (error, _) => Failure::of_image("change", image, error),
     })
+}
+
+/// What more is to say of a change that is refused at a path, on the card as it was met.
+fn hint(card: &Card, refusal: Refusal, path: &[u8]) -> String {
+    match refusal {
+        Refusal::BadLength => size_hint(card, PLAIN),
+        Refusal::Locked => locked::hint(card, path),
+        _ => String::new(),
+    }
 }
 
 /// The option that says that the one image, or every one, is plain.
