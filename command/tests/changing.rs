@@ -5,6 +5,7 @@ mod common;
 use std::fs;
 use std::path::Path;
 
+use common::locked::lock_some;
 use common::{raw_stamp, Folder, Outcome, USUAL, USUAL_LISTED};
 use reader::build::requests::random_change;
 use reader::build::{self, random, scribble};
@@ -39,10 +40,11 @@ fn random_changes() {
 
 fn random_changes_of(format: Format) {
     let folder = Folder::of(format);
-    let mut seen = [0; 16];
-    for seed in 0..30 {
+    let mut seen = [0; 17];
+    for seed in 0..50 {
         let mut rng = Rng::new(seed);
         let mut image = random::random(format, seed).image;
+        lock_some(format, &mut image, &mut rng, if seed % 2 == 0 { 0 } else { 3 });
         folder.write("card", &image);
         for _ in 0..12 {
             let tree = reader::tree(format, &image).expect("an accepted card");
@@ -58,8 +60,8 @@ fn random_changes_of(format: Format) {
             assert!(folder.read("card") == image, "{format:?}, seed {seed}: {change:?}");
         }
     }
-    println!("{format:?}: done, and refused with 1 to 15: {seen:?}");
-    assert!(seen[0] > 100 && [8, 9, 10, 11, 12, 13, 14].iter().all(|&number| seen[number] > 0), "{seen:?}");
+    println!("{format:?}: done, and refused with 1 to 16: {seen:?}");
+    assert!(seen[0] > 100 && [8, 9, 10, 11, 12, 13, 14, 16].iter().all(|&number| seen[number] > 0), "{seen:?}");
 }
 
 /// Refusals leave the very file, not only its bytes; nothing is left beside it.

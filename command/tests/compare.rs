@@ -4,6 +4,7 @@ mod common;
 
 use std::collections::{BTreeMap, BTreeSet};
 
+use common::locked::lock_some;
 use common::{mended, raw_stamp, unreadable_pages, Folder};
 use reader::build::requests::random_change;
 use reader::build::{self, random, samples, scribble};
@@ -164,9 +165,12 @@ fn in_format(format: Format, raw: &[u8]) -> Vec<u8> {
     }
 }
 
-/// A random raw card, not too large.
+/// A random raw card, not too large, on which nothing is locked.
 fn card(seed: u64) -> Vec<u8> {
-    random::sized(Raw, seed, 8 * Rng::new(seed).between(4, 24)).image
+    let mut rng = Rng::new(seed);
+    let mut image = random::sized(Raw, seed, 8 * rng.between(4, 24)).image;
+    lock_some(Raw, &mut image, &mut rng, 0);
+    image
 }
 
 #[test]

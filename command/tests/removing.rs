@@ -6,28 +6,29 @@ use std::fs;
 use std::thread::sleep;
 use std::time::Instant;
 
+use common::locked::lock_some;
 use common::Folder;
 use reader::build::{self, bad, random};
 use reader::rng::Rng;
 use reader::Format::Raw;
 use reader::{paths, Format, Refusal, Tree};
 
-/// Removes a path and all below it by the reader's own single changes, the deepest last name first.
-fn remove_all(format: Format, image: &mut [u8], path: &[u8]) -> usize {
+/// Removes a path and all below it by the reader's own single changes, the deepest last name first; how many entries
+/// went, or why one does not.
+fn remove_all(format: Format, image: &mut [u8], path: &[u8]) -> Result<usize, Refusal> {
     let tree = reader::tree(format, image).expect("accepted");
     let below: Vec<_> = tree.iter().filter(|(other, _)| paths::is_beginning(path, other)).collect();
     for (path, item) in below.iter().rev() {
-        let done = match item.is_directory {
-            true => reader::remove_dir(format, image, path),
-            false => reader::delete(format, image, path),
-        };
-        done.expect("it is there");
+        match item.is_directory {
+            true => reader::remove_dir(format, image, path)?,
+            false => reader::delete(format, image, path)?,
+        }
     }
-    below.len()
+    Ok(below.len())
 }
 
 /// Every file and directory of random cards: what stays is the tree without it, every cluster of it is free, and the
-/// image is the one that single changes leave.
+/// image is the one that single changes leave. Where anything of it or the directory around it is locked, nothing goes.
 #[test]
 fn random_cards() {
     Format::BOTH.into_iter().for_each(random_cards_of);
@@ -35,25 +36,34 @@ fn random_cards() {
 
 fn random_cards_of(format: Format) {
     let folder = Folder::of(format);
-    let (mut files, mut directories, mut most) = (0, 0, 0);
-    for seed in 0..30 {
+    let (mut files, mut directories, mut most, mut locked) = (0, 0, 0, 0);
+    for seed in 0..50 {
         let mut rng = Rng::new(seed);
-        let image = random::sized(format, seed, 8 * rng.between(4, 40)).image;
+        let mut image = random::sized(format, seed, 8 * rng.between(4, 40)).image;
+        lock_some(format, &mut image, &mut rng, if seed % 5 == 0 { 2 } else { 0 });
         let tree = reader::tree(format, &image).expect("accepted");
         for path in tree.keys().filter(|path| *path != b"/" && rng.chance(1, 3)) {
             folder.write("card", &image);
-            folder.feed(&[b"rm", b"-r", b"card", path], b"").done();
+            let given = folder.feed(&[b"rm", b"-r", b"card", path], b"");
             let mut expected = image.clone();
-            let removed = remove_all(format, &mut expected, path);
+            match remove_all(format, &mut expected, path) {
+                Ok(removed) => most = most.max(removed),
+                Err(refusal) => {
+                    assert!(refusal.number == 16 && folder.read("card") == image, "{refusal}, {}", path.escape_ascii());
+                    given.refused(refusal);
+                    locked += 1;
+                    continue;
+                }
+            }
+            given.done();
             assert!(folder.read("card") == expected, "{format:?}, seed {seed} {}", path.escape_ascii());
             let rest: Tree = tree.clone().into_iter().filter(|(other, _)| !paths::is_beginning(path, other)).collect();
             assert_eq!(reader::tree(format, &expected).expect("accepted"), rest);
             *(if tree[path].is_directory { &mut directories } else { &mut files }) += 1;
-            most = most.max(removed);
         }
     }
-    println!("{format:?}: {files} files, {directories} directories, up to {most} entries");
-    assert!(files > 50 && directories > 20 && most > 8, "{files} {directories} {most}");
+    println!("{format:?}: {files} files, {directories} directories, up to {most} entries; {locked} locked");
+    assert!(files > 50 && directories > 20 && most > 8 && locked > 10, "{files} {directories} {most} {locked}");
 }
 
 #[test]
@@ -89,7 +99,7 @@ fn killed() {
     let folder = Folder::new();
     let old = build::crowded(Raw);
     let mut new = old.clone();
-    remove_all(Raw, &mut new, b"/SAVE07");
+    remove_all(Raw, &mut new, b"/SAVE07").expect("nothing is locked");
     let words: [&[u8]; 4] = [b"rm", b"-r", b"card", b"/SAVE07"];
     folder.write("card", &old);
     let start = Instant::now();
