@@ -10,6 +10,7 @@ pub mod draw;
 pub mod good;
 mod layout;
 pub mod listed;
+pub mod locks;
 pub mod needed;
 pub mod random;
 pub mod requests;

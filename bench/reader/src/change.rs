@@ -1,9 +1,11 @@
-//! The five changes. Each is judged whole before the first byte is written.
+//! The five changes. Each is judged whole before the first byte is written: after the check 8, 14, 9, 10, 11, 13, 16 and
+//! 12 in this order.
 
-use crate::card::{Card, END_MARK, USED, WORDS};
+use crate::card::Card;
+use crate::edit::Edit;
 use crate::entry::{name_field, Entry, EXISTS, NO_CLUSTER};
 use crate::lookup::{directory, locate, names};
-use crate::page::{self, put_half, put_word, Data, Format, CLUSTER_DATA, DATA};
+use crate::page::{put_half, put_word, Format, CLUSTER_DATA, DATA};
 use crate::paths;
 use crate::time::{self, Time};
 use crate::tree::{Checked, Node};
@@ -80,6 +82,7 @@ pub fn replace(format: Format, image: &mut [u8], path: &[u8], time: &Time, data:
     if node.inside.is_some() {
         return Err(Refusal::number(10));
     }
+    judge_locks(&checked.root, &names)?;
     let mut edit = Edit::new(checked.card);
     let chain = edit.take(data.len().div_ceil(CLUSTER_DATA), 0)?.1;
     edit.link(&chain);
@@ -102,6 +105,7 @@ pub fn delete(format: Format, image: &mut [u8], path: &[u8]) -> Result<(), Refus
     if node.inside.is_some() {
         return Err(Refusal::number(10));
     }
+    judge_locks(&checked.root, &names)?;
     remove(image, checked.card, node);
     Ok(())
 }
@@ -114,6 +118,7 @@ pub fn remove_dir(format: Format, image: &mut [u8], path: &[u8]) -> Result<(), R
     if !directory(node)?.children.is_empty() {
         return Err(Refusal::number(13));
     }
+    judge_locks(&checked.root, &names)?;
     remove(image, checked.card, node);
     Ok(())
 }
@@ -129,6 +134,20 @@ fn changed_names(path: &[u8]) -> Result<Vec<&[u8]>, Refusal> {
 
 fn judge_time(time: &Time) -> Result<(), Refusal> {
     time::valid(time).then_some(()).ok_or(Refusal::number(14))
+}
+
+/// An entry without the write bit is 16. A directory's is the one in its parent, the root's its own first one; the dots
+/// below the root are never asked.
+fn judge_lock(node: &Node) -> Result<(), Refusal> {
+    node.entry.is_writable().then_some(()).ok_or(Refusal::number(16))
+}
+
+/// What stands at the names is locked by its own entry, or by that of the directory right around it; nothing farther up
+/// counts.
+fn judge_locks(root: &Node, names: &[&[u8]]) -> Result<(), Refusal> {
+    let around = &names[..names.len() - 1];
+    judge_lock(locate(root, around)?)?;
+    judge_lock(locate(root, names)?)
 }
 
 /// Clears bit 0x8000 of the entry and the top bit of each table word of its chain.
@@ -151,6 +170,7 @@ fn insert(image: &mut [u8], checked: Checked, names: &[&[u8]], time: &Time, new:
     if directory(parent)?.child(last).is_some() {
         return Err(Refusal::number(11));
     }
+    judge_lock(parent)?;
     let length = parent.entry.length as usize;
     let slot = new_slot(parent)?;
     let grows = slot == length && length.is_multiple_of(2);
@@ -210,81 +230,4 @@ fn new_slot(parent: &Node) -> Result<usize, Refusal> {
 /// The first cluster an entry names; a file of length 0 has none.
 fn first_of(chain: &[usize]) -> u32 {
     chain.first().map_or(NO_CLUSTER, |&cluster| cluster as u32)
-}
-
-/// Table and pages as a change will leave them.
-struct Edit {
-    card: Card,
-    table: Vec<u32>,
-    pages: Vec<(usize, Data)>,
-}
-
-impl Edit {
-    fn new(card: Card) -> Edit {
-        Edit { table: card.table.clone(), card, pages: Vec::new() }
-    }
-
-    /// The lowest free clusters that may be taken, ascending: directory growth first, then the new chain; too few is
-    /// 12.
-    fn take(&self, own: usize, growth: usize) -> Result<(Vec<usize>, Vec<usize>), Refusal> {
-        let mut free: Vec<usize> = self.card.free().take(own.saturating_add(growth)).collect();
-        if free.len() < own.saturating_add(growth) {
-            return Err(Refusal::number(12));
-        }
-        let chain = free.split_off(growth);
-        Ok((free, chain))
-    }
-
-    /// Links the clusters in order and ends the chain at the last.
-    fn link(&mut self, chain: &[usize]) {
-        for (place, &cluster) in chain.iter().enumerate() {
-            self.table[cluster] = chain.get(place + 1).map_or(END_MARK, |&next| USED + next as u32);
-        }
-    }
-
-    /// Clears the top bit of each table word in the chain.
-    fn release(&mut self, chain: &[usize]) {
-        for &cluster in chain {
-            self.table[cluster] &= !USED;
-        }
-    }
-
-    /// A page that is written without being read.
-    fn write(&mut self, page: usize, data: Data) {
-        self.pages.push((page, data));
-    }
-
-    /// All pages of newly taken clusters: a file's bytes, zero after its end.
-    fn fill(&mut self, chain: &[usize], data: &[u8]) {
-        for index in 0..2 * chain.len() {
-            let mut page = [0; DATA];
-            let rest = data.get(index * DATA..).unwrap_or(&[]);
-            let count = rest.len().min(DATA);
-            page[..count].copy_from_slice(&rest[..count]);
-            self.write(self.card.slot_page(chain, index), page);
-        }
-    }
-
-    /// A page that is written only where its data, as read, changes.
-    fn alter(&mut self, image: &[u8], page: usize, change: impl FnOnce(&mut Data)) {
-        let before = page::read(self.card.format, image, page).expect("the check has read this page");
-        let mut after = before;
-        change(&mut after);
-        if after != before {
-            self.write(page, after);
-        }
-    }
-
-    /// Writes the table's changed pages and all others.
-    fn commit(mut self, image: &mut [u8]) {
-        for index in 0..2 * self.card.table_clusters.len() {
-            let words = self.table.iter().skip(index * WORDS / 2).take(WORDS / 2).copied().collect::<Vec<u32>>();
-            self.alter(image, 2 * self.card.table_clusters[index / 2] + index % 2, |page| {
-                words.iter().enumerate().for_each(|(place, &word)| put_word(page, 4 * place, word));
-            });
-        }
-        for (page, data) in &self.pages {
-            page::write(self.card.format, image, *page, data);
-        }
-    }
 }

@@ -7,6 +7,8 @@ use crate::time::Time;
 pub const EXISTS: u16 = 0x8000;
 pub const DIRECTORY: u16 = 0x20;
 pub const FILE: u16 = 0x10;
+/// Where this bit is clear, a change is refused with 16.
+pub const WRITE: u16 = 0x0002;
 
 /// The first cluster of a file of length 0.
 pub const NO_CLUSTER: u32 = 0xFFFF_FFFF;
@@ -67,6 +69,11 @@ impl Entry {
 
     pub fn is_directory(&self) -> bool {
         self.mode & DIRECTORY != 0
+    }
+
+    /// Whether the write bit is set.
+    pub fn is_writable(&self) -> bool {
+        self.mode & WRITE != 0
     }
 
     /// The name before the first zero, if there is a zero.

@@ -12,6 +12,7 @@ pub mod change;
 pub mod content;
 pub mod convert;
 pub mod ecc;
+mod edit;
 pub mod entry;
 pub mod listing;
 pub mod lookup;

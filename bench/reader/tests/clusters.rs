@@ -3,6 +3,7 @@
 mod common;
 
 use common::open_clusters;
+use reader::build::locks;
 use reader::build::random::{listed, random, tight};
 use reader::build::requests::random_change;
 use reader::content::lines;
@@ -52,6 +53,7 @@ fn fill_and_empty() {
         if image.len() > 300_000 {
             continue;
         }
+        locks::set_each(format, &mut image, |_| true);
         let mut rng = Rng::new(seed);
         let mut made = Vec::new();
         loop {

@@ -31,7 +31,7 @@ fn are_twins(raw: &[u8], plain: &[u8]) -> bool {
 #[test]
 fn twins_answer_alike() {
     let (mut accepted, mut refused) = (0, 0);
-    for seed in 0..120 {
+    for seed in 0..150 {
         let mut rng = Rng::new(seed + 4_000_000);
         let mut plain = random(Format::Plain, seed).image;
         let mut raw = twin(&plain, &mut rng);

@@ -61,6 +61,9 @@ fn predicted(format: Format, image: &[u8], tree: &Tree, change: &Change) -> Opti
         }
     }
     let there = tree.get(change.path());
+    // The entry itself, where it is there, and that of the directory around it.
+    let is_locked = there.is_some_and(|item| item.mode & 2 == 0) || tree[&around].mode & 2 == 0;
+    let unless_locked = |number: Option<u8>| if is_locked { Some(16) } else { number };
     let free = free_words(format, image)[0];
     let clusters = |data: &Vec<u8>| data.len().div_ceil(1024);
     if change.is_creation() {
@@ -69,7 +72,7 @@ fn predicted(format: Format, image: &[u8], tree: &Tree, change: &Change) -> Opti
         }
         let own = if let Change::Create { data, .. } = change { clusters(data) } else { 1 };
         let (dead, even) = room(format, image, &around);
-        return (own + usize::from(!dead && even) > free).then_some(12);
+        return unless_locked((own + usize::from(!dead && even) > free).then_some(12));
     }
     match (change, there) {
         (_, None) => Some(9),
@@ -77,10 +80,14 @@ fn predicted(format: Format, image: &[u8], tree: &Tree, change: &Change) -> Opti
         (Change::Delete { .. } | Change::Replace { .. }, Some(item)) if item.is_directory => Some(10),
         (Change::RemoveDir { path }, _) => {
             let inside = tree.keys().any(|other| other != path && paths::is_beginning(path, other));
-            inside.then_some(13)
+            if inside {
+                Some(13)
+            } else {
+                unless_locked(None)
+            }
         }
-        (Change::Replace { data, .. }, _) => (clusters(data) > free).then_some(12),
-        _ => None,
+        (Change::Replace { data, .. }, _) => unless_locked((clusters(data) > free).then_some(12)),
+        _ => unless_locked(None),
     }
 }
 
@@ -218,7 +225,7 @@ fn changes_do_what_the_model_says(cards: impl Iterator<Item = RandomCard>, times
             image = after;
         }
     }
-    for number in [0, 8, 9, 10, 11, 12, 13, 14] {
+    for number in [0, 8, 9, 10, 11, 12, 13, 14, 16] {
         assert!(seen.get(&number).is_some_and(|&count| count >= times), "number {number}: {seen:?}");
     }
 }

@@ -1,4 +1,4 @@
-//! Refusals 8 to 15 in their order, and what finding, stepping and reading answer, in both formats.
+//! Refusals 8 to 15 in their order (16 is in `locks`), and what finding, stepping and reading answer, in both formats.
 
 use reader::build::deep;
 use reader::build::good::sample;

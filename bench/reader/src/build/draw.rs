@@ -52,9 +52,9 @@ pub fn random_page(rng: &mut Rng) -> Data {
     data
 }
 
-/// Sets bit 0x8000 and exactly one kind bit; the other mode bits stay.
-pub fn put_kind(data: &mut Data, kind: u16) {
-    let mode = page::half(data, 0) & !(DIRECTORY | FILE) | EXISTS | kind;
+/// Sets bit 0x8000 and the given ones, exactly one of them a kind; the other mode bits stay.
+pub fn put_kind(data: &mut Data, bits: u16) {
+    let mode = page::half(data, 0) & !(DIRECTORY | FILE) | EXISTS | bits;
     page::put_half(data, 0, mode);
 }
 

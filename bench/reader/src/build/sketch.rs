@@ -8,7 +8,7 @@ use super::wear::wear;
 use super::{Assembly, Layout};
 use crate::card::{END_MARK, USED};
 use crate::content::{Item, Piece, Tree};
-use crate::entry::{Entry, DIRECTORY, FILE, NO_CLUSTER};
+use crate::entry::{Entry, DIRECTORY, FILE, NO_CLUSTER, WRITE};
 use crate::page::{Data, Format, CLUSTER_DATA, DATA};
 use crate::paths;
 use crate::rng::Rng;
@@ -39,6 +39,8 @@ pub(super) struct Sketch {
     tree: Tree,
     /// Most names have 31 bytes.
     has_long_names: bool,
+    /// Write bits are junk too; else each entry that a change looks at has its bit.
+    has_locks: bool,
 }
 
 impl Sketch {
@@ -62,6 +64,7 @@ impl Sketch {
             file_pages: Vec::new(),
             tree: Tree::new(),
             has_long_names: rng.chance(1, 8),
+            has_locks: rng.chance(1, 4),
         };
         let page = sketch.card.page(0, 0);
         sketch.directory(rng, b"/".to_vec(), 0, 0, page);
@@ -182,7 +185,8 @@ impl Sketch {
         for (second, name) in [(0, b".".as_slice()), (1, b"..")] {
             let mut data = random_page(rng);
             put_name(rng, &mut data, name);
-            put_kind(&mut data, DIRECTORY);
+            let is_asked = depth == 0 && second == 0;
+            put_kind(&mut data, if is_asked { DIRECTORY | self.write_bit() } else { DIRECTORY });
             self.entries.insert(self.card.page(first, second), data);
         }
         let (names, listed) = (HashSet::new(), Vec::new());
@@ -202,8 +206,18 @@ impl Sketch {
         drawn.listed.push(name.clone());
         let mut data = random_page(rng);
         put_name(rng, &mut data, &name);
-        put_kind(&mut data, kind);
-        (paths::join(&drawn.path, &name), data)
+        let path = paths::join(&drawn.path, &name);
+        put_kind(&mut data, kind | self.write_bit());
+        (path, data)
+    }
+
+    /// The write bit, where each entry that a change looks at has it.
+    fn write_bit(&self) -> u16 {
+        if self.has_locks {
+            0
+        } else {
+            WRITE
+        }
     }
 
     /// Lengths, table, orphans, flips and damage; then the card is whole.
