@@ -7,11 +7,12 @@ use reader::{Change, Refusal};
 use crate::format::Number;
 use crate::lent::lend;
 
-/// The refusals of each change, in the order of document 01; making a directory has those of creating.
-const CREATING: [u32; 13] = [1, 2, 3, 4, 5, 6, 7, 8, 14, 9, 10, 11, 12];
-const REPLACING: [u32; 12] = [1, 2, 3, 4, 5, 6, 7, 8, 14, 9, 10, 12];
-const DELETING: [u32; 10] = [1, 2, 3, 4, 5, 6, 7, 8, 9, 10];
-const REMOVING: [u32; 11] = [1, 2, 3, 4, 5, 6, 7, 8, 9, 10, 13];
+/// The refusals of each change, in the order of document 01, with 16 where document 02 puts it; making a directory has
+/// those of creating.
+const CREATING: [u32; 14] = [1, 2, 3, 4, 5, 6, 7, 8, 14, 9, 10, 11, 16, 12];
+const REPLACING: [u32; 13] = [1, 2, 3, 4, 5, 6, 7, 8, 14, 9, 10, 16, 12];
+const DELETING: [u32; 11] = [1, 2, 3, 4, 5, 6, 7, 8, 9, 10, 16];
+const REMOVING: [u32; 12] = [1, 2, 3, 4, 5, 6, 7, 8, 9, 10, 13, 16];
 
 /// Creates a file that holds `data`.
 pub fn create(

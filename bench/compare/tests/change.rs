@@ -2,15 +2,12 @@
 
 mod common;
 
-use common::changes::{five, Changes, KINDS};
+use common::changes::{five, Changes, BAD_TIME, KINDS};
 use compare::{check, create, delete, listing, make_dir, read};
 use reader::build::good::sample;
 use reader::build::{bad, bench, usual_time};
 use reader::time::Time;
 use reader::{Change, Counts, Format, Refusal};
-
-/// 30 February 2000.
-const BAD_TIME: Time = [0, 0, 0, 0, 30, 2, 0xD0, 7];
 
 fn here() -> String {
     "drawn up by hand".into()
@@ -105,11 +102,9 @@ fn whole_listing() {
     }
 }
 
-/// The numbers of all five changes at a path, each on its own copy, 0 for acceptance: create, replace, delete,
-/// make_dir, remove_dir.
+/// The numbers of all five changes at a path.
 fn numbers(format: Format, image: &[u8], path: &[u8], time: &Time, clusters: usize) -> [u8; 5] {
-    let changes = five(path, time, &vec![1; 1024 * clusters]);
-    changes.map(|change| done(format, &mut image.to_vec(), change).err().unwrap_or(0))
+    Changes::new(format).numbers(image, path, time, clusters, here)
 }
 
 /// 17 clusters are free on the sample card: `/D/D2/D3/deep`, `/F`, a dead slot, an empty `/E`.

@@ -3,9 +3,8 @@
 
 mod common;
 
-use common::orders::Run;
+use common::orders::{furnish, Run};
 use reader::build::random::random;
-use reader::build::usual_time;
 use reader::rng::Rng;
 use reader::Format;
 
@@ -22,30 +21,17 @@ fn random_cards(format: Format, seeds: std::ops::Range<u64>) {
     run.met(20);
 }
 
-/// Some empty directories, where there is room; on a tight card a file takes all but a few free clusters, so that
-/// room is what decides.
-fn furnish(format: Format, image: &mut [u8], rng: &mut Rng, is_tight: bool) {
-    for path in [&b"/empty"[..], b"/empty/one", b"/empty/two", b"/hollow"] {
-        reader::make_dir(format, image, path, &usual_time()).ok();
-    }
-    if is_tight {
-        let free = compare::check(format, image).expect("an accepted card").free;
-        let data = vec![0; free.saturating_sub(rng.below(7) + 1) * 1024];
-        reader::create(format, image, b"/filler", &usual_time(), &data).ok();
-    }
-}
-
 #[test]
 fn raw_pairs_first_half() {
-    random_cards(Format::Raw, 0..200);
+    random_cards(Format::Raw, 0..240);
 }
 
 #[test]
 fn raw_pairs_second_half() {
-    random_cards(Format::Raw, 7_000_000..7_000_200);
+    random_cards(Format::Raw, 7_000_000..7_000_240);
 }
 
 #[test]
 fn plain_pairs() {
-    random_cards(Format::Plain, 0..200);
+    random_cards(Format::Plain, 0..240);
 }

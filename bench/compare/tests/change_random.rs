@@ -62,7 +62,7 @@ impl Run {
 
     /// Nothing was too rare.
     fn met(&self) {
-        self.changes.met([0, 8, 9, 10, 11, 12, 13, 14], 100);
+        self.changes.met([0, 8, 9, 10, 11, 12, 13, 14, 16], 100);
         self.changes.accepted(300);
         let others = [self.filled, self.emptied, self.scattered];
         println!("cards filled, emptied, chains with gaps: {others:?}");

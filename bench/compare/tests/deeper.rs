@@ -2,7 +2,7 @@
 
 mod common;
 
-use common::changes::{five, Changes, KINDS};
+use common::changes::{Changes, BAD_TIME, KINDS};
 use common::lookups::Lookups;
 use common::orders::Run;
 use compare::listing;
@@ -16,19 +16,13 @@ use reader::time::Time;
 use reader::tree::{Checked, DEEPEST};
 use reader::{Change, Counts, Format, Refusal};
 
-/// 30 February 2000.
-const BAD_TIME: Time = [0, 0, 0, 0, 30, 2, 0xD0, 7];
-
 fn here() -> String {
     "deep card".into()
 }
 
-/// The numbers of all five changes at a path, each on its own copy, 0 for acceptance: create, replace, delete,
-/// make_dir, remove_dir.
+/// The numbers of all five changes at a path.
 fn numbers(format: Format, image: &[u8], path: &[u8], time: &Time, clusters: usize) -> [u8; 5] {
-    let mut changes = Changes::new(format);
-    five(path, time, &vec![1; 1024 * clusters])
-        .map(|change| changes.apply(&mut image.to_vec(), &change, here).map_or_else(|refusal| refusal.number, |()| 0))
+    Changes::new(format).numbers(image, path, time, clusters, here)
 }
 
 /// The listing, which both sides agree on.

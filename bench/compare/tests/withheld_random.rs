@@ -8,6 +8,7 @@ use common::changes::Changes;
 use common::orders::Run;
 use common::room::{create, delete, drawn_pairs_on, make, node, replace, up_to_room};
 use common::{flip_each_chunk, mend};
+use reader::build::locks;
 use reader::build::needed;
 use reader::build::random::{listed, tight, RandomCard};
 use reader::build::requests::random_change;
@@ -32,6 +33,15 @@ struct Kind {
     stepped_over: std::ops::RangeInclusive<usize>,
     /// Pairs accepted in both orders.
     pairs: usize,
+}
+
+impl Kind {
+    /// A card of the kind without locks, so that room is what decides.
+    fn unlocked(&self, format: Format, seed: u64) -> RandomCard {
+        let mut card = (self.card)(format, seed);
+        locks::set_each(format, &mut card.image, |_| true);
+        card
+    }
 }
 
 const TAIL: Kind = Kind {
@@ -130,7 +140,7 @@ fn sequences(kind: &Kind, format: Format, seeds: std::ops::Range<u64>) {
     let mut changes = Changes::new(format);
     let mut met = Met::default();
     for seed in seeds {
-        let card = (kind.card)(format, seed);
+        let card = kind.unlocked(format, seed);
         let mut rng = Rng::new(seed ^ 0xBAD_C4A9);
         let mut both = Both::new(format, card.image);
         both.changes = changes;
@@ -199,7 +209,7 @@ fn list_sequences() {
 fn pairs(kind: &Kind, format: Format, seeds: std::ops::Range<u64>) {
     let mut run = Run::new(format);
     for seed in seeds {
-        let card = (kind.card)(format, seed);
+        let card = kind.unlocked(format, seed);
         let pairs = if card.layout.clusters < 8192 { 12 } else { 4 };
         let about = || format!("{} {seed}", kind.name);
         run.pairs_up_to_room(&card.image, pairs, &mut Rng::new(seed ^ 0xBAD_0D03), about);

@@ -5,8 +5,14 @@ use reader::{Change, Format, Refusal};
 
 use super::Tally;
 
+/// 30 February 2000.
+pub const BAD_TIME: Time = [0, 0, 0, 0, 30, 2, 0xD0, 7];
+
 /// The kinds of changes, in the order of `five`.
 pub const KINDS: [&str; 5] = ["create", "replace", "delete", "make_dir", "remove_dir"];
+
+/// The numbers of the five, in the same order, 0 for acceptance.
+pub type Numbers = [u8; 5];
 
 /// All five changes at a path; time and data go to those that take them.
 pub fn five(path: &[u8], time: &Time, data: &[u8]) -> [Change; 5] {
@@ -63,6 +69,27 @@ impl Changes {
         assert_eq!(answer, change.apply(self.format, readers), "library left, reader right: {}", about());
         self.tallies[kind(change)].count(&answer);
         answer
+    }
+
+    /// The numbers of all five changes at a path, each on its own copy. A refusal leaves the image as it was.
+    pub fn numbers(
+        &mut self,
+        image: &[u8],
+        path: &[u8],
+        time: &Time,
+        clusters: usize,
+        what: impl Fn() -> String,
+    ) -> Numbers {
+        five(path, time, &vec![1; 1024 * clusters]).map(|change| {
+            let mut copy = image.to_vec();
+            match self.apply(&mut copy, &change, &what) {
+                Ok(()) => 0,
+                Err(refusal) => {
+                    assert!(copy == image, "a refusal changed the image, {}", about(&change, &what));
+                    refusal.number
+                }
+            }
+        })
     }
 
     /// Each of the answers was met this often, all kinds of changes together.

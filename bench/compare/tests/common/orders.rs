@@ -1,6 +1,7 @@
 //! Demand 3 on both sides: two changes, neither path a beginning of the other, in both orders on copies of one card.
 
 use reader::build::requests::random_change;
+use reader::build::usual_time;
 use reader::paths::{depth, directory_of, is_beginning, parse};
 use reader::rng::Rng;
 use reader::{tree, Change, Format, Tree};
@@ -95,6 +96,19 @@ impl Run {
         let others = [self.one_order, self.neither, self.creations_refused, self.differed, self.deep];
         println!("accepted in one order, in neither, creations in neither, free counts that differ, deep: {others:?}");
         assert!(others.iter().all(|&pairs| pairs >= times), "{others:?}");
+    }
+}
+
+/// Some empty directories, where there is room; on a tight card a file takes all but a few free clusters, so that
+/// room is what decides.
+pub fn furnish(format: Format, image: &mut [u8], rng: &mut Rng, is_tight: bool) {
+    for path in [&b"/empty"[..], b"/empty/one", b"/empty/two", b"/hollow"] {
+        reader::make_dir(format, image, path, &usual_time()).ok();
+    }
+    if is_tight {
+        let free = compare::check(format, image).expect("an accepted card").free;
+        let data = vec![0; free.saturating_sub(rng.below(7) + 1) * 1024];
+        reader::create(format, image, b"/filler", &usual_time(), &data).ok();
     }
 }
 

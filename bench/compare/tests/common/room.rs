@@ -10,7 +10,7 @@ use reader::{lookup, paths, time, tree, Change, Format, Tree};
 use super::both::{bytes, Both};
 use super::orders::{are_apart, Run};
 
-/// Whether nothing but room can refuse the change.
+/// Whether nothing but room can refuse the change on a card without locks.
 fn is_up_to_room(change: &Change, items: &Tree) -> bool {
     let path = change.path();
     let (there, around) = (items.get(path), items.get(paths::directory_of(path)));
@@ -25,7 +25,7 @@ fn is_up_to_room(change: &Change, items: &Tree) -> bool {
     }
 }
 
-/// A random change that nothing but room can refuse.
+/// A random change that nothing but room can refuse; the card has no locks.
 pub fn up_to_room(rng: &mut Rng, items: &Tree) -> Change {
     std::iter::repeat_with(|| random_change(rng, items)).find(|change| is_up_to_room(change, items)).expect("endless")
 }
