@@ -1,5 +1,5 @@
-//! Looking at a card takes no notice of its locks: check, listing, find, step, read and the conversions answer on a card
-//! where everything is locked as on the same card where nothing is, apart from the modes.
+//! Looking at a card takes no notice of its locks: check, listing, find, step, read and the conversions answer on a
+//! card where everything is locked as on the same card where nothing is, apart from the modes.
 
 mod common;
 

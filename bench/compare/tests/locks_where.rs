@@ -5,6 +5,7 @@ mod common;
 
 use common::changes::{Changes, Numbers, KINDS};
 use reader::build::locks::{alter_mode, card, lock, place, set, set_each, Which};
+use reader::build::scribble::flip;
 use reader::build::{deep, usual_time};
 use reader::Format;
 
@@ -161,5 +162,40 @@ fn other_bits() {
             }
         }
         changes.met([0, 16], 500);
+    }
+}
+
+/// The bit as read counts, not the stored one: a flip of it is corrected, whichever way it goes.
+#[test]
+fn flipped_bits() {
+    let format = Format::Raw;
+    let mut changes = Changes::new(format);
+    for (around, path, numbers) in AROUND {
+        for is_locked in [false, true] {
+            let mut image = card(format, false).image;
+            set(format, &mut image, around, Which::Own, !is_locked);
+            let page = place(format, &image, around, Which::Own);
+            flip(format, &mut image, page, 0, 1);
+            assert_eq!(image[format.place(page)][0] & 2 == 0, !is_locked, "the stored bit says otherwise");
+            let what = || format!("{} locked {is_locked}, its bit flipped", around.escape_ascii());
+            let found = changes.numbers(&image, path, &usual_time(), 1, what);
+            assert_eq!(found, numbers[usize::from(is_locked)], "{KINDS:?} {}, {}", path.escape_ascii(), what());
+        }
+    }
+    changes.met([0, 16], 20);
+}
+
+/// A dead entry is nobody's lock: its slot is taken again.
+#[test]
+fn dead_entries() {
+    for format in Format::BOTH {
+        let mut changes = Changes::new(format);
+        for (path, bit) in [&b"/v"[..], b"/A/v", b"/A/B/f"].into_iter().flat_map(|path| [(path, 0), (path, 2)]) {
+            let mut image = card(format, false).image;
+            let page = place(format, &image, path, Which::Own);
+            alter_mode(format, &mut image, page, |mode| mode & !0x8002 | bit);
+            let found = changes.numbers(&image, path, &usual_time(), 1, || format!("dead, bit {bit}"));
+            assert_eq!(found, [0, 9, 9, 0, 9], "{KINDS:?} {}, bit {bit}", path.escape_ascii());
+        }
     }
 }

@@ -1,5 +1,5 @@
-//! The five changes. Each is judged whole before the first byte is written: after the check 8, 14, 9, 10, 11, 13, 16 and
-//! 12 in this order.
+//! The five changes. Each is judged whole before the first byte is written: after the check 8, 14, 9, 10, 11, 13, 16
+//! and 12 in this order.
 
 use crate::card::Card;
 use crate::edit::Edit;

@@ -1,6 +1,7 @@
 //! Refusal 16, document 02's request 6: which entries' write bits count, for which changes, and its place in the order.
 
 use reader::build::locks::{alter_mode, card, lock, place, set, set_dots, set_each, Which, LEVELS, REQUESTS};
+use reader::build::scribble::flip;
 use reader::build::{bench, deep, usual_time};
 use reader::time::Time;
 use reader::{check, create, delete, find, list, make_dir, page, remove_dir, replace, tree, Change, Format, Refusal};
@@ -223,5 +224,19 @@ fn reading_is_untouched() {
         assert!(items.values().all(|item| item.mode & 2 == 0) && items != others);
         items.values_mut().for_each(|item| item.mode |= 2);
         assert!(items == others);
+    }
+}
+
+/// The bit counts as read: where the stored one is flipped, its correction decides.
+#[test]
+fn flipped_bits() {
+    let format = Format::Raw;
+    for (is_writable, expected) in [(true, [11, 0, 0, 11, 10]), (false, [11, 16, 16, 11, 10])] {
+        for (entry, page) in [(&b"/"[..], 20), (b"/f", 23)] {
+            let mut image = card(format, false).image;
+            set(format, &mut image, entry, Which::Own, is_writable);
+            flip(format, &mut image, page, 0, 1);
+            assert_eq!(numbers(format, &image, b"/f", usual_time(), 1), expected);
+        }
     }
 }
