@@ -106,7 +106,8 @@ module _ (s : Superblock) (image table : List ℕ) where
     pub low-last : lastOf table directory < topBit
     pub low-slot : numberBy (new .dead) (entriesOf directory) ≤ 2 * mostClusters
     pub small : enough s table (needOf directory (new .dead) bytes) ≡ true → new .count < wordLimit
-    pub lands : lockedAt directory ≡ false → enough s table (needOf directory (new .dead) bytes) ≡ true → Lands (s .end) (addedWrites s table directory new time name bytes)
+    pub lands : lockedAt directory ≡ false → enough s table (needOf directory (new .dead) bytes) ≡ true
+        → Lands (s .end) (addedWrites s table directory new time name bytes)
 
   -- 11 where the name is there, 10 where a file stands in the directory's place
   abbrev pub unlessThere : Place → Outcome → Outcome
@@ -169,11 +170,13 @@ module _ (s : Superblock) (image table : List ℕ) where
   -- what the code knows of the entry: where none of these is met, its pages land
   abbrev pub EditLands : Action → EntryAt → List ℕ → List ℕ → EntryAt → Type 0
   EditLands action.Replace directory time bytes entry =
-      isDirectory (entryOf (entry .page)) ≡ false → eitherLocked directory entry ≡ false → enough s table (clustersFor (length bytes)) ≡ true → Lands (s .end) (replacedWrites s table directory entry time bytes)
+      isDirectory (entryOf (entry .page)) ≡ false → eitherLocked directory entry ≡ false → enough s table (clustersFor (length bytes)) ≡ true
+      → Lands (s .end) (replacedWrites s table directory entry time bytes)
   EditLands action.Delete directory time bytes entry =
       isDirectory (entryOf (entry .page)) ≡ false → eitherLocked directory entry ≡ false → Lands (s .end) (removedWrites directory entry)
   EditLands action.Remove directory time bytes entry =
-      isDirectory (entryOf (entry .page)) ≡ true → liveOf (viewBy (s .geometry) table image) table entry ≡ place.Nowhere → eitherLocked directory entry ≡ false → Lands (s .end) (removedWrites directory entry)
+      isDirectory (entryOf (entry .page)) ≡ true → liveOf (viewBy (s .geometry) table image) table entry ≡ place.Nowhere → eitherLocked directory entry ≡ false
+      → Lands (s .end) (removedWrites directory entry)
 
   pub record CanEdit (action : Action) (directory : EntryAt) (time bytes : List ℕ) (entry : EntryAt) : Type 0 where
     pub card : Open s image table

@@ -61,7 +61,8 @@ pub record Kept (format : Format) (image : List ℕ) (c : Change) : Type 0 where
   pub untaken : (s : Superblock) → superblockIn (checkImage format image) ≡ ok s → (d : ℕ) → (rulesOf s) .mayTake d ≡ false
       → (see s image) .link d ≡ Link.free → (see s (imageLeft format c image)) .link d ≡ Link.free
   -- what is locked stays, and so does all that stands directly inside a locked directory
-  pub locks : (q : Path) → (locked (treeIn format image q) || locked (treeIn format image (parent q))) ≡ true → treeIn format (imageLeft format c image) q ≡ treeIn format image q
+  pub locks : (q : Path) → (locked (treeIn format image q) || locked (treeIn format image (parent q))) ≡ true
+      → treeIn format (imageLeft format c image) q ≡ treeIn format image q
 
 abbrev pub ChangeKeeps : Type 0
 ChangeKeeps = (format : Format) (image : List ℕ) (counts : Counts) → checkOf format image ≡ ok counts → (c : Change) → Accepts format image c → Kept format image c

@@ -29,7 +29,8 @@ pub fn refusal_leaves()
     ensures { λ _. ⌜ RefusalLeaves ⌝ }
 {}
 
-// After an accepted change the image is accepted again, its own path is what the rules say, and every other path stays.
+// After an accepted change the image is accepted again, its own path is what the rules say, and every other path stays;
+// nothing locked has changed, nor anything directly inside a locked directory.
 pub fn change_keeps()
     ensures { λ _. ⌜ ChangeKeeps ⌝ }
 {}
