@@ -8,16 +8,6 @@ use Rattle.change.proofs.FreeLaws.{collected-inside, growth-small, tabl
 use borrow.Author.Needs.{needs}
 use Rattle.change.proofs.adding.add.Statement.{statement}
 use Rattle.change.proofs.adding.add.Tie as tie
--- A locked directory is refused. All free clusters are collected and counted; where they are enough, the entry is put down with those that are listed.
-use mathlib.Core.Path.{_∙_, ap, sym}
-use native.Mathlib.Omega.{arith}
-use lib.ListN.{length}
-use Rattle.change.proofs.AddSteps.{added-done, added-full, added-locked, need-so}
-use Rattle.change.proofs.CallLaws.{leaves}
-use Rattle.change.proofs.FreeLaws.{collected-inside, growth-small, table-small}
-use borrow.Author.Needs.{needs}
-use Rattle.change.proofs.adding.add.Statement.{statement}
-use Rattle.change.proofs.adding.add.Tie as tie
 
 is-locked-requires : tie.Need-is-locked-requires
 is-locked-requires c κs = search needs

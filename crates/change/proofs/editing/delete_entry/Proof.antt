@@ -5,13 +5,6 @@ use Rattle.change.proofs.EditAnswers.{deleted-done, deleted-kind, delet
 use borrow.Author.Needs.{needs}
 use Rattle.change.proofs.editing.delete_entry.Statement.{statement}
 use Rattle.change.proofs.editing.delete_entry.Tie as tie
--- Refused on a directory and by a lock; a file is taken away with the clusters that its length needs.
-use mathlib.Core.Path.{_∙_, sym}
-use Rattle.change.proofs.CallLaws.{leaves}
-use Rattle.change.proofs.EditAnswers.{deleted-done, deleted-kind, deleted-locked}
-use borrow.Author.Needs.{needs}
-use Rattle.change.proofs.editing.delete_entry.Statement.{statement}
-use Rattle.change.proofs.editing.delete_entry.Tie as tie
 
 is-directory-requires : tie.Need-is-directory-requires
 is-directory-requires c κs = search needs

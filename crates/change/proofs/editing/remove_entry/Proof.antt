@@ -8,16 +8,6 @@ use Rattle.change.proofs.EditAnswers.{removed-done, removed-kind, remov
 use borrow.Author.Needs.{needs}
 use Rattle.change.proofs.editing.remove_entry.Statement.{statement}
 use Rattle.change.proofs.editing.remove_entry.Tie as tie
--- Refused on a file, where a live entry is in the directory, and by a lock; otherwise it is taken away with its whole chain.
-use mathlib.Core.Path.{_∙_, sym}
-use borrow.Author.Tests.{not-false, not-true}
-use Rattle.layout.specs.See.{viewBy}
-use Rattle.tree.specs.Scan.{livingFrom}
-use Rattle.change.proofs.CallLaws.{leaves, scan-so}
-use Rattle.change.proofs.EditAnswers.{removed-done, removed-kind, removed-live, removed-locked}
-use borrow.Author.Needs.{needs}
-use Rattle.change.proofs.editing.remove_entry.Statement.{statement}
-use Rattle.change.proofs.editing.remove_entry.Tie as tie
 
 is-directory-requires : tie.Need-is-directory-requires
 is-directory-requires c κs = search needs

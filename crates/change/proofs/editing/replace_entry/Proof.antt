@@ -8,16 +8,6 @@ use Rattle.change.proofs.FreeLaws.{collected-inside, table-small}
 use borrow.Author.Needs.{needs}
 use Rattle.change.proofs.editing.replace_entry.Statement.{statement}
 use Rattle.change.proofs.editing.replace_entry.Tie as tie
--- Refused on a directory, by a lock and for want of room; otherwise the new contents are put down with the free clusters listed.
-use mathlib.Core.Path.{_∙_, ap, sym}
-use native.Mathlib.Omega.{arith}
-use lib.ListN.{length}
-use Rattle.change.proofs.CallLaws.{leaves}
-use Rattle.change.proofs.EditSteps.{can-land, replaced-done, replaced-full, replaced-kind, replaced-locked}
-use Rattle.change.proofs.FreeLaws.{collected-inside, table-small}
-use borrow.Author.Needs.{needs}
-use Rattle.change.proofs.editing.replace_entry.Statement.{statement}
-use Rattle.change.proofs.editing.replace_entry.Tie as tie
 
 is-directory-requires : tie.Need-is-directory-requires
 is-directory-requires c κs = search needs
