@@ -6,8 +6,9 @@ mod common;
 use std::fs;
 use std::os::unix::fs::MetadataExt;
 
-use common::locked::{card, lock, lock_all, lock_slot, set_mode, WORDS};
+use common::locked::{card, lock, lock_all, lock_dots, set_mode, WORDS};
 use common::Folder;
+use reader::build::locks::Which::{Dot, Dots};
 use reader::Format;
 
 /// A card with locks on a file in an open directory, on an empty directory, and on one with a file, with a locked file,
@@ -148,9 +149,8 @@ fn the_root() {
 fn dots() {
     for format in Format::BOTH {
         let mut image = card(format, &["/D", "/D/E"], &["/file", "/D/file"]);
-        lock_slot(format, &mut image, "/", 1);
-        for (directory, slot) in [("/D", 0), ("/D", 1), ("/D/E", 0), ("/D/E", 1)] {
-            lock_slot(format, &mut image, directory, slot);
+        for (directory, which) in [("/", Dots), ("/D", Dot), ("/D", Dots), ("/D/E", Dot), ("/D/E", Dots)] {
+            lock_dots(format, &mut image, directory, which);
         }
         let folder = station(format, &image);
         let runs: [&[&str]; 10] = [

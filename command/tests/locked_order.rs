@@ -4,10 +4,11 @@
 mod c;
 mod common;
 
-use common::locked::{card, lock, lock_all, lock_slot, set_mode};
+use common::locked::{card, lock, lock_all, lock_dots, set_mode};
 use common::{in_wrapper, Folder};
 use ps2card::{Card, Refusal, Stamp};
 use reader::build;
+use reader::build::locks::Which::{Dot, Dots};
 use reader::Format::{self, Plain, Raw};
 
 /// A change: its call, whether its time is valid, how many bytes, and its path.
@@ -156,11 +157,11 @@ fn which_entries_count() {
             }
         }
         // The dots of every directory but the root's first.
-        for (directory, slot) in paths[..5].iter().flat_map(|path| [(path, 0), (path, 1)]).skip(1) {
+        for (directory, which) in paths[..5].iter().flat_map(|path| [(path, Dot), (path, Dots)]).skip(1) {
             let mut image = open.clone();
-            lock_slot(format, &mut image, directory, slot);
+            lock_dots(format, &mut image, directory, which);
             let told = changes.map(|(change, _)| number(format, &image, change));
-            assert_eq!(told, [0; 12], "{directory} {slot}");
+            assert_eq!(told, [0; 12], "{directory} {which:?}");
         }
     }
 }

@@ -36,12 +36,13 @@ use Rattle.model.proofs.PageBytes.{length-new}
 use Rattle.model.proofs.Sites as tree
 use Rattle.change.specs.declared.entries.EntryAt.{EntryAt}
 use Rattle.change.specs.declared.entries.NewEntry.{NewEntry}
-use Rattle.change.specs.Calls.{CanAdd, CanAddIn, added, addedImage, addedIn, deadOf, doneWith, dotsOf, enough, lockedAt, needOf, newOf, pickOutcome, placeOf, refusedBy, slotsOf, unlessLocked, unlessThere}
+use Rattle.change.specs.Calls.{CanAdd, CanAddIn, added, addedIn, deadOf, dotsOf, enough, lockedAt, needOf, newOf, placeOf, refusedBy, slotsOf, unlessThere}
 use Rattle.change.specs.Changed.{changed}
 use Rattle.change.specs.Deeds.{entriesOf, lastOf, numberBy}
 use Rattle.change.specs.Words.{freeList}
 use Rattle.change.proofs.AddPlans.{DeadAt, slots-many}
 use Rattle.change.proofs.Added.{Adds, added-exists, added-full, added-locked, create-done, make-done}
+use Rattle.change.proofs.CallLaws.{picked}
 use Rattle.change.proofs.ChainWords.{last-times}
 use Rattle.change.proofs.ChangedLaws.{checked-parts}
 use Rattle.change.proofs.ChangedView.{end-is, no-words}
@@ -146,22 +147,26 @@ module _ (format : Format) (image : List ℕ) (s : Superblock) (root : Root) (m 
           lands = λ o e. (does (absent-so (path c) here site lacks) o (room-for e)) .lands;
         }
 
-    judged : placeOf (see s image) (tableOf image s) here (lastName (path c)) ≡ place.Nowhere → lockedAt here ≡ false → (b : Bool) → enough s (tableOf image s) (needOf here (new .dead) bytes) ≡ b
-        → pickOutcome b (doneWith (addedImage s image (tableOf image s) here new time (lastName (path c)) bytes)) (refusedBy 12 image) ≡ changed format c image
-    judged l o true e = sym ((does (absent-so (path c) here site l) o (room-for e)) .done)
-    judged l o false e =
-        sym (added-full format image s root m checked c fine here site creating (new .dead) at-dead (lacking _ ∙ ap mustLack (absent-so (path c) here site l)) (rw (absent-so (path c) here site l, o))
-        (omega (arith, many, leb-false (needOf here (new .dead) bytes) (length (freeList s (tableOf image s))) e)))
+    -- the name is absent: 16, 12, or done
+    judged : placeOf (see s image) (tableOf image s) here (lastName (path c)) ≡ place.Nowhere
+        → added s image (tableOf image s) here new time (lastName (path c)) bytes ≡ changed format c image
+    judged l =
+        picked (lockedAt here) (refusedBy 16 image) _
+        (λ o. sym (added-locked format image s root m checked c fine here site creating (new .dead) at-dead lacks (rw (gone, o))))
+        (λ o. picked (enough s (tableOf image s) (needOf here (new .dead) bytes)) _ (refusedBy 12 image)
+        (λ e. sym ((does gone o (room-for e)) .done))
+        (λ e. sym (added-full format image s root m checked c fine here site creating (new .dead) at-dead lacks (rw (gone, o))
+        (omega (arith, many, leb-false (needOf here (new .dead) bytes) (length (freeList s (tableOf image s))) e)))))
+      where
+        gone : lookIn (site .slots) (lastName (path c) ∷ []) ≡ absent
+        gone = absent-so (path c) here site l
 
-    opened-up : placeOf (see s image) (tableOf image s) here (lastName (path c)) ≡ place.Nowhere → (b : Bool) → lockedAt here ≡ b
-        → unlessLocked s image (tableOf image s) b (pickOutcome (enough s (tableOf image s) (needOf here (new .dead) bytes)) (doneWith (addedImage s image (tableOf image s) here new time (lastName (path c)) bytes)) (refusedBy 12 image)) ≡ changed format c image
-    opened-up l false o = judged l o (enough s (tableOf image s) (needOf here (new .dead) bytes)) refl
-    opened-up l true o =
-        sym (added-locked format image s root m checked c fine here site creating (new .dead) at-dead (lacking _ ∙ ap mustLack (absent-so (path c) here site l)) (rw (absent-so (path c) here site l, o)))
+        lacks : own c (lookIn (site .slots) (lastName (path c) ∷ [])) ≡ 0
+        lacks = lacking _ ∙ ap mustLack gone
 
     pub added-at : (x : Place) → placeOf (see s image) (tableOf image s) here (lastName (path c)) ≡ x
         → unlessThere s image (tableOf image s) x (added s image (tableOf image s) here new time (lastName (path c)) bytes) ≡ changed format c image
-    added-at place.Nowhere e = opened-up e (lockedAt here) refl
+    added-at place.Nowhere e = judged e
     added-at (place.At k q) e = sym (added-exists format image s root m checked c fine here site creating (new .dead) at-dead 10 (lacking _ ∙ exists-11 (path c) here site k q e))
 
   -- ---- the two creations

@@ -40,8 +40,9 @@ use Rattle.change.specs.Calls.{CanEdit, CanEditIn, EditLands, doneWith, 
 use Rattle.change.specs.Changed.{changed}
 use Rattle.change.specs.Words.{freeList}
 use Rattle.change.proofs.AddOutcomes.{held-slots}
+use Rattle.change.proofs.CallLaws.{picked}
 use Rattle.change.proofs.ChangedLaws.{checked-parts}
-use Rattle.change.proofs.Edited.{IsDirectory, IsFile, There, delete-done, directory-here, edit-full, edit-refused, file-here, remove-done, replace-done, unless-locked}
+use Rattle.change.proofs.Edited.{IsDirectory, There, delete-done, directory-here, edit-full, edit-refused, file-here, remove-done, replace-done, unless-locked}
 use Rattle.change.proofs.Sites.{Site, entryIn}
 
 -- a page that an entry is read from
@@ -109,17 +110,12 @@ module _ (format : Format) (image : List ℕ) (s : Superblock) (root : Root) (m 
       let d = directory-here format image s root m checked p here site q (x .entry) (x .there) e in
       sym (edit-refused format image s root m checked (replace p time bytes) fine refl here site 9 (rw (d .found-directory)))
   replaced-at time bytes fine q x false e =
-      unless-locked format image s root m checked (replace p time bytes) fine refl here site (entryIn q (x .entry)) (rw (file .found-file)) (rw (file .found-file)) _
-      (λ o. room o (enough s (tableOf image s) (clustersFor (length bytes))) refl)
-    where
-      file : IsFile format image s root m checked p here site q (x .entry) (x .there)
-      file = file-here format image s root m checked p here site q (x .entry) (x .there) e
-
-      room : eitherLocked here (entryIn q (x .entry)) ≡ false → (b : Bool) → enough s (tableOf image s) (clustersFor (length bytes)) ≡ b
-          → pickOutcome b (doneWith (replacedImage s image (tableOf image s) here (entryIn q (x .entry)) time bytes)) (refusedBy 12 image) ≡ changed format (replace p time bytes) image
-      room o true h = sym ((replace-done format image s root m checked p here site q (x .entry) (x .there) time bytes fine file o (leb-true (clustersFor (length bytes)) (length (freeList s (tableOf image s))) h)) .done)
-      room o false h =
-          sym (edit-full format image s root m checked (replace p time bytes) fine refl here site (rw (file .found-file)) (rw (file .found-file) o) (leb-false (clustersFor (length bytes)) (length (freeList s (tableOf image s))) h))
+      let f = file-here format image s root m checked p here site q (x .entry) (x .there) e in
+      let free = length (freeList s (tableOf image s)) in
+      unless-locked format image s root m checked (replace p time bytes) fine refl here site (entryIn q (x .entry)) (rw (f .found-file)) (rw (f .found-file)) _
+      (λ o. picked (enough s (tableOf image s) (clustersFor (length bytes))) _ (refusedBy 12 image)
+      (λ h. sym ((replace-done format image s root m checked p here site q (x .entry) (x .there) time bytes fine f o (leb-true (clustersFor (length bytes)) free h)) .done))
+      (λ h. sym (edit-full format image s root m checked (replace p time bytes) fine refl here site (rw (f .found-file)) (rw (f .found-file) o) (leb-false (clustersFor (length bytes)) free h))))
 
   deleted-at : static (delete p) ≡ 0 → (q : ℕ) (x : Stands q) → (b : Bool) → isDirectory (entryOf (x .entry)) ≡ b
       → pickOutcome b (refusedBy 10 image)

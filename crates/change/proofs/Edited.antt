@@ -1,6 +1,6 @@
 -- Replacing a file, deleting one and removing a directory, as the code does them on the entry that it found.
 use Prim.Native.Nat.{ℕ, suc, pred, _+_, _/_, _<_, _≤_}
-use mathlib.Core.Bool.{Bool, cond, false, true}
+use mathlib.Core.Bool.{cond, false, true}
 use mathlib.Core.List.{List, [], _++_, _∷_}
 use mathlib.Core.Logic.{_⊎_, inl, inr}
 use mathlib.Core.Option.{Option, some}
@@ -32,11 +32,12 @@ use Rattle.model.proofs.Outcome.{Deed}
 use Rattle.reached.specs.Table.{tableLinks}
 use Rattle.lookup.proofs.EnterLaws.{file-kind, some-same}
 use Rattle.change.specs.declared.entries.EntryAt.{EntryAt}
-use Rattle.change.specs.Calls.{eitherLocked, unlessLocked}
+use Rattle.change.specs.Calls.{eitherLocked, refusedBy, unlessLocked}
 use Rattle.change.specs.Changed.{Outcome, changed, rulesOf}
 use Rattle.change.specs.Deeds.{imageBy, relinked, removedTable, removedWrites, replacedTable, replacedWrites}
 use Rattle.change.specs.Words.{freeList}
 use Rattle.change.proofs.Added.{deed-of, planned-at}
+use Rattle.change.proofs.CallLaws.{picked}
 use Rattle.change.proofs.ChainWords.{Follows, chain-follows, lastIn}
 use Rattle.change.proofs.ChangedLaws.{checked-parts, refuses}
 use Rattle.change.proofs.DoneAs.{done-as, lands-as}
@@ -73,17 +74,15 @@ module _ (format : Format) (image : List ℕ) (s : Superblock) (root : Root) (m 
   pub edit-refused : (n : ℕ) → own c (lookIn (site .slots) (lastName (path c) ∷ [])) ≡ suc n → changed format c image ≡ record { answer = fault (suc n) 0; image = image }
   edit-refused n e = (refuses format image s root m checked c n (edit-refusal ∙ rw e)) .0
 
-  edit-locked : own c (lookIn (site .slots) (lastName (path c) ∷ [])) ≡ 0 → locksAt here (lookIn (site .slots) (lastName (path c) ∷ [])) ≡ true → changed format c image ≡ record { answer = fault 16 0; image = image }
-  edit-locked e l = (refuses format image s root m checked c 15 (edit-refusal ∙ rw (e, l))) .0
-
   -- 16 where the entry or its directory is locked, and else the rest
   pub unless-locked : (entry : EntryAt) → own c (lookIn (site .slots) (lastName (path c) ∷ [])) ≡ 0 → locksAt here (lookIn (site .slots) (lastName (path c) ∷ [])) ≡ eitherLocked here entry
       → (rest : Outcome) → (eitherLocked here entry ≡ false → rest ≡ changed format c image) → unlessLocked s image (tableOf image s) (eitherLocked here entry) rest ≡ changed format c image
-  unless-locked entry stands same rest does = go (eitherLocked here entry) refl
-    where
-      go : (b : Bool) → eitherLocked here entry ≡ b → unlessLocked s image (tableOf image s) b rest ≡ changed format c image
-      go true h = sym (edit-locked stands (same ∙ h))
-      go false h = does h
+  unless-locked entry stands same rest does =
+      picked (eitherLocked here entry) (refusedBy 16 image) rest
+      (λ h.
+      let l : locksAt here (lookIn (site .slots) (lastName (path c) ∷ [])) ≡ true = same ∙ h in
+      sym ((refuses format image s root m checked c 15 (edit-refusal ∙ rw (stands, l))) .0))
+      does
 
   pub edit-full : own c (lookIn (site .slots) (lastName (path c) ∷ [])) ≡ 0 → locksAt here (lookIn (site .slots) (lastName (path c) ∷ [])) ≡ false → length (freeList s (tableOf image s)) < size c → changed format c image ≡ record { answer = fault 12 0; image = image }
   edit-full e o l = (refuses format image s root m checked c 11 (edit-refusal ∙ rw (e, o, lt-leb (size c + 0) (length (freeList s (tableOf image s))) (omega arith)))) .0
