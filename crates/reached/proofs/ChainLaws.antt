@@ -17,12 +17,12 @@ use Rattle.model.specs.Entry.{Entry, endMark}
 use Rattle.model.specs.Tree.{times}
 use Rattle.model.specs.View.{Link, View, firstLink, mostClusters, topBit}
 use Rattle.reached.specs.Chain.{broken, chainFrom, chainBehind}
-use Rattle.reached.specs.Marks.{Keeps, marked, withMark}
+use Rattle.reached.specs.Marks.{Keeps, marked, reach, turned}
 use Rattle.reached.specs.Table.{firstLinkOf, tableLinks}
 use Rattle.reached.specs.declared.Chain.{Chain}
 use Rattle.reached.specs.declared.Reached.{Reached}
-use Rattle.reached.proofs.ChainSteps.{chain-end, chain-free, chain-next, chain-none, chain-out, chain-over, chain-seen, chain-some}
-use Rattle.reached.proofs.MarkLaws.{keeps-mark, keeps-test, mark-count}
+use Rattle.reached.proofs.ChainSteps.{chain-end, chain-free, chain-next, chain-none, chain-out, chain-over, chain-past, chain-seen, chain-some}
+use Rattle.reached.proofs.MarkLaws.{keeps-mark, keeps-test, reach-count, turned-test}
 
 -- A sound chain: its clusters lie in the table, the record after it keeps the model's marks, and as many more are counted.
 pub record ChainGood (t : List ℕ) (r : Reached) (m : Marks) (cs : List ℕ) (x : Chain) : Type 0 where
@@ -66,16 +66,16 @@ link-root = refl
 -- ---- one cluster more in front
 
 module _ (t : List ℕ) (r : Reached) (m : Marks) (k : Keeps r m) (c : ℕ) (inside : c < length t) (small : c < mostClusters) (fresh : marked r c ≡ false) where
-  good-cons : (cs : List ℕ) (x : Chain) → ChainGood t (withMark r c) (mark c m) cs x → ChainGood t r m (c ∷ cs) x
+  good-cons : (cs : List ℕ) (x : Chain) → ChainGood t (reach r c) (mark c m) cs x → ChainGood t r m (c ∷ cs) x
   good-cons cs x g =
       record {
         sound = g .sound;
         keeps = record { sound = g .keeps .sound; marks = λ a. omega (arith, g .keeps .marks a) };
-        count = omega (arith, g .count, mark-count r (k .sound) c small fresh);
+        count = omega (arith, g .count, reach-count r m k c small fresh);
         inside = λ a h. omega (arith, g .inside a h, hit-0 c a (omega arith));
       }
 
-  follows-cons : (o : Option (List ℕ)) (x : Chain) → Follows t (withMark r c) (mark c m) o x → Follows t r m (prepend c o) x
+  follows-cons : (o : Option (List ℕ)) (x : Chain) → Follows t (reach r c) (mark c m) o x → Follows t r m (prepend c o) x
   follows-cons none x f = f
   follows-cons (some cs) x f = good-cons cs x f
 
@@ -119,28 +119,34 @@ module _ (t : List ℕ) (small : length t ≤ mostClusters) (v : View) (links : 
       inRange : Dec (c < length t) → Dec (w < topBit) → (b : Bool) → marked r c ≡ b → Dec (w ≡ endMark)
           → ((q : Reached) (n : Marks) (d : ℕ) → Keeps q n → Follows t q n (followChain v k (Link.next d) n) (chainFrom t q d k))
           → Follows t r m followed chain
-      inRange (no l) f b e d ih =
-          let o : length t ≤ c = omega arith in
-          follows-by t r m followed none chain (broken r) (step-none c k m (links c ∙ link-out t c o)) (chain-out t r c (suc k) more o) refl
+      inRange (no l) f b e d ih = let o : length t ≤ c = omega arith in outside o (decLt c mostClusters)
+        where
+          outside : length t ≤ c → Dec (c < mostClusters) → Follows t r m followed chain
+          outside o (yes s) =
+              follows-by t r m followed none chain (broken (turned r c)) (step-none c k m (links c ∙ link-out t c o)) (chain-out t r c (suc k) more s o) refl
+          outside o (no s) =
+              follows-by t r m followed none chain (broken r) (step-none c k m (links c ∙ link-out t c o)) (chain-past t r c (suc k) more (omega arith)) refl
       inRange (yes l) (yes f) b e d ih =
-          follows-by t r m followed none chain (broken r) (step-none c k m (links c ∙ link-free t c l f)) (chain-free t r c (suc k) more l f) refl
+          let s : c < mostClusters = omega arith in
+          follows-by t r m followed none chain (broken (turned r c)) (step-none c k m (links c ∙ link-free t c l f)) (chain-free t r c (suc k) more s l f) refl
       inRange (yes l) (no f) true e d ih =
           let u : topBit ≤ w = omega arith in
-          follows-by t r m followed none chain (broken r) (rw (keeps-test r m h c, e)) (chain-seen t r c (suc k) more l u e) refl
+          let s : c < mostClusters = omega arith in
+          follows-by t r m followed none chain (broken (turned r c)) (rw (keeps-test r m h c, e)) (chain-seen t r c (suc k) more s l u (turned-test r c (h .sound) s ∙ e)) refl
       inRange (yes l) (no f) false e (yes d) ih =
           let u : topBit ≤ w = omega arith in
           let s : c < mostClusters = omega arith in
-          follows-by t r m followed (prepend c (followChain v k Link.last (mark c m))) chain (record { sound = eqb k 0; reached = withMark r c })
-          (rw (keeps-test r m h c, e, links c ∙ link-last t c l u d)) (chain-end t r c (suc k) more l u e d ∙ rw (sub-one (suc k)))
-          (follows-cons t r m h c l s e (followChain v k Link.last (mark c m)) (record { sound = eqb k 0; reached = withMark r c })
-          (end-follows k (withMark r c) (mark c m) (keeps-mark r m h c s e)))
+          follows-by t r m followed (prepend c (followChain v k Link.last (mark c m))) chain (record { sound = eqb k 0; reached = reach r c })
+          (rw (keeps-test r m h c, e, links c ∙ link-last t c l u d)) (chain-end t r c (suc k) more s l u (turned-test r c (h .sound) s ∙ e) d ∙ rw (sub-one (suc k)))
+          (follows-cons t r m h c l s e (followChain v k Link.last (mark c m)) (record { sound = eqb k 0; reached = reach r c })
+          (end-follows k (reach r c) (mark c m) (keeps-mark r m h c s e)))
       inRange (yes l) (no f) false e (no d) ih =
           let u : topBit ≤ w = omega arith in
           let s : c < mostClusters = omega arith in
-          follows-by t r m followed (prepend c (followChain v k (Link.next (w - topBit)) (mark c m))) chain (chainFrom t (withMark r c) (w - topBit) k)
-          (rw (keeps-test r m h c, e, links c ∙ link-next t c l u d)) (chain-next t r c (suc k) more l u e d ∙ rw (sub-one (suc k)))
-          (follows-cons t r m h c l s e (followChain v k (Link.next (w - topBit)) (mark c m)) (chainFrom t (withMark r c) (w - topBit) k)
-          (ih (withMark r c) (mark c m) (w - topBit) (keeps-mark r m h c s e)))
+          follows-by t r m followed (prepend c (followChain v k (Link.next (w - topBit)) (mark c m))) chain (chainFrom t (reach r c) (w - topBit) k)
+          (rw (keeps-test r m h c, e, links c ∙ link-next t c l u d)) (chain-next t r c (suc k) more s l u (turned-test r c (h .sound) s ∙ e) d ∙ rw (sub-one (suc k)))
+          (follows-cons t r m h c l s e (followChain v k (Link.next (w - topBit)) (mark c m)) (chainFrom t (reach r c) (w - topBit) k)
+          (ih (reach r c) (mark c m) (w - topBit) (keeps-mark r m h c s e)))
 
   -- The chain behind an entry's first cluster, as the model follows it.
   pub follows : (k first : ℕ) (r : Reached) (m : Marks) → Keeps r m → Follows t r m (followChain v k (firstLinkOf first) m) (chainBehind t r first k)
@@ -150,8 +156,8 @@ module _ (t : List ℕ) (small : length t ≤ mostClusters) (v : View) (links : 
       go zero true e = good-none t r m _ h (chain-none t r first 0 refl ∙ rw e)
       go zero false e = ap (λ (x : Chain). x .sound) (chain-none t r first 0 refl) ∙ e
       go (suc k) true e =
-          let o : length t ≤ first = omega (arith, eqb-true first endMark e) in
-          ap (λ (x : Chain). x .sound) (chain-some t r first (suc k) (λ z. omega arith) ∙ chain-out t r first (suc k) (omega arith) o)
+          let o : mostClusters ≤ first = omega (arith, eqb-true first endMark e) in
+          ap (λ (x : Chain). x .sound) (chain-some t r first (suc k) (λ z. omega arith) ∙ chain-past t r first (suc k) (omega arith) o)
       go (suc k) false e =
           rw (chain-some t r first (suc k) (λ z. omega arith)) (from-follows (suc k) r m first h)
 

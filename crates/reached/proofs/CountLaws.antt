@@ -14,7 +14,7 @@ use Rattle.model.specs.Check.{Marks}
 use Rattle.model.specs.Counts.{freeCount, heldCount, isFree, isHeld, isOrphan, takeable, totalBelow}
 use Rattle.model.specs.Entry.{endMark}
 use Rattle.model.specs.View.{Link, View, linkOf, topBit}
-use Rattle.reached.specs.Marks.{Keeps, marked, marksOf}
+use Rattle.reached.specs.Marks.{Keeps, markedIn, marksOf}
 use Rattle.reached.specs.Table.{tableLinks}
 use Rattle.reached.specs.Totals.{freeAt, freeWords, heldAt, heldWords, orphanAt, orphansIn}
 use Rattle.reached.specs.declared.Reached.{Reached}
@@ -35,6 +35,10 @@ free-word w = go (ltb w topBit) (eqb w endMark)
     go false true = refl
     go false false = refl
 
+-- an orphan by the words of a record
+abbrev pub orphanIn : List ℕ → List ℕ → ℕ → ℕ
+orphanIn t words c = isOrphan (tableLinks t c) (cond (markedIn words c) 1 0)
+
 module _ (t : List ℕ) (i : ℕ) (inside : i < length t) where
   -- the code's tests are the model's free and held back cluster
   module _ (mayTake : ℕ → Bool) (may : Bool) (m : may ≡ mayTake i) where
@@ -53,8 +57,8 @@ module _ (t : List ℕ) (i : ℕ) (inside : i < length t) where
         go false = free-word (getD t i 0)
 
   -- the code's test is the model's orphan
-  pub orphan-test : (r : Reached) (b : Bool) → (leb topBit (getD t i 0) && not (marked r i)) ≡ b → isOrphan (tableLinks t i) (marksOf r i) ≡ cond b 1 0
-  orphan-test r b e = rw (← e, lt-ltb i (length t) inside) (go (decLt (getD t i 0) topBit))
+  pub orphan-test : (words : List ℕ) (b : Bool) → (leb topBit (getD t i 0) && not (markedIn words i)) ≡ b → orphanIn t words i ≡ cond b 1 0
+  orphan-test words b e = rw (← e, lt-ltb i (length t) inside) (go (decLt (getD t i 0) topBit))
     where
       w : ℕ
       w = getD t i 0
@@ -65,9 +69,9 @@ module _ (t : List ℕ) (i : ℕ) (inside : i < length t) where
       used false true = refl
       used false false = refl
 
-      go : Dec (w < topBit) → isOrphan (linkOf w) (marksOf r i) ≡ cond (leb topBit w && not (marked r i)) 1 0
+      go : Dec (w < topBit) → isOrphan (linkOf w) (cond (markedIn words i) 1 0) ≡ cond (leb topBit w && not (markedIn words i)) 1 0
       go (yes f) = rw (lt-ltb w topBit f, lt-leb topBit w f)
-      go (no f) = let u : topBit ≤ w = omega arith in rw (le-ltb w topBit u, le-leb topBit w u) (used (eqb w endMark) (marked r i))
+      go (no f) = let u : topBit ≤ w = omega arith in rw (le-ltb w topBit u, le-leb topBit w u) (used (eqb w endMark) (markedIn words i))
 
 -- The code's counts are the model's, for a view with that table and a record that keeps the model's marks.
 module _ (t : List ℕ) (v : View) (links : (c : ℕ) → v .link c ≡ tableLinks t c) where

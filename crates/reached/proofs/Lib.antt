@@ -3,6 +3,7 @@ pub mod WordBits
 pub mod Totalling
 pub mod MarkLaws
 pub mod ChainSteps
+pub mod NearLaws
 pub mod ChainLaws
 pub mod ListLaws
 pub mod CountLaws

@@ -1,7 +1,6 @@
 -- The loop keeps the count of the orphaned clusters passed; the code's test of a word and its mark is the model's.
 use Prim.Native.Nat.{_-_, _<_, _≤_}
 use mathlib.Core.Logic.{⊎-elim}
-use mathlib.Core.List.{[]}
 use mathlib.Core.Path.{_∙_, _≡_, ap, refl}
 use native.Mathlib.Omega.{arith}
 use borrow.Author.Needs.{needs}
@@ -9,17 +8,19 @@ use denote.Ref.{now}
 use lib.ListN.{length}
 use mathlib.Core.Bool.{false, true}
 use Rattle.model.specs.Counts.{totalBelow}
-use Rattle.reached.specs.Totals.{orphanAt}
-use Rattle.reached.proofs.CountLaws.{orphan-test, total-same, total-step}
+use Rattle.reached.proofs.CountLaws.{orphan-test, orphanIn, total-same, total-step}
 use Rattle.reached.proofs.count_orphans.Statement.{statement}
 use Rattle.reached.proofs.count_orphans.Tie as tie
 
 abbrev Inv-loop : tie.InvT-loop
 Inv-loop table words n₀ i₀ n i =
-    (i ≤ length table) × (n ≡ totalBelow (orphanAt table (record { words = words; count = 0; spare = [] })) i) × (n ≤ i)
+    (i ≤ length table) × (n ≡ totalBelow (orphanIn table words) i) × (n ≤ i)
 
 abbrev μ-loop : tie.MeasureT-loop
 μ-loop table words n₀ i₀ n i = length table - i
+
+all-words-requires : tie.Need-all-words-requires Inv-loop μ-loop
+all-words-requires c κs = search needs
 
 loop-holds : tie.Need-loop-holds Inv-loop μ-loop
 loop-holds c = (omega arith, refl, omega arith)
@@ -45,13 +46,13 @@ loop-less c = omega arith
 loop-again : tie.Need-loop-again Inv-loop μ-loop
 loop-again c =
     let t = now (c .before .before .before .before .before .before .before .before .args .table) in
-    let r = c .before .before .before .before .before .before .before .before .args .reached in
+    let words = c .before .before .before .before .before .before .all-words .result in
     let l = c .before .before .before .before .before .loop in
     let inside : l .i < length t = omega arith in (
       omega arith,
       ⊎-elim
-          (λ w. w .1 ∙ total-step (orphanAt t r) (l .n) 1 (l .i) (l .inv .1) (orphan-test t (l .i) inside r true (rw (← c .before .has-mark .ensures) (w .0 .taken))))
-          (λ w. w .1 ∙ total-same (orphanAt t r) (l .n) (l .i) (l .inv .1) (orphan-test t (l .i) inside r false (rw (← c .before .has-mark .ensures) (w .0 .left))))
+          (λ w. w .1 ∙ total-step (orphanIn t words) (l .n) 1 (l .i) (l .inv .1) (orphan-test t (l .i) inside words true (rw (← c .before .has-mark .ensures) (w .0 .taken))))
+          (λ w. w .1 ∙ total-same (orphanIn t words) (l .n) (l .i) (l .inv .1) (orphan-test t (l .i) inside words false (rw (← c .before .has-mark .ensures) (w .0 .left))))
           (c .if1 .came),
       ⊎-elim (λ w. omega (arith, w .1)) (λ w. omega (arith, w .1)) (c .if1 .came),
     )
@@ -60,7 +61,7 @@ returns : tie.Need-returns Inv-loop μ-loop
 returns c =
     let t = now (c .before .before .before .before .args .table) in
     let all : c .before .loop .i ≡ length t = omega arith in
-    c .before .loop .inv .1 ∙ ap (totalBelow (orphanAt t (c .before .before .before .before .args .reached))) all
+    rw (c .before .before .all-words .ensures) at (c .before .loop .inv .1 ∙ ap (totalBelow (orphanIn t (c .before .before .all-words .result))) all)
 
 pub count-orphans-spec : {M : Type 1} → statement M
 count-orphans-spec =
@@ -68,6 +69,7 @@ count-orphans-spec =
     (tie.spec
     Inv-loop
     μ-loop
+    all-words-requires
     loop-holds
     mul-if1
     shared-slice-read-if1
