@@ -3,7 +3,7 @@
 use Prim.Native.Nat.{_-_, _/_, _<_, _≤_, suc, zero, ℕ}
 use mathlib.Core.Bool.{Bool, _&&_, cond, false, not, true}
 use mathlib.Core.List.{List}
-use mathlib.Core.Logic.{_≢_}
+use mathlib.Core.Logic.{_≢_, _⊎_, ⊎-elim}
 use mathlib.Core.Path.{_∙_, _≡_, ap, refl, sym}
 use native.Mathlib.Decide.{ℕ-discrete}
 use native.Mathlib.Numerals.{sub-one}
@@ -214,3 +214,10 @@ module _ (t : List ℕ) (r : Reached) (first k : ℕ) (h : r .at < markWords) (n
   near-goes-on d =
       let more : 0 < k = omega (arith, ap (λ (x : Near). x .left) e, near-most t r (eqb k 0 && eqb first endMark) first k) in
       chain-some t (n .reached) (n .next) (n .left) (omega arith) ∙ (rw (ne-eqb (n .left) 0 (omega arith)) at (rest-some more))
+
+  -- as a walk joins both ways
+  pub near-joined : (q : Reached) (sound : Bool)
+      → ((x : Chain) × (0 < n .left) × (x ≡ chainBehind t (n .reached) (n .next) (n .left)) × (q ≡ x .reached) × (sound ≡ x .sound))
+      ⊎ ((n .left ≤ 0) × (q ≡ n .reached) × (sound ≡ n .sound))
+      → record { sound = sound; reached = q } ≡ chainBehind t r first k
+  near-joined q sound = ⊎-elim (λ y. rw (y .3, y .4) (y .2 ∙ near-goes-on (y .1))) (λ y. rw (y .1, y .2) (near-done (omega (arith, y .0))))

@@ -24,6 +24,7 @@ use model::DEEPEST;
 use reached::END_MARK;
 use reached::Reached;
 use reached::walk_chain;
+use reached::walk_near;
 ghost use mathlib.Core.Path.{_≡_};
 ghost use Prim.Native.Nat.{_+_, _-_, _*_, _<_, _≤_};
 ghost use lib.ListN.{length};
@@ -262,10 +263,16 @@ fn walk_dir(
         );
         v = task.verdict;
         if task.follows {
-            let a = walk_chain(table, r, task.first, task.clusters);
+            let a = walk_near(table, r, task.first, task.clusters);
             r = a.reached;
-            v = sound_by(a.sound);
-            if a.sound & task.enters {
+            let mut sound = a.sound;
+            if 0 < a.left {
+                let far = walk_chain(table, r, a.next, a.left);
+                r = far.reached;
+                sound = far.sound;
+            }
+            v = sound_by(sound);
+            if sound & task.enters {
                 let b = walk_dir(
                     image,
                     table,

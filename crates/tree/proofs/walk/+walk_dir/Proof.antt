@@ -3,7 +3,7 @@
 -- The count at the loop's begin has the first two entries already, so that the whole is any that the walk stood in there.
 use Prim.Native.Nat.{_*_, _+_, _-_, _<_, _≤_, _^_, ℕ}
 use mathlib.Core.Bool.{Bool, _&&_, false, true}
-use mathlib.Core.Logic.{⊎-elim}
+use mathlib.Core.Logic.{inl, inr, ⊎-elim}
 use mathlib.Core.Path.{_∙_, _≡_, ap, refl, sym}
 use native.Mathlib.Omega.{arith}
 use borrow.Author.Needs.{needs}
@@ -15,6 +15,7 @@ use Rattle.layout.specs.See.{onImage, viewBy}
 use Rattle.model.specs.Check.{Marks, Result}
 use Rattle.model.proofs.Equality.{and-l, and-r}
 use Rattle.reached.specs.Marks.{Sound, marksOf}
+use Rattle.reached.proofs.NearLaws.{near-joined}
 use Rattle.tree.specs.Mended.{mendedPage}
 use Rattle.tree.specs.Met.{Grows, Knows}
 use Rattle.tree.specs.Slots.{clusterAt}
@@ -27,6 +28,7 @@ use Rattle.tree.proofs.walk.walk_dir.Reads as walk-dir
 use Rattle.tree.proofs.walk.walk_dir.Kinds as walk-dir-kinds
 use Rattle.tree.proofs.walk.+walk_dir.Lts-walk_dir as walk-dir-lts
 use Rattle.reached.proofs.walk_chain.Reads as walk-chain-reads
+use Rattle.reached.proofs.walk_near.Reads as walk-near-reads
 use Rattle.tree.proofs.slots.cluster_after.Reads as cluster-after-reads
 use Rattle.tree.proofs.slots.next_of.Reads as next-of-reads
 use Rattle.tree.proofs.slots.slots_of.Reads as slots-of-reads
@@ -71,6 +73,8 @@ calls t = (
   look-at-reads.Learnt,
   task-of-reads.Asked,
   task-of-reads.Learnt,
+  walk-near-reads.Asked,
+  walk-near-reads.Learnt,
   walk-chain-reads.Asked,
   walk-chain-reads.Learnt,
   sound-by-reads.Asked,
@@ -119,6 +123,9 @@ look-at-requires t c κs = (c .before .before .before .before .before .before .b
 task-of-requires : (t : ℕ) → walk-dir-lts.Need-task-of-requires (calls t) (walk-dir-at t) walk-dir.Post Inv-loop μ-loop
 task-of-requires t c κs = search needs
 
+walk-near-requires : (t : ℕ) → walk-dir-lts.Need-walk-near-requires (calls t) (walk-dir-at t) walk-dir.Post Inv-loop μ-loop
+walk-near-requires t c κs = search needs
+
 walk-chain-requires : (t : ℕ) → walk-dir-lts.Need-walk-chain-requires (calls t) (walk-dir-at t) walk-dir.Post Inv-loop μ-loop
 walk-chain-requires t c κs = search needs
 
@@ -127,17 +134,28 @@ sound-by-requires t c κs = search needs
 
 -- a directory that is entered: another level is left below, and its chain keeps the record sound
 entered : (t : ℕ) (c : walk-dir-lts.After-walk-dir-arg2 (calls t) (walk-dir-at t) walk-dir.Post Inv-loop μ-loop)
-    → (0 < c .before .before .before .before .before .before .before .before .before .before .before .before .before .before .before .before .before .before .before .before .before .before .args .below) × Sound (c .before .before .before .before .before .before .before .walk-chain .result .reached)
+    → (0 < c .before .before .before .before .before .before .before .before .before .before .before .before .before .before .before .before .before .before .before .before .before .before .before .args .below) × Sound (c .before .before .before .before .before .if3 .r)
 entered t c =
-    let s = c .before .before .before .before .before .before .before .before .before .before .before .before .before .before .before .before .before .before .before .before .before .before in
+    let joined = c .before .before .before .before .before in
+    let near = joined .before .before .before in
+    let tasked = near .before .before in
+    let looked = tasked .before in
+    let tested = looked .before .before .before in
+    let judged = tested .before in
+    let looped = judged .before in
+    let counted = looped .before in
+    let started = counted .before in
+    let dots = started .before in
+    let s = dots .before .before .before .before in
     let v = viewBy (s .args .geometry) (s .args .table .now) (s .args .image .now) in
     let mend = mendedPage (s .args .geometry) (s .args .image .now) in
-    let w = c .before .before .before .before .before .before .before .before .before .before .before .before .before .before .before .loop in
-    let task = c .before .before .before .before .before .before .before .before .before .task-of .ensures in
-    let sound = sym (c .before .before .before .before .before .before .before .before .before .before .before .before .before .before .is-sound .ensures) ∙ and-r (ltb 0 (w .left)) (c .before .before .before .before .before .before .before .before .before .before .before .before .before .before .is-sound .result) (c .before .before .before .before .before .before .before .before .before .before .before .before .before .if1 .taken) in
-    let stands = stands-sound v mend (s .args .geometry) (s .args .below) (s .args .table .now) (c .before .before .before .before .before .before .before .before .before .before .before .before .before .before .before .before .before .next-of .result) (w .c) (w .k) (w .left) (onImage (s .args .geometry) (insideOf v mend (s .args .below) (s .args .table .now) (s .args .first) (s .args .entries) (marksOf (s .args .reached)) (s .args .mended .now))) (w .v) (w .r) (w .mended)
-    (w .inv .0 _ (inside-stands v mend (s .args .geometry) (s .args .below) (s .args .table .now) (s .args .first) (s .args .entries) (s .args .reached) (s .args .mended .now) (s .pre .1 .1) _ (c .before .before .before .before .before .before .before .before .before .before .before .before .before .before .before .before .before .before .judge-dots .ensures .0) _ (c .before .before .before .before .before .before .before .before .before .before .before .before .before .before .before .before .before .before .judge-dots .ensures .1) (c .before .before .before .before .before .before .before .before .before .before .before .before .before .before .before .before .before .next-of .result) (c .before .before .before .before .before .before .before .before .before .before .before .before .before .before .before .before .slots-of .result) (c .before .before .before .before .before .before .before .before .before .before .before .before .before .before .before .before .before .next-of .ensures) (c .before .before .before .before .before .before .before .before .before .before .before .before .before .before .before .before .slots-of .ensures))) sound in
-    let go = task-inside (s .args .table .now) (s .pre .1 .0) v mend (λ n. refl) (s .args .geometry) (s .args .below) (w .r) (stands .1) 0 (c .before .before .before .before .before .before .before .walk-chain .result) (c .before .before .before .before .before .before .before .before .before .before .look-at .result) (rw task at (c .before .before .before .before .before .before .before .before .if2 .taken)) (rw task at (c .before .before .before .before .before .before .before .walk-chain .ensures)) (rw task at (c .before .before .if3 .taken)) in
+    let w = looped .loop in
+    let task = tasked .task-of .ensures in
+    let sound = sym (judged .is-sound .ensures) ∙ and-r (ltb 0 (w .left)) (judged .is-sound .result) (tested .if1 .taken) in
+    let stands = stands-sound v mend (s .args .geometry) (s .args .below) (s .args .table .now) (started .next-of .result) (w .c) (w .k) (w .left) (onImage (s .args .geometry) (insideOf v mend (s .args .below) (s .args .table .now) (s .args .first) (s .args .entries) (marksOf (s .args .reached)) (s .args .mended .now))) (w .v) (w .r) (w .mended)
+    (w .inv .0 _ (inside-stands v mend (s .args .geometry) (s .args .below) (s .args .table .now) (s .args .first) (s .args .entries) (s .args .reached) (s .args .mended .now) (s .pre .1 .1) _ (dots .judge-dots .ensures .0) _ (dots .judge-dots .ensures .1) (started .next-of .result) (counted .slots-of .result) (started .next-of .ensures) (counted .slots-of .ensures))) sound in
+    let chain = near-joined (s .args .table .now) (w .r) (tasked .task-of .result .first) (tasked .task-of .result .clusters) (stands .1 .at) (near .walk-near .result) (near .walk-near .ensures) (joined .if3 .r) (joined .if3 .sound) (⊎-elim (λ y. inl (y .1 .result, y .0 .taken, y .1 .ensures, y .3, y .4)) (λ y. inr (y .0 .left, y .1, y .2)) (joined .if3 .came)) in
+    let go = task-inside (s .args .table .now) (s .pre .1 .0) v mend (λ n. refl) (s .args .geometry) (s .args .below) (w .r) (stands .1) 0 (record { sound = joined .if3 .sound; reached = joined .if3 .r }) (looked .look-at .result) (rw task at (near .before .if2 .taken)) (rw task at chain) (rw task at (c .before .before .if4 .taken)) in
     (go .0, go .1)
 
 sub-walk-dir : (t : ℕ) → walk-dir-lts.Need-sub-walk-dir (calls t) (walk-dir-at t) walk-dir.Post Inv-loop μ-loop
@@ -145,9 +163,11 @@ sub-walk-dir t c = omega (arith, (entered t c) .0)
 
 walk-dir-requires : (t : ℕ) → walk-dir-lts.Need-walk-dir-requires (calls t) (walk-dir-at t) walk-dir.Post Inv-loop μ-loop
 walk-dir-requires t c κs =
-    let s = c .before .before .before .before .before .before .before .before .before .before .before .before .before .before .before .before .before .before .before .before .before .before in
+    let looked = c .before .before .before .before .before .before .before .before .before .before .before in
+    let looped = looked .before .before .before .before .before in
+    let s = looped .before .before .before .before .before .before .before in
     let v = viewBy (s .args .geometry) (s .args .table .now) (s .args .image .now) in
-    let filled = (knows-on v (s .args .table .now) (s .args .first) _ _ _ _ _ _ (c .before .before .before .before .before .before .before .before .before .before .before .before .before .before .before .loop .inv .4) (c .before .before .before .before .before .before .before .before .before .before .look-at .ensures .1 .0) (grows-self _)) .1 in
+    let filled = (knows-on v (s .args .table .now) (s .args .first) _ _ _ _ _ _ (looped .loop .inv .4) (looked .look-at .ensures .1 .0) (grows-self _)) .1 in
     (omega (arith, (entered t c) .0, s .pre .0), (s .pre .1 .0, (entered t c) .1, filled .room ∙ s .pre .1 .2))
 
 cluster-after-requires : (t : ℕ) → walk-dir-lts.Need-cluster-after-requires (calls t) (walk-dir-at t) walk-dir.Post Inv-loop μ-loop
@@ -177,23 +197,27 @@ loop-again t c =
     let seen = c .before .before .before .look-at in
     let joined = c .before .if2 in
     let count = seen .last .1 .1 .1 .1 .1 .1 .1 .1 .0 in
+    let made = c .before .before .task-of .result in
     let task = c .before .before .task-of .ensures in
     let more = ltb-true 0 (w .left) (and-l (ltb 0 (w .left)) _ (c .before .before .before .before .before .before .if1 .taken)) in
     let sound = sym (c .before .before .before .before .before .before .before .is-sound .ensures) ∙ and-r (ltb 0 (w .left)) (c .before .before .before .before .before .before .before .is-sound .result) (c .before .before .before .before .before .before .if1 .taken) in
     let told : Sound (w .r) → Tells (enteredLook v mend g b tb (marksOf (w .r)) count (seen .result)) (joined .v) (joined .r) (joined .mended) =
     λ kept. ⊎-elim
     (λ z.
-    let go = task-inside tb (s .pre .1 .0) v mend (λ n. refl) g b (w .r) kept count (z .1 .result) (seen .result) (rw task at (z .0 .taken)) (rw task at (z .1 .ensures)) (rw task at (z .6 .taken)) in
-    rw (z .12, z .13, z .14) (go .2 _ _ _ (rw task at (z .9 .ensures .0))))
+    let chain = near-joined tb (w .r) (made .first) (made .clusters) (kept .at) (z .1 .result) (z .1 .ensures) (z .4 .r) (z .4 .sound) (⊎-elim (λ y. inl (y .1 .result, y .0 .taken, y .1 .ensures, y .3, y .4)) (λ y. inr (y .0 .left, y .1, y .2)) (z .4 .came)) in
+    let go = task-inside tb (s .pre .1 .0) v mend (λ n. refl) g b (w .r) kept count (record { sound = z .4 .sound; reached = z .4 .r }) (seen .result) (rw task at (z .0 .taken)) (rw task at chain) (rw task at (z .7 .taken)) in
+    rw (z .13, z .14, z .15) (go .2 _ _ _ (rw task at (z .10 .ensures .0))))
     (⊎-elim
-    (λ z. rw (z .8, z .9, z .10, z .3 .ensures) (task-chain tb (s .pre .1 .0) v mend (λ n. refl) g b (w .r) kept count (z .1 .result) (seen .result) (rw task at (z .0 .taken)) (rw task at (z .1 .ensures)) (rw task at (z .6 .left))))
+    (λ z.
+    let chain = near-joined tb (w .r) (made .first) (made .clusters) (kept .at) (z .1 .result) (z .1 .ensures) (z .4 .r) (z .4 .sound) (⊎-elim (λ y. inl (y .1 .result, y .0 .taken, y .1 .ensures, y .3, y .4)) (λ y. inr (y .0 .left, y .1, y .2)) (z .4 .came)) in
+    rw (z .9, z .10, z .11, z .5 .ensures) (task-chain tb (s .pre .1 .0) v mend (λ n. refl) g b (w .r) kept count (record { sound = z .4 .sound; reached = z .4 .r }) (seen .result) (rw task at (z .0 .taken)) (rw task at chain) (rw task at (z .7 .left))))
     (λ z. rw (z .2, z .3, z .4, task) (task-idle tb (s .pre .1 .0) v mend (λ n. refl) g b (w .r) kept count (seen .result) (rw task at (z .0 .left)))))
     (joined .came) in
     let cells : Knows v tb (s .args .first) (c .before .before .before .before .before .before .before .before .before .before .next-of .result) (w .k + 1) (joined .cells) × Grows (s .args .cells .now) (joined .cells) =
     ⊎-elim
-    (λ z. rw (z .11) (knows-on v tb (s .args .first) _ _ _ _ _ _ (w .inv .4) (seen .ensures .1 .0) (z .9 .ensures .1)))
+    (λ z. rw (z .12) (knows-on v tb (s .args .first) _ _ _ _ _ _ (w .inv .4) (seen .ensures .1 .0) (z .10 .ensures .1)))
     (⊎-elim
-    (λ z. rw (z .7) (knows-on v tb (s .args .first) _ _ _ _ _ _ (w .inv .4) (seen .ensures .1 .0) (grows-self _)))
+    (λ z. rw (z .8) (knows-on v tb (s .args .first) _ _ _ _ _ _ (w .inv .4) (seen .ensures .1 .0) (grows-self _)))
     (λ z. rw (z .1) (knows-on v tb (s .args .first) _ _ _ _ _ _ (w .inv .4) (seen .ensures .1 .0) (grows-self _))))
     (joined .came) in (
       λ whole h.
@@ -232,6 +256,7 @@ pub +walk-dir-spec : {M : Type 1} → statement M
     (is-sound-requires t)
     (look-at-requires t)
     (task-of-requires t)
+    (walk-near-requires t)
     (walk-chain-requires t)
     (sound-by-requires t)
     (sub-walk-dir t)
