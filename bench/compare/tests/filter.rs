@@ -9,7 +9,8 @@ use std::time::Duration;
 
 use common::same;
 use compare::cards::{files_in_root, Names};
-use compare::clock::{times, Check};
+use compare::checks::Check;
+use compare::clock::times;
 use reader::build::Layout;
 use reader::rng::Rng;
 use reader::{Format, Refusal};
@@ -46,14 +47,16 @@ struct Hash {
 impl Hash {
     fn of(name: &[u8]) -> Hash {
         let root = Hash { a: 0, b: 1_234_567_891, c: 987_654_321 };
-        name.iter().fold(root, |hash, &byte| hash.mixed(u64::from(byte)))
+        let byte = |place: usize| name.get(place).map_or(0, |&byte| u64::from(byte));
+        let three = |turn: usize| byte(3 * turn) + 256 * byte(3 * turn + 1) + 65_536 * byte(3 * turn + 2);
+        (0..name.len() / 3 + 1).fold(root, |hash, turn| hash.mixed(three(turn))).mixed(0)
     }
 
-    fn mixed(self, byte: u64) -> Hash {
+    fn mixed(self, three: u64) -> Hash {
         Hash {
-            a: (self.a + self.c + byte).pow(2) % 2_147_483_497,
-            b: (self.b + self.a + byte).pow(2) % 2_147_483_489,
-            c: (self.c + self.b + byte).pow(2) % 2_147_483_477,
+            a: (self.a + self.c + three).pow(2) % 2_139_095_017,
+            b: (self.b + self.a + three).pow(2) % 2_139_095_011,
+            c: (self.c + self.b + three).pow(2) % 2_139_094_963,
         }
     }
 

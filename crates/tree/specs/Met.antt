@@ -1,10 +1,10 @@
 -- The names met on the walk, in cells: what the check asks of them is only that none is forgotten, whatever the hash.
 use Prim.Native.Nat.{ℕ, zero, suc, _+_, _*_, _/_, _%_, _<_, _≤_}
 use mathlib.Core.Bool.{Bool, _&&_, cond, false, true}
-use mathlib.Core.List.{List, [], _∷_}
+use mathlib.Core.List.{List}
 use mathlib.Core.Path.{_≡_}
 use lib.Dec.{eqb}
-use lib.ListN.{getD, length, set}
+use lib.ListN.{drop, getD, length, set}
 use Rattle.model.specs.Names.{Name}
 use Rattle.model.specs.View.{View, mostClusters}
 use Rattle.tree.specs.Scan.{bears}
@@ -17,9 +17,9 @@ mostPages = 2 * mostClusters
 
 -- ---- the hash of a name
 
--- residues that the next squares fit 64 bits with
+-- residues that the next squares, of two of them and three bytes of a name, fit 64 bits with
 abbrev pub Small : Hash → Type 0
-Small h = (h .a < 2147483497) × (h .b < 2147483497) × (h .c < 2147483497)
+Small h = (h .a < 2139095017) × (h .b < 2139095017) × (h .c < 2139095017)
 
 abbrev pub squared : ℕ → ℕ → ℕ
 squared x modulus = x * x % modulus
@@ -27,21 +27,26 @@ squared x modulus = x * x % modulus
 unfoldable pub mixed : Hash → ℕ → Hash
 mixed h x =
     record {
-      a = squared (h .a + h .c + x) 2147483497;
-      b = squared (h .b + h .a + x) 2147483489;
-      c = squared (h .c + h .b + x) 2147483477;
+      a = squared (h .a + h .c + x) 2139095017;
+      b = squared (h .b + h .a + x) 2139095011;
+      c = squared (h .c + h .b + x) 2139094963;
     }
 
-unfoldable pub hashFrom : Hash → List ℕ → Hash
-hashFrom h [] = h
-hashFrom h (x ∷ xs) = hashFrom (mixed h x) xs
+-- three bytes as one number; past the end they are zero
+abbrev pub threeOf : List ℕ → ℕ
+threeOf l = getD l 0 0 + 256 * getD l 1 0 + 65536 * getD l 2 0
+
+-- the threes of a name from the k-th on, so many of them
+unfoldable pub hashFrom : Name → ℕ → ℕ → Hash → Hash
+hashFrom n k zero h = h
+hashFrom n k (suc left) h = hashFrom n (k + 1) left (mixed h (threeOf (drop (3 * k) n)))
 
 -- of a name in the directory that begins with cluster `first`
 abbrev pub seedOf : ℕ → Hash
-seedOf first = record { a = first % 2147483497; b = 1234567891; c = 987654321 }
+seedOf first = record { a = first % 2139095017; b = 1234567891; c = 987654321 }
 
 unfoldable pub hashOf : ℕ → Name → Hash
-hashOf first n = hashFrom (seedOf first) n
+hashOf first n = mixed (hashFrom n 0 (length n / 3 + 1) (seedOf first)) 0
 
 -- a name's mark, from 1 on, and a cell's word: the mark and a page
 abbrev pub markOf : Hash → ℕ

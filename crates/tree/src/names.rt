@@ -6,9 +6,10 @@ use crate::slots::is_slot;
 use layout::Geometry;
 use model::MOST_CLUSTERS;
 ghost use mathlib.Core.Path.{_≡_};
-ghost use Prim.Native.Nat.{_<_};
+ghost use Prim.Native.Nat.{_<_, _≤_, _^_};
+ghost use lib.ListN.{drop, getD, length};
 ghost use Rattle.layout.specs.See.{viewBy};
-ghost use Rattle.tree.specs.Met.{Small, hashOf, isMet, isSame, mixed, mostPages, withName};
+ghost use Rattle.tree.specs.Met.{Small, hashOf, isMet, isSame, mixed, mostPages, threeOf, withName};
 
 // As many cells as a card has pages in its allocatable clusters.
 pub(crate) const CELLS: usize = 2 * MOST_CLUSTERS;
@@ -31,34 +32,55 @@ fn wide(x: u8) -> u64
 
 // Squares have no linear structure: names that meet in a cell cannot be computed from others, only tried.
 fn mix(h: Hash, x: u64) -> Hash
-    requires { ⌜ Small h × (x < 256) ⌝ }
+    requires { ⌜ Small h × (x < 2 ^ 24) ⌝ }
     ensures { λ r. ⌜ (r ≡ mixed h x) × Small r ⌝ }
 {
     let p = h.a + h.c + x;
     let q = h.b + h.a + x;
     let s = h.c + h.b + x;
     Hash {
-        a: p * p % 2_147_483_497,
-        b: q * q % 2_147_483_489,
-        c: s * s % 2_147_483_477,
+        a: p * p % 2_139_095_017,
+        b: q * q % 2_139_095_011,
+        c: s * s % 2_139_094_963,
     }
 }
 
+// A byte, or zero past the end.
+fn byte_or_zero(bytes: &[u8], i: usize) -> u64
+    ensures { λ r. ⌜ (r ≡ getD (now (bytes .entry)) i 0) × (r < 256) ⌝ }
+{
+    if i < bytes.len() {
+        return wide(bytes[i]);
+    }
+    0
+}
+
+// Three bytes of a name from `at` on, as one number.
+fn three_at(name: &[u8], at: usize) -> u64
+    requires { ⌜ at ≤ length (now name) ⌝ }
+    ensures { λ r. ⌜ (r ≡ threeOf (drop at (now (name .entry)))) × (r < 2 ^ 24) ⌝ }
+{
+    let rest = &name[at..];
+    byte_or_zero(rest, 0) + 256 * byte_or_zero(rest, 1) + 65_536 * byte_or_zero(rest, 2)
+}
+
 // A name's hash in the directory that begins with cluster `first`: the same name goes elsewhere in another directory.
+// Three bytes to a turn, and one turn more, so that the last of them do not lead straight to a cell.
 fn name_hash(first: u32, name: &[u8]) -> Hash
     ensures { λ r. ⌜ (r ≡ hashOf first (now (name .entry))) × Small r ⌝ }
 {
     let mut h = Hash {
-        a: first as u64 % 2_147_483_497,
+        a: first as u64 % 2_139_095_017,
         b: 1_234_567_891,
         c: 987_654_321,
     };
-    let mut i: usize = 0;
-    while i < name.len() {
-        h = mix(h, wide(name[i]));
-        i += 1;
+    let turns = name.len() / 3 + 1;
+    let mut k: usize = 0;
+    while k < turns {
+        h = mix(h, three_at(name, 3 * k));
+        k += 1;
     }
-    h
+    mix(h, 0)
 }
 
 // Whether a cell's word is the name's: its mark, the name in its page, and that this is a slot before slot k. The name comes
