@@ -62,6 +62,11 @@ pub slice-other : (d : List ℕ) (c : Code) → (length d ≡ 128 → ⊥) → j
 unfolding judgeSlice
 slice-other d c h = rw (ne-eqb (length d) 128 h)
 
+-- what is told of every chunk with the right code, and the stored code as it is known
+pub slice-by : (d : List ℕ) {right stored code : Code} {v : Verdict} → length d ≡ 128 → right ≡ codeOf d → stored ≡ code
+    → ((chunk : List ℕ) → length chunk ≡ 128 → right ≡ codeOf chunk → v ≡ judge chunk stored) → v ≡ judgeSlice d code
+slice-by d {code = code} size e f told = told d size e ∙ ap (judge d) f ∙ sym (slice-chunk d code size)
+
 -- ---- a verdict names a place in the chunk
 abbrev pub Placed : Verdict → Type 0
 Placed Good = Unit {0}

@@ -3,6 +3,7 @@ pub mod Tests
 pub mod Codes
 pub mod Linear
 pub mod Sums
+pub mod Passes
 pub mod Syndrome
 pub mod Locate
 pub mod Laws

@@ -1,4 +1,4 @@
--- The code as `chunk_code` carries it, in one number: what a looked-up entry, masked by its index, flips in it is the byte's contribution.
+-- The code carried in one number (`codeIn`): what a looked-up entry, masked by its index, flips in it is the byte's contribution.
 use mathlib.Core.Path.{_≡_, refl, sym, ap, ap₂, _∙_}
 use mathlib.Core.Bool.{Bool}
 use Prim.Native.Nat.{ℕ, _+_, _-_, _*_, _/_, _%_, _<_}
@@ -8,15 +8,11 @@ use lib.Bits.{bitAnd, bitXor, xor-comm, and-zero-l, and-comm, and-mask, and-bloc
 use lib.Dec.{T, eqb, eqb→eq}
 use Rattle.ecc.specs.declared.Code.{Code}
 use Rattle.ecc.specs.Code.{parity, columnParities, whereOdd, contribution, _⊕_}
-use Rattle.ecc.specs.Parities.{parityEntry}
+use Rattle.ecc.specs.Parities.{codeIn, parityEntry}
 use Rattle.ecc.proofs.Xor.{Digit, d0, d1, digit, digit-lt, xor-assoc}
 use Rattle.ecc.proofs.Codes.{code-path}
 use Rattle.ecc.proofs.Linear.{parity-digit, columns-lt}
 use Rattle.ecc.proofs.Tests.{allBelow, all-at}
-
--- byte 0 in bits 0 to 6, byte 2 in bits 8 to 14, and bit 7 tells whether byte 1 is byte 2 or 127 XOR it
-abbrev pub codeIn : ℕ → Code
-codeIn sums = record { byte0 = sums % 128; byte1 = bitXor (sums / 256 % 256) (127 * (sums / 128 % 2)); byte2 = sums / 256 % 256 }
 
 -- ---- it is linear
 mix : (a b c d : ℕ) → bitXor (bitXor a b) (bitXor c d) ≡ bitXor (bitXor a c) (bitXor b d)

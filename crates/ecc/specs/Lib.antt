@@ -1,5 +1,6 @@
 pub mod Code
 pub mod Parities
 pub mod Judge
+pub mod Four
 pub mod Flip
 pub mod Claims
