@@ -1,6 +1,6 @@
 -- What this crate uses of the chunk code: a verdict names a place in the chunk, so correcting leaves bytes;
 -- and what the two calls of `ecc` answer, in the words of `Page`.
-use mathlib.Core.Path.{_≡_, ap, _∙_}
+use mathlib.Core.Path.{_≡_, refl, ap, _∙_}
 use mathlib.Core.List.{List}
 use Prim.Native.Nat.{ℕ, _+_, _-_, _*_, _^_, _<_}
 use native.Mathlib.Nat.{lt-of-le-of-lt, pow-le-pow-right}
@@ -10,13 +10,16 @@ use lib.Dec.{lit<}
 use lib.ListN.{length, getD, take, drop}
 use lib.Seq.{take-take}
 use Rattle.ecc.specs.declared.Code.{Code}
+use Rattle.ecc.specs.declared.FourVerdicts.{FourVerdicts}
 use Rattle.ecc.specs.declared.Verdict.{Verdict}
 use Rattle.ecc.specs.declared.Verdict.the-variants.{Good, DataBit, CodeBit, Unreadable}
 use Rattle.ecc.specs.Code.{codeOf}
+use Rattle.ecc.specs.Four.{codeAt, judgeFour}
 use Rattle.ecc.specs.Judge.{judge, judgeSlice, corrected}
+use Rattle.ecc.proofs.Codes.{code-path}
 use Rattle.ecc.proofs.Laws.{Placed as PlacedIn, judge-placed, slice-chunk}
-use Rattle.page.specs.Page.{chunkOf, storedCode, verdictOf, Placed, freshCode, codeBytes}
-use Rattle.page.proofs.Lists.{length-part, lent-part, set-bytes}
+use Rattle.page.specs.Page.{part, chunkOf, storedCode, verdictOf, verdictsOf, Placed, freshCode, codeBytes}
+use Rattle.page.proofs.Lists.{length-part, lent-part, getD-part, set-bytes}
 
 -- ---- laws of judging
 pub placed : (page : List ℕ) (k : ℕ) → Placed (verdictOf page k)
@@ -40,12 +43,29 @@ corrected-bytes CodeBit d p h i = h i
 corrected-bytes Unreadable d p h i = h i
 
 -- ---- the calls
-pub judged : (page : List ℕ) (k : ℕ) {v : Verdict} → length page ≡ 528 → k < 4
-    → v ≡ judgeSlice (take (128 * k + 128 - 128 * k) (drop (128 * k) page)) (storedCode page k) → v ≡ verdictOf page k
+stored-byte : (page : List ℕ) (i : ℕ) {n : ℕ} → i < 12 → 512 + i ≡ n → getD (part page 512 12) i 0 ≡ getD page n 0
+stored-byte page i h e = getD-part page 512 12 i h ∙ ap (λ (n : ℕ). getD page n 0) e
+
+-- the twelve code bytes have the code of each chunk
+stored-code : (page : List ℕ) (k : ℕ) → k < 4 → codeAt (part page 512 12) k ≡ storedCode page k
+stored-code page k h =
+    code-path _ _ (stored-byte page (3 * k) (omega arith) refl) (stored-byte page (3 * k + 1) (omega arith) (omega arith))
+    (stored-byte page (3 * k + 2) (omega arith) (omega arith))
+
+judged : (page : List ℕ) (k : ℕ) → length page ≡ 528 → k < 4 → judgeSlice (chunkOf page k) (codeAt (part page 512 12) k) ≡ verdictOf page k
 unfolding verdictOf
-judged page k h b e =
-    e ∙ ap (λ (chunk : List ℕ). judgeSlice chunk (storedCode page k)) (lent-part page (128 * k) 128)
+judged page k h b =
+    ap (judgeSlice (chunkOf page k)) (stored-code page k b)
     ∙ slice-chunk (chunkOf page k) (storedCode page k) (length-part page (128 * k) 128 (omega arith))
+
+pub judged-four : (page : List ℕ) {v : FourVerdicts} → length page ≡ 528
+    → v ≡ judgeFour (part page 0 128) (part page 128 128) (part page 256 128) (part page 384 128) (part page 512 12) → v ≡ verdictsOf page
+judged-four page h e = e ∙ λ i. record {
+  chunk0 = judged page 0 h (omega arith) i;
+  chunk1 = judged page 1 h (omega arith) i;
+  chunk2 = judged page 2 h (omega arith) i;
+  chunk3 = judged page 3 h (omega arith) i;
+}
 
 pub fresh : (bytes : List ℕ) (k : ℕ) {code : Code} → length bytes ≡ 512 → k < 4
     → code ≡ codeOf (take 128 (take (128 * k + 128 - 128 * k) (drop (128 * k) bytes))) → codeBytes code ≡ freshCode bytes k

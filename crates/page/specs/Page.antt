@@ -8,6 +8,7 @@ use Prim.Native.Nat.{ℕ, _+_, _*_, _/_, _<_}
 use lib.Dec.{eqb, ltb}
 use lib.ListN.{length, getD, take, drop}
 use Rattle.ecc.specs.declared.Code.{Code}
+use Rattle.ecc.specs.declared.FourVerdicts.{FourVerdicts}
 use Rattle.ecc.specs.declared.Verdict.{Verdict}
 use Rattle.ecc.specs.declared.Verdict.the-variants.{Good, DataBit, CodeBit, Unreadable}
 use Rattle.ecc.specs.Code.{codeOf}
@@ -65,6 +66,9 @@ storedCode page k =
 unfoldable pub verdictOf : List ℕ → ℕ → Verdict
 verdictOf page k = judge (chunkOf page k) (storedCode page k)
 
+abbrev pub verdictsOf : List ℕ → FourVerdicts
+verdictsOf page = record { chunk0 = verdictOf page 0; chunk1 = verdictOf page 1; chunk2 = verdictOf page 2; chunk3 = verdictOf page 3 }
+
 -- A chunk is good, corrected, or unreadable.
 abbrev pub isReadable : Verdict → Bool
 isReadable Good = true
@@ -78,6 +82,9 @@ Placed Good = Unit {0}
 Placed (DataBit byte bit) = (byte < 128) × (bit < 8)
 Placed CodeBit = Unit {0}
 Placed Unreadable = Unit {0}
+
+abbrev pub AllPlaced : FourVerdicts → Type 0
+AllPlaced verdicts = Placed (verdicts .chunk0) × Placed (verdicts .chunk1) × Placed (verdicts .chunk2) × Placed (verdicts .chunk3)
 
 -- the data of a raw page, each chunk as its verdict corrects it
 unfoldable pub correctedData : List ℕ → Verdict → Verdict → Verdict → Verdict → List ℕ

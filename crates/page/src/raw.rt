@@ -2,30 +2,14 @@
 use crate::Mended;
 use crate::PageRead;
 use crate::none_mended;
-use ecc::Code;
+use ecc::FourVerdicts;
 use ecc::Verdict;
 ghost use mathlib.Core.Path.{_≡_};
 ghost use Prim.Native.Nat.{_+_, _*_, _<_};
 ghost use lib.ListN.{length};
 ghost use Rattle.ecc.specs.Judge.{corrected, flipAt};
 ghost use Rattle.page.specs.Mended.{isMended, mendedBy, mendedRaw};
-ghost use Rattle.page.specs.Page.{putAt, chunkOf, verdictOf, isReadable, Placed, correctedData, readRaw, Read, freshCode, codedPage};
-
-// The verdict on chunk k of a raw page: the chunk is lent as a part of the page, beside its code bytes.
-fn judge_part(page: &[u8], k: usize) -> Verdict
-    requires { ⌜ (length (now page) ≡ 528) × (k < 4) ⌝ }
-    ensures { λ r. ⌜ r ≡ verdictOf (now (page .entry)) k ⌝ }
-{
-    let from = 128 * k;
-    let to = from + 128;
-    let at = 512 + 3 * k;
-    let stored = Code {
-        byte0: page[at],
-        byte1: page[at + 1],
-        byte2: page[at + 2],
-    };
-    ecc::judge_chunk(&page[from..to], stored)
-}
+ghost use Rattle.page.specs.Page.{putAt, chunkOf, verdictsOf, isReadable, isSome, Placed, AllPlaced, correctedData, readRaw, Read, freshCode, codedPage};
 
 fn is_readable(verdict: Verdict) -> bool
     ensures { λ r. ⌜ r ≡ isReadable verdict ⌝ }
@@ -58,6 +42,48 @@ fn mended_by(v0: Verdict, v1: Verdict, v2: Verdict, v3: Verdict) -> Mended
         chunk1: is_mended(v1),
         chunk2: is_mended(v2),
         chunk3: is_mended(v3),
+    }
+}
+
+// How a raw page is judged: each chunk, and what that tells of the page.
+pub(crate) struct Judged {
+    pub(crate) verdicts: FourVerdicts,
+    pub(crate) told: PageRead,
+}
+
+// Each chunk is lent as a part of the page that begins in its middle, beside the code bytes, three for each.
+pub(crate) fn judge_raw(page: &[u8]) -> Judged
+    requires { ⌜ length (now page) ≡ 528 ⌝ }
+    ensures verdicts { λ r. ⌜ r .verdicts ≡ verdictsOf (now (page .entry)) ⌝ }
+    ensures readable { λ r. ⌜ r .told .readable ≡ isSome (readRaw (now (page .entry))) ⌝ }
+    ensures mended { λ r. ⌜ r .told .mended ≡ mendedRaw (now (page .entry)) ⌝ }
+{
+    let verdicts = ecc::judge_four(
+        &page[0..128],
+        &page[128..256],
+        &page[256..384],
+        &page[384..512],
+        &page[512..524],
+    );
+    let v0 = verdicts.chunk0;
+    let v1 = verdicts.chunk1;
+    let v2 = verdicts.chunk2;
+    let v3 = verdicts.chunk3;
+    if is_readable(v0) & (is_readable(v1) & (is_readable(v2) & is_readable(v3))) {
+        return Judged {
+            verdicts: verdicts,
+            told: PageRead {
+                readable: true,
+                mended: mended_by(v0, v1, v2, v3),
+            },
+        };
+    }
+    Judged {
+        verdicts: verdicts,
+        told: PageRead {
+            readable: false,
+            mended: none_mended(),
+        },
     }
 }
 
@@ -99,10 +125,14 @@ fn copy_part(page: &[u8], k: usize, verdict: Verdict, out: &mut [u8])
 }
 
 // The four chunks, each as its verdict corrects it, are written to `out`.
-fn copy_data(page: &[u8], v0: Verdict, v1: Verdict, v2: Verdict, v3: Verdict, out: &mut [u8])
-    requires { ⌜ (length (now page) ≡ 528) × (length (now out) ≡ 512) × Placed v0 × Placed v1 × Placed v2 × Placed v3 ⌝ }
-    ensures { λ _. ⌜ now (out .exit) ≡ correctedData (now (page .entry)) v0 v1 v2 v3 ⌝ }
+fn copy_data(page: &[u8], verdicts: FourVerdicts, out: &mut [u8])
+    requires { ⌜ (length (now page) ≡ 528) × (length (now out) ≡ 512) × AllPlaced verdicts ⌝ }
+    ensures { λ _. ⌜ now (out .exit) ≡ correctedData (now (page .entry)) (verdicts .chunk0) (verdicts .chunk1) (verdicts .chunk2) (verdicts .chunk3) ⌝ }
 {
+    let v0 = verdicts.chunk0;
+    let v1 = verdicts.chunk1;
+    let v2 = verdicts.chunk2;
+    let v3 = verdicts.chunk3;
     copy_part(page, 0, v0, out);
     copy_part(page, 1, v1, out);
     copy_part(page, 2, v2, out);
@@ -115,21 +145,12 @@ pub(crate) fn read_raw(page: &[u8], out: &mut [u8]) -> PageRead
     ensures read { λ r. ⌜ Read (readRaw (now (page .entry))) (now (out .entry)) (r .readable) (now (out .exit)) ⌝ }
     ensures mended { λ r. ⌜ r .mended ≡ mendedRaw (now (page .entry)) ⌝ }
 {
-    let v0 = judge_part(page, 0);
-    let v1 = judge_part(page, 1);
-    let v2 = judge_part(page, 2);
-    let v3 = judge_part(page, 3);
-    if is_readable(v0) & (is_readable(v1) & (is_readable(v2) & is_readable(v3))) {
-        copy_data(page, v0, v1, v2, v3, out);
-        return PageRead {
-            readable: true,
-            mended: mended_by(v0, v1, v2, v3),
-        };
+    let judged = judge_raw(page);
+    let told = judged.told;
+    if told.readable {
+        copy_data(page, judged.verdicts, out);
     }
-    PageRead {
-        readable: false,
-        mended: none_mended(),
-    }
+    told
 }
 
 // The fresh code of chunk k of the data is stored in a raw page.

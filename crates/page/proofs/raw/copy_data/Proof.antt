@@ -44,9 +44,14 @@ same-length c = search needs
 
 returns : tie.Need-returns
 returns c =
-    let s = c .before .before .before .before .before .before .before .before .before .before .before .before .before .before .before .before .before .before in
-    copied-all (s .args .page .now) (s .args .out .now) _ _ _ _ (s .args .v0) (s .args .v1) (s .args .v2) (s .args .v3) (s .pre .0) (s .pre .1)
-    (c .before .before .before .before .before .before .before .before .before .before .before .before .before .before .copy-part .ensures) (c .before .before .before .before .before .before .before .before .before .before .copy-part2 .ensures) (c .before .before .before .before .before .before .copy-part3 .ensures) (c .before .before .copy-part4 .ensures)
+    let put3 = c .before .before in
+    let put2 = put3 .before .before .before .before in
+    let put1 = put2 .before .before .before .before in
+    let put0 = put1 .before .before .before .before in
+    let s = put0 .before .before .before .before in
+    let v = s .args .verdicts in
+    copied-all (s .args .page .now) (s .args .out .now) _ _ _ _ (v .chunk0) (v .chunk1) (v .chunk2) (v .chunk3) (s .pre .0) (s .pre .1)
+    (put0 .copy-part .ensures) (put1 .copy-part2 .ensures) (put2 .copy-part3 .ensures) (put3 .copy-part4 .ensures)
 
 pub copy-data-spec : {M : Type 1} → statement M
 copy-data-spec =
