@@ -31,11 +31,12 @@ pub enum Verdict {
 const START: u32 = 0x7F77;
 
 // `sums` with the byte at index i taken in: of its entry's ones above bit 7 those of the index stay.
-fn with_byte(table: &[u32; 256], sums: u32, i: usize, byte: u8) -> u32
+// Entries have 16 bits, so that the table is made quickly; sums have 32, which is the quicker width to work in.
+fn with_byte(table: &[u16; 256], sums: u32, i: usize, byte: u8) -> u32
     requires { ⌜ HoldsParities (now table) × (i < 128) ⌝ }
     ensures { λ r. ⌜ codeIn r ≡ codeIn sums ⊕ contribution i byte ⌝ }
 {
-    sums ^ (parities_in(table, byte) & (256 * (i as u32) + 255))
+    sums ^ (parities_in(table, byte) as u32 & (256 * (i as u32) + 255))
 }
 
 // The code that `sums` carries: code byte 0 in bits 0 to 6 and code byte 2 in bits 8 to 14. Where byte 2 takes i, byte 1

@@ -4,7 +4,7 @@ ghost use lib.ListN.{getD};
 ghost use Rattle.ecc.specs.Parities.{HoldsParities};
 
 // One entry for each byte: its column parities in bits 0 to 6, and eight ones in bits 7 to 14 where it has an odd number of ones.
-const PARITIES: [u32; 256] = [
+const PARITIES: [u16; 256] = [
     0x0000, // 0x00
     0x7F87, // 0x01
     0x7F96, // 0x02
@@ -264,14 +264,14 @@ const PARITIES: [u32; 256] = [
 ];
 
 // The table as a value, so that who looks up many bytes makes it once.
-pub fn parity_table() -> [u32; 256]
+pub fn parity_table() -> [u16; 256]
     ensures { λ r. ⌜ HoldsParities r ⌝ }
 {
     PARITIES
 }
 
 // A byte's entry.
-pub fn parities_in(table: &[u32; 256], byte: u8) -> u32
+pub fn parities_in(table: &[u16; 256], byte: u8) -> u16
     ensures { λ r. ⌜ r ≡ getD (now (table .entry)) byte 0 ⌝ }
 {
     table[byte as usize]

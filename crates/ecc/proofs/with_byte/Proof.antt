@@ -15,6 +15,9 @@ parities-in-requires c κs = search needs
 cast-result : tie.Need-cast-result
 cast-result c = search needs
 
+cast-result-2 : tie.Need-cast-result-2
+cast-result-2 c = search needs
+
 mul-result : tie.Need-mul-result
 mul-result c = search needs
 
@@ -29,4 +32,4 @@ returns c =
     ∙ with-entry (start .args .sums) (start .args .i) (start .args .byte) (start .pre .1)
 
 pub with-byte-spec : {M : Type 1} → statement M
-with-byte-spec = tie.close (tie.spec parities-in-requires cast-result mul-result add-result returns)
+with-byte-spec = tie.close (tie.spec parities-in-requires cast-result cast-result-2 mul-result add-result returns)
