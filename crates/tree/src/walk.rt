@@ -148,7 +148,7 @@ fn sound_by(sound: bool) -> Verdict
 }
 
 // Slot k, in cluster c, of the directory that begins with cluster `first` and whose slots begin in `start`.
-// The cells have the live names before it, and then its own.
+// The cells have the live names before it, and then its own. The lent page is room for the entry's.
 fn look_at(
     image: &[u8],
     table: &[u32],
@@ -157,6 +157,7 @@ fn look_at(
     start: u32,
     c: u32,
     k: u32,
+    d: &mut [u8; 512],
     cells: &mut [u32; CELLS],
     mended: &mut usize,
 ) -> Look
@@ -166,11 +167,10 @@ fn look_at(
     ensures { λ r. ⌜ LookAdds r (now (mended .entry)) (mendedPage geometry (now (image .entry)) (slotPage c k)) (now (mended .exit)) ⌝ }
 {
     let page = slot_page(c, k);
-    let mut d = [0u8; 512];
-    if !read_needed(image, geometry, table.len(), page, &mut d, mended) {
+    if !read_needed(image, geometry, table.len(), page, d, mended) {
         return Look::Unreadable(image_page(geometry, page));
     }
-    if !is_live(&d) {
+    if !is_live(d) {
         return Look::Dead;
     }
     if !meet(
@@ -181,15 +181,15 @@ fn look_at(
         start,
         k,
         page,
-        entry_name(&d),
+        entry_name(d),
         cells,
     ) {
-        return look_by(kind_of(&d));
+        return look_by(kind_of(d));
     }
-    if name_taken(image, table, geometry, start, k, &d) {
+    if name_taken(image, table, geometry, start, k, d) {
         return Look::Bad;
     }
-    look_by(kind_of(&d))
+    look_by(kind_of(d))
 }
 
 // One of a directory's first two entries.
@@ -256,9 +256,21 @@ fn walk_dir(
     let mut c = start;
     let mut k: u32 = 0;
     let mut left = slots_of(entries);
+    let mut d = [0u8; 512];
     while (0 < left) & is_sound(v) {
         let task = task_of(
-            look_at(image, table, geometry, first, start, c, k, cells, mended),
+            look_at(
+                image,
+                table,
+                geometry,
+                first,
+                start,
+                c,
+                k,
+                &mut d,
+                cells,
+                mended,
+            ),
             below,
         );
         v = task.verdict;

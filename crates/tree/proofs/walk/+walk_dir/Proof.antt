@@ -86,13 +86,13 @@ calls t = (
 )
 
 abbrev Inv-loop : walk-dir-lts.InvT-loop
-Inv-loop image table geometry cells₀ mended₀ first entries below v₀ start r₀ c₀ k₀ left₀ cells mended v r c k left =
+Inv-loop image table geometry cells₀ mended₀ first entries below v₀ start r₀ c₀ k₀ left₀ d₀ cells mended v r c k left d =
     ((whole : Result (Marks × ℕ)) → Stands (viewBy geometry table image) (mendedPage geometry image) geometry below table start c₀ k₀ left₀ whole v₀ r₀ mended₀
     → Stands (viewBy geometry table image) (mendedPage geometry image) geometry below table start c k left whole v r mended)
     × (c ≡ clusterAt table start k) × (k + left ≡ left₀) × Knows (viewBy geometry table image) table first start k cells × Grows cells₀ cells
 
 abbrev μ-loop : walk-dir-lts.MeasureT-loop
-μ-loop image table geometry cells₀ mended₀ first entries below v₀ start r₀ c₀ k₀ left₀ cells mended v r c k left = left
+μ-loop image table geometry cells₀ mended₀ first entries below v₀ start r₀ c₀ k₀ left₀ d₀ cells mended v r c k left d = left
 
 judge-dots-requires : (t : ℕ) → walk-dir-lts.Need-judge-dots-requires (calls t) (walk-dir-at t) walk-dir.Post Inv-loop μ-loop
 judge-dots-requires t c κs = search needs
@@ -118,7 +118,10 @@ is-sound-requires : (t : ℕ) → walk-dir-lts.Need-is-sound-requires (calls t) 
 is-sound-requires t c κs = search needs
 
 look-at-requires : (t : ℕ) → walk-dir-lts.Need-look-at-requires (calls t) (walk-dir-at t) walk-dir.Post Inv-loop μ-loop
-look-at-requires t c κs = (c .before .before .before .before .before .before .before .before .before .before .before .pre .1 .0, c .before .before .before .before .loop .inv .1, c .before .before .before .before .loop .inv .3)
+look-at-requires t c κs =
+    let looped = c .before .before .before .before .before in
+    let s = looped .before .before .before .before .before .before .before in
+    (s .pre .1 .0, looped .loop .inv .1, looped .loop .inv .3)
 
 task-of-requires : (t : ℕ) → walk-dir-lts.Need-task-of-requires (calls t) (walk-dir-at t) walk-dir.Post Inv-loop μ-loop
 task-of-requires t c κs = search needs
@@ -134,13 +137,13 @@ sound-by-requires t c κs = search needs
 
 -- a directory that is entered: another level is left below, and its chain keeps the record sound
 entered : (t : ℕ) (c : walk-dir-lts.After-walk-dir-arg2 (calls t) (walk-dir-at t) walk-dir.Post Inv-loop μ-loop)
-    → (0 < c .before .before .before .before .before .before .before .before .before .before .before .before .before .before .before .before .before .before .before .before .before .before .before .args .below) × Sound (c .before .before .before .before .before .if3 .r)
+    → (0 < c .before .before .before .before .before .before .before .before .before .before .before .before .before .before .before .before .before .before .before .before .before .before .before .before .args .below) × Sound (c .before .before .before .before .before .if3 .r)
 entered t c =
     let joined = c .before .before .before .before .before in
     let near = joined .before .before .before in
     let tasked = near .before .before in
     let looked = tasked .before in
-    let tested = looked .before .before .before in
+    let tested = looked .before .before .before .before in
     let judged = tested .before in
     let looped = judged .before in
     let counted = looped .before in
@@ -164,7 +167,7 @@ sub-walk-dir t c = omega (arith, (entered t c) .0)
 walk-dir-requires : (t : ℕ) → walk-dir-lts.Need-walk-dir-requires (calls t) (walk-dir-at t) walk-dir.Post Inv-loop μ-loop
 walk-dir-requires t c κs =
     let looked = c .before .before .before .before .before .before .before .before .before .before .before in
-    let looped = looked .before .before .before .before .before in
+    let looped = looked .before .before .before .before .before .before in
     let s = looped .before .before .before .before .before .before .before in
     let v = viewBy (s .args .geometry) (s .args .table .now) (s .args .image .now) in
     let filled = (knows-on v (s .args .table .now) (s .args .first) _ _ _ _ _ _ (looped .loop .inv .4) (looked .look-at .ensures .1 .0) (grows-self _)) .1 in
@@ -173,34 +176,44 @@ walk-dir-requires t c κs =
 cluster-after-requires : (t : ℕ) → walk-dir-lts.Need-cluster-after-requires (calls t) (walk-dir-at t) walk-dir.Post Inv-loop μ-loop
 cluster-after-requires t c κs = search needs
 
+-- a slot is left where the loop's body is entered
+slot-left : (left : ℕ) (told : Bool) → (ltb 0 left && told) ≡ true → 0 < left
+slot-left left told h = ltb-true 0 left (and-l (ltb 0 left) told h)
+
 add-k : (t : ℕ) → walk-dir-lts.Need-add-k (calls t) (walk-dir-at t) walk-dir.Post Inv-loop μ-loop
 add-k t c =
-    let w = c .before .before .before .before .before .before .before .before .loop in
-    let counted = c .before .before .before .before .before .before .before .before .before .slots-of in
-    omega (arith, w .inv .2, ltb-true 0 (w .left) (and-l (ltb 0 (w .left)) _ (c .before .before .before .before .before .before .if1 .taken)), counted .ok)
+    let tested = c .before .before .before .before .before .before .before in
+    let looped = tested .before .before in
+    let w = looped .loop in
+    omega (arith, w .inv .2, slot-left (w .left) _ (tested .if1 .taken), looped .before .slots-of .ok)
 
 sub-left : (t : ℕ) → walk-dir-lts.Need-sub-left (calls t) (walk-dir-at t) walk-dir.Post Inv-loop μ-loop
-sub-left t c = let w = c .before .before .before .before .before .before .before .before .loop in omega (arith, ltb-true 0 (w .left) (and-l (ltb 0 (w .left)) _ (c .before .before .before .before .before .before .if1 .taken)))
+sub-left t c = let tested = c .before .before .before .before .before .before .before in omega (arith, slot-left (tested .before .before .loop .left) _ (tested .if1 .taken))
 
 loop-less : (t : ℕ) → walk-dir-lts.Need-loop-less (calls t) (walk-dir-at t) walk-dir.Post Inv-loop μ-loop
-loop-less t c = let w = c .before .before .before .before .before .before .before .before .loop in omega (arith, ltb-true 0 (w .left) (and-l (ltb 0 (w .left)) _ (c .before .before .before .before .before .before .if1 .taken)))
+loop-less t c = let tested = c .before .before .before .before .before .before .before in omega (arith, slot-left (tested .before .before .loop .left) _ (tested .if1 .taken))
 
 loop-again : (t : ℕ) → walk-dir-lts.Need-loop-again (calls t) (walk-dir-at t) walk-dir.Post Inv-loop μ-loop
 loop-again t c =
-    let s = c .before .before .before .before .before .before .before .before .before .before .before .before .before .before .before in
+    let looked = c .before .before .before in
+    let tested = looked .before .before .before .before in
+    let judged = tested .before in
+    let looped = judged .before in
+    let started = looped .before .before in
+    let s = started .before .before .before .before .before in
     let g = s .args .geometry in
     let tb = s .args .table .now in
     let b = s .args .below in
     let v = viewBy g tb (s .args .image .now) in
     let mend = mendedPage g (s .args .image .now) in
-    let w = c .before .before .before .before .before .before .before .before .loop in
-    let seen = c .before .before .before .look-at in
+    let w = looped .loop in
+    let seen = looked .look-at in
     let joined = c .before .if2 in
-    let count = seen .last .1 .1 .1 .1 .1 .1 .1 .1 .0 in
+    let count = seen .last .1 .1 .1 .1 .1 .1 .1 .1 .1 .0 in
     let made = c .before .before .task-of .result in
     let task = c .before .before .task-of .ensures in
-    let more = ltb-true 0 (w .left) (and-l (ltb 0 (w .left)) _ (c .before .before .before .before .before .before .if1 .taken)) in
-    let sound = sym (c .before .before .before .before .before .before .before .is-sound .ensures) ∙ and-r (ltb 0 (w .left)) (c .before .before .before .before .before .before .before .is-sound .result) (c .before .before .before .before .before .before .if1 .taken) in
+    let more = slot-left (w .left) _ (tested .if1 .taken) in
+    let sound = sym (judged .is-sound .ensures) ∙ and-r (ltb 0 (w .left)) (judged .is-sound .result) (tested .if1 .taken) in
     let told : Sound (w .r) → Tells (enteredLook v mend g b tb (marksOf (w .r)) count (seen .result)) (joined .v) (joined .r) (joined .mended) =
     λ kept. ⊎-elim
     (λ z.
@@ -213,7 +226,7 @@ loop-again t c =
     rw (z .9, z .10, z .11, z .5 .ensures) (task-chain tb (s .pre .1 .0) v mend (λ n. refl) g b (w .r) kept count (record { sound = z .4 .sound; reached = z .4 .r }) (seen .result) (rw task at (z .0 .taken)) (rw task at chain) (rw task at (z .7 .left))))
     (λ z. rw (z .2, z .3, z .4, task) (task-idle tb (s .pre .1 .0) v mend (λ n. refl) g b (w .r) kept count (seen .result) (rw task at (z .0 .left)))))
     (joined .came) in
-    let cells : Knows v tb (s .args .first) (c .before .before .before .before .before .before .before .before .before .before .next-of .result) (w .k + 1) (joined .cells) × Grows (s .args .cells .now) (joined .cells) =
+    let cells : Knows v tb (s .args .first) (started .next-of .result) (w .k + 1) (joined .cells) × Grows (s .args .cells .now) (joined .cells) =
     ⊎-elim
     (λ z. rw (z .12) (knows-on v tb (s .args .first) _ _ _ _ _ _ (w .inv .4) (seen .ensures .1 .0) (z .10 .ensures .1)))
     (⊎-elim
@@ -221,10 +234,10 @@ loop-again t c =
     (λ z. rw (z .1) (knows-on v tb (s .args .first) _ _ _ _ _ _ (w .inv .4) (seen .ensures .1 .0) (grows-self _))))
     (joined .came) in (
       λ whole h.
-          let here = stands-sound v mend g b tb (c .before .before .before .before .before .before .before .before .before .before .next-of .result) (w .c) (w .k) (w .left) whole (w .v) (w .r) (w .mended) (w .inv .0 whole h) sound in
+          let here = stands-sound v mend g b tb (started .next-of .result) (w .c) (w .k) (w .left) whole (w .v) (w .r) (w .mended) (w .inv .0 whole h) sound in
           rw (c .cluster-after .ensures)
-          (slot-on v mend g b tb (λ n. refl) (c .before .before .before .before .before .before .before .before .before .before .next-of .result) (w .c) (w .k) (w .left) whole (w .r) (w .mended) (here .0) more (w .inv .1) (seen .result) (seen .ensures .0) count (seen .ensures .1 .1) (joined .v) (joined .r) (joined .mended) (told (here .1))),
-      cluster-step tb (c .before .before .before .before .before .before .before .before .before .before .next-of .result) (w .c) (w .k) _ (w .inv .1) (c .cluster-after .ensures),
+          (slot-on v mend g b tb (λ n. refl) (started .next-of .result) (w .c) (w .k) (w .left) whole (w .r) (w .mended) (here .0) more (w .inv .1) (seen .result) (seen .ensures .0) count (seen .ensures .1 .1) (joined .v) (joined .r) (joined .mended) (told (here .1))),
+      cluster-step tb (started .next-of .result) (w .c) (w .k) _ (w .inv .1) (c .cluster-after .ensures),
       omega (arith, w .inv .2, more),
       cells .0,
       cells .1,
