@@ -1,7 +1,7 @@
 // The allocation table in memory: its free clusters, chains linked and freed.
 use layout::Superblock;
-use reached::Looked;
-use reached::take_limit;
+use reached::takeable::Looked;
+use reached::takeable::take_limit;
 use tree::slots::next_of;
 ghost use mathlib.Core.Path.{_≡_};
 ghost use Prim.Native.Nat.{ℕ, _≤_};

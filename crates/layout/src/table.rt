@@ -8,7 +8,7 @@ use model::BLOCK_CLUSTERS;
 use page::Format;
 use page::read_counted;
 use page::read_page;
-use reached::is_listed;
+use reached::takeable::is_listed;
 ghost use mathlib.Core.Path.{_≡_};
 ghost use mathlib.Core.List.{_++_, _∷_, []};
 ghost use mathlib.Core.Bool.{true};

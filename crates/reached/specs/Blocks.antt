@@ -3,7 +3,7 @@ use mathlib.Core.List.{List}
 use mathlib.Core.Path.{_≡_}
 use Prim.Native.Nat.{ℕ}
 use Rattle.model.specs.Counts.{isListed}
-use Rattle.reached.specs.declared.Looked.{Looked}
+use Rattle.reached.specs.declared.takeable.Looked.{Looked}
 
 -- what is kept of it is what the list says
 abbrev pub Knows : List ℕ → Looked → Type 0

@@ -14,7 +14,7 @@ use model::MOST_CLUSTERS;
 use page::Format;
 use page::settled;
 use reached::count_orphans;
-use reached::count_unused;
+use reached::takeable::count_unused;
 use walk::walk_root;
 ghost use mathlib.Core.Path.{_≡_};
 ghost use Prim.Native.Nat.{_<_, _≤_, _^_};

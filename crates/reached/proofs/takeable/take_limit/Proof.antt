@@ -1,6 +1,6 @@
 -- Where both tests hold the limit is the tail's start, and else alloc_end.
-use Rattle.reached.proofs.take_limit.Statement.{statement}
-use Rattle.reached.proofs.take_limit.Tie as tie
+use Rattle.reached.proofs.takeable.take_limit.Statement.{statement}
+use Rattle.reached.proofs.takeable.take_limit.Tie as tie
 
 returns : tie.Need-returns
 returns c = rw (c .if1 .taken)

@@ -12,8 +12,8 @@ use Rattle.model.specs.Counts.{mayTakeOn, totalBelow}
 use Rattle.reached.specs.Blocks.{Knows}
 use Rattle.reached.specs.Totals.{freeAt, heldAt}
 use Rattle.reached.proofs.CountLaws.{free-test, held-test, total-same, total-step}
-use Rattle.reached.proofs.count_unused.Statement.{statement}
-use Rattle.reached.proofs.count_unused.Tie as tie
+use Rattle.reached.proofs.takeable.count_unused.Statement.{statement}
+use Rattle.reached.proofs.takeable.count_unused.Tie as tie
 
 abbrev Inv-loop : tie.InvT-loop
 Inv-loop table clusters offset bad limit last₀ free₀ held₀ i₀ last free held i =

@@ -8,8 +8,8 @@ use denote.Ref.{now}
 use lib.ListN.{drop, length}
 use Rattle.model.specs.Counts.{isListed}
 use Rattle.reached.proofs.ListLaws.{listed-all, listed-more}
-use Rattle.reached.proofs.is_listed.Statement.{statement}
-use Rattle.reached.proofs.is_listed.Tie as tie
+use Rattle.reached.proofs.takeable.is_listed.Statement.{statement}
+use Rattle.reached.proofs.takeable.is_listed.Tie as tie
 
 abbrev Inv-loop : tie.InvT-loop
 Inv-loop bad block listed₀ i₀ listed i = (i ≤ length bad) × (isListed bad block ≡ (listed || isListed (drop i bad) block))
