@@ -4,6 +4,7 @@ use layout::page0::clusters_in;
 use layout::page0::good_length;
 use page::Format;
 use page::cluster_bytes;
+use page::judge_page;
 use page::page_count;
 use page::read_page;
 use page::write_page;
@@ -30,10 +31,9 @@ fn judge_pages(format: Format, image: &[u8]) -> Conversion
     ensures { λ r. ⌜ ((result : List ℕ) → toldConversion r result ≡ needPages format (now (image .entry)) (upTo (λ p. p) (pagesIn format (length (now (image .entry))))) (ok result)) ⌝ }
 {
     let pages = page_count(format, image);
-    let mut page = [0u8; 512];
     let mut p = 0;
     while p < pages {
-        if !read_page(format, image, p, &mut page).readable {
+        if !judge_page(format, image, p).readable {
             return Conversion::Refused(Refusal::UnreadablePage(p));
         }
         p += 1;

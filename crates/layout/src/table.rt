@@ -6,6 +6,7 @@ use fields::numbers::word_at;
 use fields::numbers::word_in;
 use model::BLOCK_CLUSTERS;
 use page::Format;
+use page::judge_counted;
 use page::read_counted;
 use page::read_page;
 use reached::takeable::is_listed;
@@ -121,11 +122,10 @@ fn judge_pages(
     ensures judged { λ r. ⌜ ((s : Superblock) → told r s ≡ needPages format (now (image .entry)) (pagesOf (tableNames (now (first .entry) ++ now (second .entry)) count)) (ok s)) ⌝ }
     ensures counted { λ r. ⌜ Adds r (now (mended .entry)) (mendedOver format (now (image .entry)) (pagesOf (tableNames (now (first .entry) ++ now (second .entry)) count))) (now (mended .exit)) ⌝ }
 {
-    let mut page = [0u8; 512];
     let mut t = 0;
     while t < 2 * count {
         let p = table_page(first, second, count, t);
-        if !read_counted(format, image, p, &mut page, mended) {
+        if !judge_counted(format, image, p, mended) {
             return Verdict::Refused(Refusal::UnreadablePage(p));
         }
         t += 1;

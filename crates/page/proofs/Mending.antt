@@ -7,7 +7,6 @@ use native.Mathlib.Nat.{add-assoc, mod-add-mod}
 use native.Mathlib.Omega.{arith}
 use borrow.Author.Tests.{le-ltb, lt-ltb, ltb-true}
 use lib.ListN.{length}
-use Rattle.ecc.specs.declared.Verdict.{Verdict}
 use Rattle.ecc.specs.declared.Verdict.the-variants.{Good}
 use Rattle.page.specs.declared.Format.{Format}
 use Rattle.page.specs.declared.Format.the-variants.{Plain, Raw}
@@ -18,9 +17,10 @@ use Rattle.page.specs.Twins.{CodesMatch}
 use Rattle.page.proofs.Formats.{whole-inside}
 use Rattle.page.proofs.Puts.{Whole}
 
-pub mended-inside : (format : Format) (image : List ℕ) (p : ℕ) → Whole format image p → mendedAt format image p ≡ mendedStored format (storedPage format image p)
+pub mended-stored : (format : Format) (image : List ℕ) (p : ℕ) {stored : List ℕ} → Whole format image p → stored ≡ storedPage format image p
+    → mendedAt format image p ≡ mendedStored format stored
 unfolding mendedAt
-mended-inside format image p h = rw (lt-ltb p (pagesIn format (length image)) (whole-inside format (length image) p h))
+mended-stored format image p h e = rw (lt-ltb p (pagesIn format (length image)) (whole-inside format (length image) p h), e)
 
 pub mended-outside : (format : Format) (image : List ℕ) (p : ℕ) → pagesIn format (length image) ≤ p → mendedAt format image p ≡ noneMended
 unfolding mendedAt
@@ -29,6 +29,12 @@ mended-outside format image p h = rw (le-ltb p (pagesIn format (length image)) h
 -- ---- a count that wraps: what is added later may be added at once
 pub count-on : (m x y : ℕ) {n : ℕ} → n ≡ wrapped (m + x) → wrapped (n + y) ≡ wrapped (m + (x + y))
 count-on m x y e = rw e (mod-add-mod (m + x) (2 ^ 64) y ∙ ap wrapped (add-assoc m x y))
+
+-- what is added is the count of the chunks told of the page
+pub chunks-added : (format : Format) (image : List ℕ) (p before : ℕ) {m : Mended} {n : ℕ} → m ≡ mendedAt format image p → n ≡ wrapped (before + chunksIn m)
+    → n ≡ wrapped (before + mendedChunks format image p)
+unfolding mendedChunks
+chunks-added format image p before e f = rw e at f
 
 -- ---- how many chunks
 one-most : (b : Bool) → one b ≤ 1

@@ -10,7 +10,7 @@ use borrow.Author.Tests.{ltb-true, lt-ltb, le-ltb, eqb-true, eq-eqb}
 use lib.Dec.{eqb}
 use lib.ListN.{length}
 use Rattle.page.specs.declared.Format.{Format}
-use Rattle.page.specs.Page.{putAt, storedPage, isInside, readStored, pageAt, pageBytes, pagesIn, pageStart, Read, storedAs, sameBytes, holds, isPut, put}
+use Rattle.page.specs.Page.{putAt, storedPage, isInside, readStored, pageAt, pageBytes, pagesIn, pageStart, isSome, Read, storedAs, sameBytes, holds, isPut, put}
 use Rattle.page.proofs.Formats.{inside-whole, whole-inside}
 
 pub true-or-false : (b : Bool) → (b ≡ true) ⊎ (b ≡ false)
@@ -44,14 +44,17 @@ pub holds-some : (o : Option (List ℕ)) (bytes : List ℕ) → holds o bytes �
 holds-some none bytes e = tf e refl
 holds-some (some old) bytes e = ap {B = Option (List ℕ)} some (same-eq old bytes e)
 
--- ---- what a read says
+-- ---- what a read says, and what judging alone says
 pub read-some : (o : Option (List ℕ)) {before after : List ℕ} {r : Bool} → Read o before r after → r ≡ true → o ≡ some after
 read-some none e t = tf t (e .readable)
 read-some (some d) e t = ap {B = Option (List ℕ)} some (sym (e .buffer))
 
+pub judged-none : (o : Option (List ℕ)) → isSome o ≡ false → o ≡ none
+judged-none none e = refl
+judged-none (some d) e = tf refl e
+
 pub read-none : (o : Option (List ℕ)) {before after : List ℕ} {r : Bool} → Read o before r after → r ≡ false → o ≡ none
-read-none none e f = refl
-read-none (some d) e f = tf (e .readable) f
+read-none o e f = judged-none o (sym (e .readable) ∙ f)
 
 -- ---- the sealed definitions, opened for this crate's proofs alone
 module _ (format : Format) where
@@ -89,6 +92,9 @@ module _ (format : Format) where
 
   pub page-inside : (image : List ℕ) (p : ℕ) → Whole image p → pageAt format image p ≡ readStored format (storedPage format image p)
   page-inside image p h = page-is image p ∙ rw (inside image p h)
+
+  pub page-stored : (image : List ℕ) (p : ℕ) {stored : List ℕ} → Whole image p → stored ≡ storedPage format image p → pageAt format image p ≡ readStored format stored
+  page-stored image p h e = page-inside image p h ∙ ap (readStored format) (sym e)
 
   pub page-outside : (image : List ℕ) (p : ℕ) → pagesIn format (length image) ≤ p → pageAt format image p ≡ none
   page-outside image p h = page-is image p ∙ rw (le-ltb p (pagesIn format (length image)) h)

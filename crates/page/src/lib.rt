@@ -1,13 +1,14 @@
 // Reading and writing the pages of a card image: 512 data bytes each, in a raw image with 16 spare bytes after them.
 mod raw;
 
+use raw::judge_raw;
 use raw::read_raw;
 use raw::write_raw;
 ghost use mathlib.Core.Path.{_≡_};
 ghost use Prim.Native.Nat.{_+_, _^_, _<_, _≤_};
 ghost use lib.ListN.{length};
 ghost use Rattle.page.specs.Mended.{chunksIn, mendedAt, mendedChunks, mendedStored, noneMended, one, wrapped};
-ghost use Rattle.page.specs.Page.{pageBytes, clusterBytes, pagesIn, pageStart, readStored, Read, pageAt, storedAs, sameBytes, holds, written, rewritten};
+ghost use Rattle.page.specs.Page.{pageBytes, clusterBytes, pagesIn, pageStart, storedPage, readStored, isSome, Read, pageAt, storedAs, sameBytes, holds, written, rewritten};
 ghost use Rattle.page.specs.PageLaws.{LawsOfPages};
 ghost use Rattle.page.specs.Twins.{TwinLaws};
 
@@ -57,6 +58,16 @@ fn page_start(format: Format, page: usize) -> usize
     }
 }
 
+// The bytes that an image keeps of a page that it holds.
+fn stored_page(format: Format, image: &[u8], page: usize) -> &[u8]
+    requires { ⌜ page < pagesIn format (length (now image)) ⌝ }
+    ensures { λ r. ⌜ (now r ≡ storedPage format (now (image .entry)) page) × (length (now r) ≡ pageBytes format) ⌝ }
+{
+    let from = page_start(format, page);
+    let to = from + page_bytes(format);
+    &image[from..to]
+}
+
 // Which of a page's four chunks were corrected as it was read.
 pub struct Mended {
     pub chunk0: bool,
@@ -71,14 +82,18 @@ pub struct PageRead {
     pub mended: Mended,
 }
 
-fn none_mended() -> Mended
-    ensures { λ r. ⌜ r ≡ noneMended ⌝ }
+// A page of which no chunk was corrected.
+fn unmended(readable: bool) -> PageRead
+    ensures { λ r. ⌜ (r .readable ≡ readable) × (r .mended ≡ noneMended) ⌝ }
 {
-    Mended {
-        chunk0: false,
-        chunk1: false,
-        chunk2: false,
-        chunk3: false,
+    PageRead {
+        readable: readable,
+        mended: Mended {
+            chunk0: false,
+            chunk1: false,
+            chunk2: false,
+            chunk3: false,
+        },
     }
 }
 
@@ -111,10 +126,7 @@ fn read_stored(format: Format, page: &[u8], out: &mut [u8]) -> PageRead
         Format::Raw => read_raw(page, out),
         Format::Plain => {
             bytes::copy(page, out);
-            PageRead {
-                readable: true,
-                mended: none_mended(),
-            }
+            unmended(true)
         }
     }
 }
@@ -126,17 +138,44 @@ pub fn read_page(format: Format, image: &[u8], page: usize, out: &mut [u8; 512])
     ensures mended { λ r. ⌜ r .mended ≡ mendedAt format (now (image .entry)) page ⌝ }
 {
     if page < page_count(format, image) {
-        let from = page_start(format, page);
-        let to = from + page_bytes(format);
-        return read_stored(format, &image[from..to], out);
+        return read_stored(format, stored_page(format, image, page), out);
     }
-    PageRead {
-        readable: false,
-        mended: none_mended(),
+    unmended(false)
+}
+
+// What `read_stored` tells, without the data.
+fn judge_stored(format: Format, page: &[u8]) -> PageRead
+    requires { ⌜ length (now page) ≡ pageBytes format ⌝ }
+    ensures readable { λ r. ⌜ r .readable ≡ isSome (readStored format (now (page .entry))) ⌝ }
+    ensures mended { λ r. ⌜ r .mended ≡ mendedStored format (now (page .entry)) ⌝ }
+{
+    match format {
+        Format::Raw => judge_raw(page).told,
+        Format::Plain => unmended(true),
     }
 }
 
-// The same, with the corrected chunks added to a count, which wraps past 64 bits. Whether there is data is the answer.
+// What `read_page` tells, for a page whose data is not wanted.
+pub fn judge_page(format: Format, image: &[u8], page: usize) -> PageRead
+    ensures readable { λ r. ⌜ r .readable ≡ isSome (pageAt format (now (image .entry)) page) ⌝ }
+    ensures mended { λ r. ⌜ r .mended ≡ mendedAt format (now (image .entry)) page ⌝ }
+{
+    if page < page_count(format, image) {
+        return judge_stored(format, stored_page(format, image, page));
+    }
+    unmended(false)
+}
+
+// Adds the corrected chunks to a count, which wraps past 64 bits. Whether there is data is the answer.
+fn counted(read: PageRead, mended: &mut usize) -> bool
+    ensures readable { λ r. ⌜ r ≡ read .readable ⌝ }
+    ensures counted { λ _. ⌜ now (mended .exit) ≡ wrapped (now (mended .entry) + chunksIn (read .mended)) ⌝ }
+{
+    *mended = std::num::wrapping_add_usize(*mended, read.mended.count());
+    read.readable
+}
+
+// `read_page`, with the corrected chunks added to a count.
 pub fn read_counted(
     format: Format,
     image: &[u8],
@@ -147,9 +186,15 @@ pub fn read_counted(
     ensures read { λ r. ⌜ Read (pageAt format (now (image .entry)) page) (now (out .entry)) r (now (out .exit)) ⌝ }
     ensures counted { λ _. ⌜ now (mended .exit) ≡ wrapped (now (mended .entry) + mendedChunks format (now (image .entry)) page) ⌝ }
 {
-    let read = read_page(format, image, page, out);
-    *mended = std::num::wrapping_add_usize(*mended, read.mended.count());
-    read.readable
+    counted(read_page(format, image, page, out), mended)
+}
+
+// `judge_page`, in the same way.
+pub fn judge_counted(format: Format, image: &[u8], page: usize, mended: &mut usize) -> bool
+    ensures readable { λ r. ⌜ r ≡ isSome (pageAt format (now (image .entry)) page) ⌝ }
+    ensures counted { λ _. ⌜ now (mended .exit) ≡ wrapped (now (mended .entry) + mendedChunks format (now (image .entry)) page) ⌝ }
+{
+    counted(judge_page(format, image, page), mended)
 }
 
 // A count that was lent, as it stands. It fits 64 bits, which is known of a value and not of what was lent.

@@ -1,7 +1,7 @@
 // One raw page: 512 data bytes and 16 spare bytes, which hold the code of each chunk.
 use crate::Mended;
 use crate::PageRead;
-use crate::none_mended;
+use crate::unmended;
 use ecc::FourVerdicts;
 use ecc::Verdict;
 ghost use mathlib.Core.Path.{_≡_};
@@ -80,10 +80,7 @@ pub(crate) fn judge_raw(page: &[u8]) -> Judged
     }
     Judged {
         verdicts: verdicts,
-        told: PageRead {
-            readable: false,
-            mended: none_mended(),
-        },
+        told: unmended(false),
     }
 }
 

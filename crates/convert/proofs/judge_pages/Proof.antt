@@ -7,18 +7,19 @@ use borrow.Author.Needs.{needs}
 use borrow.Author.Tests.{not-true, not-false}
 use denote.Ref.{now}
 use Rattle.page.specs.Page.{pageAt}
-use Rattle.page.proofs.Puts.{read-some, read-none}
+use Rattle.page.proofs.Puts.{judged-none}
 use Rattle.model.specs.Check.{ok}
+use Rattle.layout.proofs.Stages.{there}
 use Rattle.convert.proofs.AllPages.{allFrom, all-stop, all-more, all-done}
 use Rattle.convert.proofs.judge_pages.Statement.{statement}
 use Rattle.convert.proofs.judge_pages.Tie as tie
 
 abbrev Inv-loop : tie.InvT-loop
-Inv-loop format image pages page₀ p₀ page p =
+Inv-loop format image pages p₀ p =
     (p ≤ pages) × ((result : List ℕ) → allFrom format image (ok result) 0 ≡ allFrom format image (ok result) p)
 
 abbrev μ-loop : tie.MeasureT-loop
-μ-loop format image pages page₀ p₀ page p = pages - p
+μ-loop format image pages p₀ p = pages - p
 
 page-count-requires : tie.Need-page-count-requires Inv-loop μ-loop
 page-count-requires c κs = search needs
@@ -26,15 +27,15 @@ page-count-requires c κs = search needs
 loop-holds : tie.Need-loop-holds Inv-loop μ-loop
 loop-holds c = (omega arith, λ result. refl)
 
-read-page-requires : tie.Need-read-page-requires Inv-loop μ-loop
-read-page-requires c κs = search needs
+judge-page-requires : tie.Need-judge-page-requires Inv-loop μ-loop
+judge-page-requires c κs = search needs
 
 returns : tie.Need-returns Inv-loop μ-loop
 returns c result =
-    let read = c .before .before in
-    let turn = read .before .before .before in
+    let judged = c .before .before in
+    let turn = judged .before .before in
     let a = turn .before .before .before .args in
-    let gone = read-none (pageAt (a .format) (now (a .image)) (turn .loop .p)) (read .read-page .ensures .0) (not-true _ (c .if1 .taken)) in
+    let gone = judged-none (pageAt (a .format) (now (a .image)) (turn .loop .p)) (sym (judged .judge-page .ensures .0) ∙ not-true _ (c .if1 .taken)) in
     sym (turn .loop .inv .1 result ∙ all-stop (a .format) (now (a .image)) (ok result) (turn .loop .p) (omega arith) gone)
 
 add-p : tie.Need-add-p Inv-loop μ-loop
@@ -45,11 +46,11 @@ loop-less c = omega arith
 
 loop-again : tie.Need-loop-again Inv-loop μ-loop
 loop-again c =
-    let read = c .before .before in
-    let turn = read .before .before .before in
+    let judged = c .before .before in
+    let turn = judged .before .before in
     let a = turn .before .before .before .args in
-    let there = read-some (pageAt (a .format) (now (a .image)) (turn .loop .p)) (read .read-page .ensures .0) (not-false _ (c .if1 .left)) in
-    (omega arith, λ result. turn .loop .inv .1 result ∙ all-more (a .format) (now (a .image)) (ok result) (turn .loop .p) (omega arith) there)
+    let found = there (pageAt (a .format) (now (a .image)) (turn .loop .p)) (sym (judged .judge-page .ensures .0) ∙ not-false _ (c .if1 .left)) in
+    (omega arith, λ result. turn .loop .inv .1 result ∙ all-more (a .format) (now (a .image)) (ok result) (turn .loop .p) (omega arith) found)
 
 returns-2 : tie.Need-returns-2 Inv-loop μ-loop
 returns-2 c result =
@@ -65,7 +66,7 @@ judge-pages-spec =
     μ-loop
     page-count-requires
     loop-holds
-    read-page-requires
+    judge-page-requires
     returns
     add-p
     loop-less

@@ -1,5 +1,5 @@
 -- A raw page is read as `read_raw` does; a plain one is its data.
-use mathlib.Core.Path.{refl, sym, _∙_}
+use mathlib.Core.Path.{sym, _∙_}
 use native.Mathlib.Omega.{arith}
 use Rattle.page.proofs.Lists.{copied}
 use borrow.Author.Needs.{needs}
@@ -31,8 +31,8 @@ returns c =
     let raw = c .before .before .before .before .enum-told .given .1 in
     (rw raw (c .before .before .read-raw .ensures .0), rw raw (c .before .before .read-raw .ensures .1))
 
-none-mended-requires : tie.Need-none-mended-requires
-none-mended-requires c κs = search needs
+unmended-requires : tie.Need-unmended-requires
+unmended-requires c κs = search needs
 
 same-length-2 : tie.Need-same-length-2
 same-length-2 c = search needs
@@ -43,7 +43,7 @@ returns-2 c =
     let plain = copy .before .before .enum-told2 .given .1 in
     let s = copy .before .before .before .before .before .before in
     let h = rw plain at (s .pre .0) in
-    (rw plain (record { readable = refl; buffer = copy .copy .ensures .1 ∙ copied (s .args .page .now) (s .args .out .now) (s .pre .1 ∙ sym h) }), rw plain (c .none-mended .ensures))
+    (rw plain (record { readable = c .unmended .ensures .0; buffer = copy .copy .ensures .1 ∙ copied (s .args .page .now) (s .args .out .now) (s .pre .1 ∙ sym h) }), rw plain (c .unmended .ensures .1))
 
 pub read-stored-spec : {M : Type 1} → statement M
 read-stored-spec =
@@ -53,7 +53,7 @@ read-stored-spec =
     read-raw-requires
     enum-told-2
     copy-requires
-    none-mended-requires
+    unmended-requires
     same-length
     returns
     same-length-2

@@ -107,8 +107,8 @@ returns c =
     (tested .before .before .before .is-readable2 .ensures) (tested .before .before .is-readable3 .ensures) (tested .before .is-readable4 .ensures) (tested .if1 .taken) in
     (verdicts, (readable, mended-some page (judged .judge-four .result) verdicts readable (c .mended-by .ensures)))
 
-none-mended-requires : tie.Need-none-mended-requires
-none-mended-requires c κs = search needs
+unmended-requires : tie.Need-unmended-requires
+unmended-requires c κs = search needs
 
 returns-2 : tie.Need-returns-2
 returns-2 c =
@@ -119,7 +119,7 @@ returns-2 c =
     let verdicts = judged-four page (start .pre) (judged .judge-four .ensures) in
     let readable = readable-by page (judged .judge-four .result) verdicts (tested .before .before .before .before .is-readable .ensures)
     (tested .before .before .before .is-readable2 .ensures) (tested .before .before .is-readable3 .ensures) (tested .before .is-readable4 .ensures) (tested .if1 .left) in
-    (verdicts, (readable, mended-none page readable (c .none-mended .ensures)))
+    (verdicts, (c .unmended .ensures .0 ∙ readable, mended-none page readable (c .unmended .ensures .1)))
 
 pub judge-raw-spec : {M : Type 1} → statement M
 judge-raw-spec =
@@ -147,5 +147,5 @@ judge-raw-spec =
     is-readable-requires-4
     mended-by-requires
     returns
-    none-mended-requires
+    unmended-requires
     returns-2)

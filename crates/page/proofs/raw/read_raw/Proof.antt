@@ -2,12 +2,13 @@
 use mathlib.Core.Path.{_≡_, refl, sym, _∙_, subst}
 use mathlib.Core.Bool.{Bool, true, false, cond, _&&_}
 use mathlib.Core.List.{List}
-use mathlib.Core.Option.{Option, none, some}
+use mathlib.Core.Option.{none, some}
 use Prim.Native.Nat.{ℕ}
 use borrow.Author.Needs.{needs}
 use Rattle.ecc.specs.declared.FourVerdicts.{FourVerdicts}
 use Rattle.page.specs.Page.{verdictsOf, isReadable, isSome, AllPlaced, correctedData, dataBy, readRaw}
 use Rattle.page.proofs.Chunks.{placed}
+use Rattle.page.proofs.Puts.{judged-none}
 use Rattle.page.proofs.raw.read_raw.Statement.{statement}
 use Rattle.page.proofs.raw.read_raw.Tie as tie
 
@@ -26,10 +27,6 @@ read-some page e f = rw e (go (verdictsOf page) f)
     go : (v : FourVerdicts) → isSome (dataBy page (v .chunk0) (v .chunk1) (v .chunk2) (v .chunk3)) ≡ true
         → dataBy page (v .chunk0) (v .chunk1) (v .chunk2) (v .chunk3) ≡ some (correctedData page (v .chunk0) (v .chunk1) (v .chunk2) (v .chunk3))
     go v = given (isReadable (v .chunk0) && (isReadable (v .chunk1) && (isReadable (v .chunk2) && isReadable (v .chunk3))))
-
-read-none : (found : Option (List ℕ)) → isSome found ≡ false → found ≡ none
-read-none none e = refl
-read-none (some x) e = cc
 
 judge-raw-requires : tie.Need-judge-raw-requires
 judge-raw-requires c κs = search needs
@@ -57,7 +54,7 @@ returns-2 c =
     let judged = c .before .before in
     let page = judged .before .before .before .args .page .now in
     let readable = judged .judge-raw .ensures .1 .0 in
-    (record { readable = readable; buffer = rw (read-none (readRaw page) (sym readable ∙ c .if1 .left)) refl }, judged .judge-raw .ensures .1 .1)
+    (record { readable = readable; buffer = rw (judged-none (readRaw page) (sym readable ∙ c .if1 .left)) refl }, judged .judge-raw .ensures .1 .1)
 
 pub read-raw-spec : {M : Type 1} → statement M
 read-raw-spec =
