@@ -4,6 +4,7 @@ pub mod ScanLaws
 pub mod SlotSteps
 pub mod MetLaws
 pub mod LookLaws
+pub mod PagePlaces
 pub mod PageReads
 pub mod TellLaws
 pub mod TaskLaws

@@ -1,4 +1,5 @@
 // Along the pages of a directory or a file: the first one that a test takes.
+use crate::slots::judge_slot;
 use crate::slots::next_of;
 use crate::slots::read_slot;
 use crate::slots::slot_page;
@@ -74,8 +75,7 @@ fn dead_at(image: &[u8], table: &[u32], geometry: Geometry, page: usize) -> bool
 fn unreadable_at(image: &[u8], table: &[u32], geometry: Geometry, k: u32, page: usize) -> bool
     ensures { λ r. ⌜ r ≡ unread (viewBy geometry (now (table .entry)) (now (image .entry))) k page ⌝ }
 {
-    let mut d = [0u8; 512];
-    !read_slot(image, geometry, table.len(), page, &mut d)
+    !judge_slot(image, geometry, table.len(), page)
 }
 
 // Whether slot k, with its page, is one that is looked for.

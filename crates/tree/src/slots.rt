@@ -1,6 +1,7 @@
 // The slots of a directory: their pages, and the live names in them.
 use layout::Geometry;
 use layout::image_page;
+use page::judge_page;
 use page::page_count;
 use page::read_page;
 ghost use mathlib.Core.Path.{_≡_};
@@ -8,7 +9,7 @@ ghost use Prim.Native.Nat.{_+_, _-_, _*_, _<_};
 ghost use lib.ListN.{length};
 ghost use Rattle.model.specs.Bytes.{pageLimit};
 ghost use Rattle.layout.specs.See.{pageIn};
-ghost use Rattle.page.specs.Page.{Read};
+ghost use Rattle.page.specs.Page.{Read, isSome};
 ghost use Rattle.tree.specs.Mended.{countAfter, mendedPage};
 ghost use Rattle.tree.specs.Slots.{clusterAfter, isSlot, nextOf, slotPage};
 
@@ -110,4 +111,18 @@ pub fn read_slot(
 {
     let mut mended: usize = 0;
     read_needed(image, geometry, count, page, out, &mut mended)
+}
+
+// Whether a page of the allocatable clusters, of which there are `count`, has data.
+pub fn judge_slot(image: &[u8], geometry: Geometry, count: usize, page: usize) -> bool
+    ensures { λ r. ⌜ r ≡ isSome (pageIn geometry count (now (image .entry)) page) ⌝ }
+{
+    if count <= page / 2 {
+        return false;
+    }
+    let format = geometry.format;
+    if page_count(format, image) <= page {
+        return false;
+    }
+    judge_page(format, image, image_page(geometry, page)).readable
 }

@@ -5,11 +5,11 @@ use borrow.Author.Needs.{needs}
 use Rattle.tree.proofs.along.unreadable_at.Statement.{statement}
 use Rattle.tree.proofs.along.unreadable_at.Tie as tie
 
-read-slot-requires : tie.Need-read-slot-requires
-read-slot-requires c κs = search needs
+judge-slot-requires : tie.Need-judge-slot-requires
+judge-slot-requires c κs = search needs
 
 returns : tie.Need-returns
-returns c = ap not (c .read-slot .ensures .readable)
+returns c = ap not (c .judge-slot .ensures)
 
 pub unreadable-at-spec : {M : Type 1} → statement M
-unreadable-at-spec = tie.close (tie.spec read-slot-requires returns)
+unreadable-at-spec = tie.close (tie.spec judge-slot-requires returns)

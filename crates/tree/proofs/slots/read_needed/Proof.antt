@@ -1,50 +1,26 @@
 -- `tree::slots::read_needed` meets its contract: a page of the view is the image's page.
 use Rattle.layout.specs.declared.Geometry.{Geometry}
-use mathlib.Core.Bool.{Bool, cond, false, true}
+use mathlib.Core.Bool.{Bool, false}
 use mathlib.Core.List.{List}
 use mathlib.Core.Option.{Option, none, some}
 use mathlib.Core.Path.{_∙_, _≡_, refl, sym}
-use Prim.Native.Nat.{_*_, _+_, _/_, _<_, _≤_, ℕ}
+use Prim.Native.Nat.{_+_, ℕ}
 use native.Mathlib.Omega.{arith}
 use borrow.Author.Needs.{needs}
-use borrow.Author.Tests.{le-ltb, lt-ltb, not-false, not-true}
-use lib.Dec.{ltb}
-use lib.ListN.{length}
-use Rattle.layout.specs.See.{imagePage, pageIn}
+use borrow.Author.Tests.{not-false, not-true}
+use Rattle.layout.specs.See.{imagePage}
 use Rattle.page.specs.declared.Mended.{Mended}
 use Rattle.page.specs.Mended.{chunksIn, mendedAt, mendedChunks, wrapped}
-use Rattle.page.specs.Page.{Read, pageAt, pagesIn}
-use Rattle.page.proofs.Laws.{page-past}
+use Rattle.page.specs.Page.{Read}
 use Rattle.page.proofs.Puts.{read-none, read-some}
 use Rattle.tree.specs.Mended.{countAfter, mendedPage}
+use Rattle.tree.proofs.PagePlaces.{inside, outside, past}
 use Rattle.tree.proofs.slots.read_needed.Statement.{statement}
 use Rattle.tree.proofs.slots.read_needed.Tie as tie
 
 -- without data the buffer and the count stay
 none-read : (o : Option (List ℕ)) (out : List ℕ) (chunks before : ℕ) → o ≡ none → Read o out false out × (before ≡ countAfter o chunks before)
 none-read o out chunks before e = rw e (record { readable = refl; buffer = refl }, refl)
-
--- a page past the clusters is none, any other the image's
-outside : (geometry : Geometry) (count : ℕ) (image : List ℕ) (page : ℕ) → count ≤ page / 2 → pageIn geometry count image page ≡ none
-unfolding pageIn
-outside geometry count image page h = rw (le-ltb page (2 * count) (omega arith))
-
-inside : (geometry : Geometry) (count : ℕ) (image : List ℕ) (page p : ℕ) → page / 2 < count → p ≡ imagePage geometry page
-    → pageIn geometry count image page ≡ pageAt (geometry .format) image p
-unfolding pageIn
-inside geometry count image page p h e = rw (lt-ltb page (2 * count) (omega arith), ← e)
-
--- a page past the image's last one is none, all the more where pages lie below it
-past : (geometry : Geometry) (count : ℕ) (image : List ℕ) (page n : ℕ) → n ≡ pagesIn (geometry .format) (length image) → n ≤ page
-    → pageIn geometry count image page ≡ none
-unfolding pageIn
-past geometry count image page n e h =
-    let gone : pageAt (geometry .format) image (imagePage geometry page) ≡ none = page-past (geometry .format) image (imagePage geometry page) (omega arith) in
-    rw gone (go (ltb page (2 * count)))
-  where
-    go : (b : Bool) → _≡_ {A = Option (List ℕ)} (cond b none none) none
-    go true = refl
-    go false = refl
 
 as-read : {o : Option (List ℕ)} {before after : List ℕ} {r s : Bool} → Read o before r after → r ≡ s → Read o before s after
 as-read k e = record { readable = sym e ∙ k .readable; buffer = k .buffer }
