@@ -177,10 +177,10 @@ pub fn full_great(format: Format) -> Vec<u8> {
     crowded_like(format, Layout::fresh(MOST_CLUSTERS), 8, 2000)
 }
 
-/// A standard card with so many files of one cluster each, 50 to a directory.
-pub fn many_files(format: Format, files: usize) -> Vec<u8> {
+/// A card with so many files of one cluster each, 50 to a directory.
+pub fn many_files(format: Format, layout: Layout, files: usize) -> Vec<u8> {
     let directories = files.div_ceil(50);
-    let mut card = Assembly::new(format, Layout::standard());
+    let mut card = Assembly::new(format, layout);
     let root: Vec<usize> = (0..(2 + directories).div_ceil(2)).collect();
     card.directory(&root, 2 + directories as u32);
     let mut next = root.len();

@@ -1,10 +1,12 @@
-//! Times of both checks: the thread's processor time, taken in turn, so that a busy machine troubles them little
-//! and both alike.
+//! Taking times: the thread's processor time, taken in turn, so that a busy machine troubles it little and all sides
+//! alike.
 
 use std::hint::black_box;
 use std::time::Duration;
 
-use reader::{Counts, Format, Refusal};
+use reader::Format;
+
+use crate::checks::Check;
 
 /// The C library's `struct timespec` on 64-bit Linux.
 #[repr(C)]
@@ -29,11 +31,12 @@ pub fn thread_time() -> Duration {
     Duration::new(time.seconds as u64, time.nanoseconds as u32)
 }
 
-/// Either side's check.
-pub type Check = fn(Format, &[u8]) -> Result<Counts, Refusal>;
-
-/// The proved library's check first, the reader's second.
-pub const SIDES: [Check; 2] = [crate::check, reader::check];
+/// What some work took, and its answer.
+pub fn time_of<T>(work: impl FnOnce() -> T) -> (Duration, T) {
+    let start = thread_time();
+    let answer = black_box(work());
+    (thread_time() - start, answer)
+}
 
 /// One side's check of an image in its format.
 pub type Job<'a> = (Check, Format, &'a [u8]);
@@ -43,9 +46,7 @@ pub fn times(jobs: &[Job], runs: usize) -> Vec<Vec<Duration>> {
     let mut times = vec![Vec::with_capacity(runs); jobs.len()];
     for run in 0..=runs {
         for (&(check, format, image), times) in jobs.iter().zip(&mut times) {
-            let start = thread_time();
-            let answer = black_box(check(format, black_box(image)));
-            let time = thread_time() - start;
+            let (time, answer) = time_of(|| check(format, black_box(image)));
             assert!(answer.is_ok(), "only accepted cards are timed");
             if run > 0 {
                 times.push(time);
@@ -56,8 +57,24 @@ pub fn times(jobs: &[Job], runs: usize) -> Vec<Vec<Duration>> {
     times
 }
 
-pub fn median(sorted: &[Duration]) -> Duration {
-    sorted[sorted.len() / 2]
+/// The median of some times and the quartiles around it.
+#[derive(Clone, Copy, Debug)]
+pub struct Spread {
+    pub low: Duration,
+    pub median: Duration,
+    pub high: Duration,
+}
+
+impl Spread {
+    pub fn of(sorted: &[Duration]) -> Spread {
+        let [low, median, high] = [1, 2, 3].map(|quarter| sorted[sorted.len() * quarter / 4]);
+        Spread { low, median, high }
+    }
+
+    /// Median over median.
+    pub fn over(&self, other: &Spread) -> f64 {
+        self.median.as_secs_f64() / other.median.as_secs_f64()
+    }
 }
 
 /// The time of one entry in nanoseconds, once the time of a card without entries is taken off.

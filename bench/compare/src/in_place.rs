@@ -1,8 +1,8 @@
 //! Calls straight on the caller's image, with no copy and no guard bytes, for taking times.
 
-use ps2card_sys::{ps2card_create, ps2card_list, ps2card_read, ps2card_to_plain, ps2card_to_raw};
-use reader::time::Time;
-use reader::Format;
+use ps2card_sys::{ps2card_create, ps2card_delete, ps2card_make_dir, ps2card_remove_dir, ps2card_replace};
+use ps2card_sys::{ps2card_list, ps2card_read, ps2card_to_plain, ps2card_to_raw};
+use reader::{Change, Format};
 
 use crate::format::Number;
 
@@ -35,22 +35,26 @@ pub fn list(format: Format, image: &[u8], minutes: i32, out: &mut [u8]) -> usize
     unsafe { ps2card_list(number, image.as_ptr(), image.len(), minutes, out.as_mut_ptr(), out.len()) }
 }
 
-/// Whether the file was created.
-pub fn create(format: Format, image: &mut [u8], path: &[u8], time: &Time, bytes: &[u8]) -> bool {
-    let mut page = 0;
+/// Whether the change was made.
+pub fn apply(format: Format, change: &Change, image: &mut [u8]) -> bool {
+    let (format, mut page) = (Number::from(format).0, 0);
+    let (image, length, path) = (image.as_mut_ptr(), image.len(), change.path());
+    let (name, named) = (path.as_ptr(), path.len());
     // SAFETY: as in `read`; the image alone is written.
     let number = unsafe {
-        ps2card_create(
-            Number::from(format).0,
-            image.as_mut_ptr(),
-            image.len(),
-            path.as_ptr(),
-            path.len(),
-            time.as_ptr(),
-            bytes.as_ptr(),
-            bytes.len(),
-            &mut page,
-        )
+        match change {
+            Change::Create { time, data, .. } => {
+                ps2card_create(format, image, length, name, named, time.as_ptr(), data.as_ptr(), data.len(), &mut page)
+            }
+            Change::Replace { time, data, .. } => {
+                ps2card_replace(format, image, length, name, named, time.as_ptr(), data.as_ptr(), data.len(), &mut page)
+            }
+            Change::Delete { .. } => ps2card_delete(format, image, length, name, named, &mut page),
+            Change::MakeDir { time, .. } => {
+                ps2card_make_dir(format, image, length, name, named, time.as_ptr(), &mut page)
+            }
+            Change::RemoveDir { .. } => ps2card_remove_dir(format, image, length, name, named, &mut page),
+        }
     };
     number == 0
 }

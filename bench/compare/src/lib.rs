@@ -6,6 +6,7 @@
 pub mod answer;
 pub mod cards;
 pub mod change;
+pub mod checks;
 pub mod clock;
 pub mod convert;
 pub mod format;
@@ -13,6 +14,8 @@ pub mod in_place;
 mod lent;
 pub mod listing;
 pub mod lookup;
+pub mod table;
+pub mod works;
 
 use answer::{verdict, Broken, NO_MENDED, NO_PAGE};
 use format::Number;

@@ -3,7 +3,8 @@
 use std::time::Duration;
 
 use compare::cards::{great_directory, many_directories, one_directory, Names};
-use compare::clock::{per_entry, times, Check};
+use compare::checks::Check;
+use compare::clock::{per_entry, times};
 use reader::build::{fresh, standard};
 use reader::card::MOST_CLUSTERS;
 use reader::Format::Raw;

@@ -35,8 +35,6 @@ const fn effects() -> [u8; 256] {
 }
 
 /// The code of a chunk by the rule of document 01, ignored bits zero.
-/// It is never inlined, so that `measure` can count its instructions.
-#[inline(never)]
 pub fn code_of(chunk: &[u8]) -> Code {
     assert_eq!(chunk.len(), CHUNK);
     let mut effect = 0;

@@ -3,6 +3,7 @@
 
 pub mod both;
 pub mod changes;
+pub mod checker;
 pub mod converts;
 pub mod lookups;
 pub mod mended;
