@@ -54,6 +54,14 @@ fn help() {
         assert_eq!((text.contains("--zone "), form.contains("[--minutes M | --zone Z]")), (zoned, zoned), "{text}");
         let locks = ["ls", "find", "put", "create", "replace", "delete", "mkdir", "rmdir"].contains(&command);
         assert_eq!(text.contains("locked"), locks, "{text}");
+        // What a check for each entry costs is said.
+        let many = ["get", "put", "verify", "compare", "ls", "delete"].contains(&command);
+        let words = text.split_whitespace().collect::<Vec<&str>>().join(" ");
+        assert_eq!(
+            words.contains("by a call that checks the whole card first, as the rule is: 2,000 files take about "),
+            many,
+            "{text}"
+        );
         let formats = match command {
             "convert" => "--to-plain|--to-raw",
             "compare" => "[--plain | --plain-a | --plain-b]",

@@ -94,17 +94,16 @@ fn delete_all(card: &mut Card, path: &[u8]) -> Result<(), (Refusal, Vec<u8>)> {
         done => return done.map_err(|refusal| met(refusal, path)),
     };
     let start = [path, b"/"].concat();
-    let below = card.tree().map_err(|refusal| met(refusal, path))?;
-    let below: Vec<_> = below.into_iter().filter(|line| line.path.starts_with(&start)).collect();
-    output::expect(below.len() + 1);
+    let tree = card.tree().map_err(|refusal| met(refusal, path))?;
     // In tree order a directory stands before its inside.
-    for line in below.iter().rev() {
-        let done = match line.kind {
-            Kind::File => card.delete(&line.path),
-            Kind::Directory => card.remove_dir(&line.path),
+    let below = tree.iter().rev().filter(|line| line.path.starts_with(&start)).map(|line| (line.kind, &line.path[..]));
+    let all: Vec<_> = below.chain([(Kind::Directory, path)]).collect();
+    for (kind, path) in output::steps(all, "entries deleted") {
+        let done = match kind {
+            Kind::File => card.delete(path),
+            Kind::Directory => card.remove_dir(path),
         };
-        done.map_err(|refusal| met(refusal, &line.path))?;
-        output::advance();
+        done.map_err(|refusal| met(refusal, path))?;
     }
-    card.remove_dir(path).map_err(|refusal| met(refusal, path))
+    Ok(())
 }

@@ -8,6 +8,7 @@ use super::image::Image;
 use super::{print, Command};
 use crate::arguments::{Call, Opt, Syntax};
 use crate::failure::{shown, Failure};
+use crate::output;
 
 pub const CHECK: Command = Command {
     syntax: Syntax {
@@ -40,7 +41,7 @@ fn check(format: Format, name: &Path) -> Result<(), Failure> {
 /// Does it with each image, also after one that failed; then the gravest status counts.
 pub fn each(call: &Call, look: impl Fn(Format, &Path) -> Result<(), Failure>) -> Result<(), Failure> {
     let mut worst = 0;
-    for name in call.images()? {
+    for name in output::steps(call.images()?, "images") {
         match look(call.format(), name) {
             Ok(()) => {}
             Err(Failure::Unread) => return Err(Failure::Unread),

@@ -39,14 +39,12 @@ fn compare(call: &Call) -> Result<(), Failure> {
     let images = [load(0, Opt::PlainA, "--plain-a")?, load(1, Opt::PlainB, "--plain-b")?];
     let trees = [lines(&images[0])?, lines(&images[1])?];
     let paths: BTreeSet<&Vec<u8>> = trees.iter().flat_map(BTreeMap::keys).collect();
-    output::expect(paths.len());
     let mut pair = Pair { images, differs: false };
-    for path in paths {
+    for path in output::steps(paths, "paths") {
         match [trees[0].get(path), trees[1].get(path)] {
             [Some(one), Some(other)] => pair.both(one, other, call.asked(Opt::BytesOnly))?,
             [one, _] => pair.tell(if one.is_some() { "missing" } else { "extra" }, path)?,
         }
-        output::advance();
     }
     if !pair.differs {
         let files = trees[0].values().filter(|line| line.kind == Kind::File).count();

@@ -67,12 +67,10 @@ fn tree(image: &Image, path: &[u8], entry: &Entry) -> Result<Vec<Copy>, Failure>
     let start = if path == b"/" { b"/".to_vec() } else { [path, b"/"].concat() };
     let tree = image.tree()?;
     let below: Vec<_> = tree.iter().filter(|line| line.path.starts_with(&start)).collect();
-    output::expect(below.len());
     let mut copies = vec![copy(image, path, PathBuf::new(), entry)?];
-    for line in below {
+    for line in output::steps(below, "entries read") {
         let entry = image.find(&line.path)?;
         copies.push(copy(image, &line.path, PathBuf::from(OsStr::from_bytes(&line.path[start.len()..])), &entry)?);
-        output::advance();
     }
     Ok(copies)
 }
@@ -87,7 +85,7 @@ fn write(copies: &[Copy], to: &Path) -> io::Result<()> {
     if let Some(bytes) = &whole.bytes {
         fill(growing.handle(), bytes, whole)?;
     }
-    for copy in inside {
+    for copy in output::steps(inside, "entries written") {
         let at = growing.at().join(&copy.below);
         match &copy.bytes {
             Some(bytes) => fill(&File::options().read(true).write(true).create_new(true).open(&at)?, bytes, copy)?,
@@ -95,7 +93,8 @@ fn write(copies: &[Copy], to: &Path) -> io::Result<()> {
         }
     }
     // A directory's time would move with each file that is made in it.
-    for copy in inside.iter().rev().filter(|copy| copy.bytes.is_none()) {
+    let directories: Vec<_> = inside.iter().rev().filter(|copy| copy.bytes.is_none()).collect();
+    for copy in output::steps(directories, "directories dated") {
         keep(&File::open(growing.at().join(&copy.below))?, copy)?;
     }
     if whole.bytes.is_none() {

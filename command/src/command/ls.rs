@@ -43,7 +43,8 @@ fn ls(image: &Image, call: &Call) -> Result<(), Failure> {
         // Nothing stands there: the library says why.
         _ => return image.find(path).map(drop),
     };
-    let (around_is_locked, locks) = locks(image, around, &lines)?;
+    let around_is_locked = image.find(around)?.is_locked();
+    let locks = locks(image, &lines)?;
     let mut text = String::new();
     if around_is_locked {
         let rule = "nothing directly inside it can be created, replaced or deleted";
@@ -56,17 +57,9 @@ fn ls(image: &Image, call: &Call) -> Result<(), Failure> {
     print(text.as_bytes())
 }
 
-/// Whether the directory around the entries is locked, and whether each of them is. The listing has no modes: this is a
-/// look at each, with a check of its own.
-fn locks(image: &Image, around: &[u8], lines: &[&Line]) -> Result<(bool, Vec<bool>), Failure> {
-    output::expect(1 + lines.len());
-    let is_locked = |path: &[u8]| {
-        let entry = image.find(path)?;
-        output::advance();
-        Ok(entry.is_locked())
-    };
-    let around_is_locked = is_locked(around)?;
-    Ok((around_is_locked, lines.iter().map(|line| is_locked(&line.path)).collect::<Result<_, Failure>>()?))
+/// Whether each of the entries is locked. The listing has no modes: this is a look at each, with a check of its own.
+fn locks(image: &Image, lines: &[&Line]) -> Result<Vec<bool>, Failure> {
+    output::steps(lines, "entries").map(|line| Ok(image.find(&line.path)?.is_locked())).collect()
 }
 
 fn rows(tree: &[Line], lines: &[&Line], locks: &[bool], timed: bool) -> Vec<Row> {

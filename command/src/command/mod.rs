@@ -75,7 +75,7 @@ fn input(path: &Path) -> Result<Vec<u8>, Failure> {
 
 /// Standard input, to its end or beyond what a card has.
 fn standard_input() -> io::Result<Vec<u8>> {
-    output::while_typing(|| image_file::read_limited(io::stdin().lock()))
+    output::listen(|| image_file::read_limited(io::stdin().lock()))
 }
 
 /// Changes the card in the image file; a refusal comes with the path on the card that it was met at.

@@ -54,11 +54,9 @@ fn put(call: &Call) -> Result<(), Failure> {
         false => gathered.file(source, join(b"/", &name))?,
     }
     let stamp = call.stamp();
-    output::expect(gathered.items.len());
     change(call, |card| {
-        for item in &gathered.items {
+        for item in output::steps(&gathered.items, "entries created") {
             add(card, item, &stamp).map_err(|refusal| (refusal, item.path.clone()))?;
-            output::advance();
         }
         // What no card holds was refused above; a part of a save never goes in.
         match gathered.items.last() {
@@ -103,7 +101,7 @@ impl Gathered {
             names.push(entry.map_err(failed)?.file_name());
         }
         names.sort();
-        for name in names {
+        for name in output::steps(names, "entries read") {
             if self.too_much {
                 break;
             }

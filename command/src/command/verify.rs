@@ -26,9 +26,9 @@ pub const VERIFY: Command = Command {
 fn verify(format: Format, name: &Path, one_of_several: bool) -> Result<(), Failure> {
     let image = Image::load(format, name)?;
     let tree = image.tree()?;
-    output::expect(tree.iter().filter(|line| line.kind == Kind::File).count());
+    let files: Vec<_> = tree.iter().filter(|line| line.kind == Kind::File).collect();
     let mut whole = true;
-    for line in tree.iter().filter(|line| line.kind == Kind::File) {
+    for line in output::steps(files, "files") {
         let bytes = match file(&image, &line.path, line.length as usize) {
             Ok(bytes) => bytes,
             Err(refusals) => {
@@ -45,7 +45,6 @@ fn verify(format: Format, name: &Path, one_of_several: bool) -> Result<(), Failu
             false => line.path[1..].to_vec(),
         };
         print(&sum_line(&bytes, &path))?;
-        output::advance();
     }
     image.tell_mended();
     match whole {
@@ -87,7 +86,9 @@ fn unreadable(image: &Image, path: &[u8], length: usize) -> Vec<Refusal> {
     let pages = length.div_ceil(PAGE);
     let read = |from: usize, to: usize| image.read(path, from * PAGE, (to - from) * PAGE);
     let (mut refusals, mut from, mut step) = (Vec::new(), 0, 1);
+    let steps = output::Steps::ahead(pages, "pages");
     while from < pages {
+        steps.done(from);
         let to = pages.min(from + step);
         match read(from, to) {
             Ok(_) => (from, step) = (to, 2 * step),

@@ -1,4 +1,4 @@
-/* Lent to the command by LD_PRELOAD: system calls that fail as a disk or a network file system would make them fail. */
+/* Lent to the command by LD_PRELOAD: system calls that fail, or take long, as on a disk or a network file system. */
 #define _GNU_SOURCE
 #include <dlfcn.h>
 #include <errno.h>
@@ -6,15 +6,35 @@
 #include <string.h>
 #include <sys/stat.h>
 #include <sys/types.h>
+#include <time.h>
+#include <unistd.h>
 
 static int fails(const char *call) {
     const char *asked = getenv("SHIM_FAILS");
     return asked != NULL && strcmp(asked, call) == 0;
 }
 
-/* The sync of a folder. */
+/* Waits as many milliseconds as the variable says. */
+static void wait_for(const char *variable) {
+    const char *asked = getenv(variable);
+    long milliseconds = asked == NULL ? 0 : atol(asked);
+    struct timespec time = {milliseconds / 1000, milliseconds % 1000 * 1000000};
+    nanosleep(&time, NULL);
+}
+
+/* The start of a file. */
+ssize_t read(int fd, void *bytes, size_t size) {
+    if (lseek(fd, 0, SEEK_CUR) == 0) {
+        wait_for("SHIM_SLOW_READ");
+    }
+    ssize_t (*next)(int, void *, size_t) = (ssize_t (*)(int, void *, size_t))dlsym(RTLD_NEXT, "read");
+    return next(fd, bytes, size);
+}
+
+/* The sync of a file, or of a folder. */
 int fsync(int fd) {
     struct stat status;
+    wait_for("SHIM_SLOW_SYNC");
     if (fails("folder sync") && fstat(fd, &status) == 0 && S_ISDIR(status.st_mode)) {
         errno = EIO;
         return -1;

@@ -3,6 +3,7 @@
 
 pub mod locked;
 pub mod mended;
+pub mod terminal;
 
 use std::ffi::OsStr;
 use std::fs;
@@ -148,8 +149,8 @@ impl Folder {
         Outcome::of(child.wait_with_output().expect("the command ends"))
     }
 
-    /// Runs it with a system call that fails: "folder sync", "attribute", "owner" or "rename".
-    pub fn run_failing(&self, call: &str, words: &[&str]) -> Outcome {
+    /// The command with these words, without standard input, where system calls may fail or be slow: `tests/c/shim.c`.
+    pub fn shimmed(&self, words: &[&str]) -> Command {
         let shim = self.path(".shim.so");
         if !shim.exists() {
             let source = Path::new(env!("CARGO_MANIFEST_DIR")).join("tests/c/shim.c");
@@ -161,8 +162,14 @@ impl Folder {
             assert!(made.expect("cc runs").success());
         }
         let words: Vec<&[u8]> = words.iter().map(|word| word.as_bytes()).collect();
-        let output = self.command(&words).stdin(Stdio::null()).env("LD_PRELOAD", shim).env("SHIM_FAILS", call).output();
-        Outcome::of(output.expect("the command ends"))
+        let mut command = self.command(&words);
+        command.stdin(Stdio::null()).env("LD_PRELOAD", shim);
+        command
+    }
+
+    /// Runs it with a system call that fails: "folder sync", "attribute", "owner" or "rename".
+    pub fn run_failing(&self, call: &str, words: &[&str]) -> Outcome {
+        Outcome::of(self.shimmed(words).env("SHIM_FAILS", call).output().expect("the command ends"))
     }
 
     pub fn run(&self, words: &[&str]) -> Outcome {
