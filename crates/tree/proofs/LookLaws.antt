@@ -20,8 +20,8 @@ use Rattle.model.specs.Pages.{decoded}
 use Rattle.model.specs.View.{View}
 use Rattle.page.specs.Mended.{wrapped}
 use Rattle.page.specs.Page.{Read, isSome, orKept, pageAt}
-use Rattle.tree.specs.declared.walk.Look.{Look}
-use Rattle.tree.specs.declared.walk.Look.the-variants as look
+use Rattle.tree.specs.declared.tasks.Look.{Look}
+use Rattle.tree.specs.declared.tasks.Look.the-variants as look
 use Rattle.tree.specs.Mended.{countAfter}
 use Rattle.tree.specs.Met.{Grows, Knows, hashOf, isMet, markOf, mostPages, withName}
 use Rattle.tree.specs.Slots.{clusterAt, liveBefore, liveHit, nextOf, slotPage, clusterAfter}

@@ -20,7 +20,7 @@ use Rattle.model.specs.Needed.{directoryPages, pagesBelow, totalOver}
 use Rattle.model.specs.Tree.{Slot, Tree, chainOf, end, entryPages, hitName, nameHit, node}
 use Rattle.model.specs.View.{View, firstLink, pagesOf}
 use Rattle.reached.specs.Table.{tableLinks}
-use Rattle.tree.specs.declared.walk.Look.the-variants as look
+use Rattle.tree.specs.declared.tasks.Look.the-variants as look
 use Rattle.tree.specs.Slots.{liveHit, nextOf, slotPages}
 use Rattle.tree.specs.Walk.{dotPages, enteredLook, insideOf, lookedAt, onChain, pickLook, tallied}
 use Rattle.tree.proofs.ChainPages.{directory-pages, follow-chain}

@@ -22,9 +22,9 @@ use Rattle.model.specs.View.{View}
 use Rattle.reached.specs.declared.Reached.{Reached}
 use Rattle.reached.specs.Table.{firstLinkOf}
 use Rattle.reached.specs.Marks.{Keeps}
-use Rattle.tree.specs.declared.walk.Look.{Look}
-use Rattle.tree.specs.declared.walk.Look.the-variants as look
-use Rattle.tree.specs.declared.walk.Task.{Task}
+use Rattle.tree.specs.declared.tasks.Look.{Look}
+use Rattle.tree.specs.declared.tasks.Look.the-variants as look
+use Rattle.tree.specs.declared.tasks.Task.{Task}
 use Rattle.layout.specs.declared.Verdict.{Verdict}
 use Rattle.layout.specs.declared.Verdict.the-variants as verdict
 use Rattle.tree.specs.Slots.{liveBefore, nextOf, slotPage, slotPages}

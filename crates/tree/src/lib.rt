@@ -2,6 +2,7 @@
 pub mod along;
 mod names;
 pub mod slots;
+mod tasks;
 mod walk;
 
 use layout::Geometry;

@@ -32,11 +32,11 @@ use Rattle.reached.proofs.walk_near.Reads as walk-near-reads
 use Rattle.tree.proofs.slots.cluster_after.Reads as cluster-after-reads
 use Rattle.tree.proofs.slots.next_of.Reads as next-of-reads
 use Rattle.tree.proofs.slots.slots_of.Reads as slots-of-reads
-use Rattle.tree.proofs.walk.is_sound.Reads as is-sound-reads
+use Rattle.tree.proofs.tasks.is_sound.Reads as is-sound-reads
 use Rattle.tree.proofs.walk.judge_dots.Reads as judge-dots-reads
 use Rattle.tree.proofs.walk.look_at.Reads as look-at-reads
-use Rattle.tree.proofs.walk.sound_by.Reads as sound-by-reads
-use Rattle.tree.proofs.walk.task_of.Reads as task-of-reads
+use Rattle.tree.proofs.tasks.sound_by.Reads as sound-by-reads
+use Rattle.tree.proofs.tasks.task_of.Reads as task-of-reads
 use Rattle.tree.proofs.walk.+walk_dir.{statement}
 use Rattle.tree.proofs.walk.+walk_dir.Tie.{close}
 

@@ -1,7 +1,7 @@
 -- `tree::walk::sound_by` meets its contract, case by case.
 use mathlib.Core.Path.{refl}
-use Rattle.tree.proofs.walk.sound_by.Statement.{statement}
-use Rattle.tree.proofs.walk.sound_by.Tie as tie
+use Rattle.tree.proofs.tasks.sound_by.Statement.{statement}
+use Rattle.tree.proofs.tasks.sound_by.Tie as tie
 
 returns : tie.Need-returns
 returns c = rw (c .if1 .taken) refl

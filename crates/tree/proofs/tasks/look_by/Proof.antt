@@ -2,8 +2,8 @@
 use mathlib.Core.Path.{ap, sym}
 use borrow.Author.Needs.{needs}
 use Rattle.tree.specs.Walk.{lookBy}
-use Rattle.tree.proofs.walk.look_by.Statement.{statement}
-use Rattle.tree.proofs.walk.look_by.Tie as tie
+use Rattle.tree.proofs.tasks.look_by.Statement.{statement}
+use Rattle.tree.proofs.tasks.look_by.Tie as tie
 
 enum-told : tie.Need-enum-told
 enum-told c = search needs

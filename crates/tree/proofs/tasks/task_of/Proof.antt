@@ -6,8 +6,8 @@ use borrow.Author.Needs.{needs}
 use borrow.Author.Tests.{eq-eqb, ne-eqb}
 use Rattle.model.specs.Entry.{clustersFor}
 use Rattle.tree.specs.Walk.{taskOf}
-use Rattle.tree.proofs.walk.task_of.Statement.{statement}
-use Rattle.tree.proofs.walk.task_of.Tie as tie
+use Rattle.tree.proofs.tasks.task_of.Statement.{statement}
+use Rattle.tree.proofs.tasks.task_of.Tie as tie
 
 enum-known-look : tie.Need-enum-known-look
 enum-known-look c = search needs
