@@ -1,8 +1,9 @@
 -- Which chunks of a page were corrected, case by case: in the image or not, plain, rightly coded.
-use mathlib.Core.Path.{_≡_, refl, _∙_, ap}
+use mathlib.Core.Path.{_≡_, refl, sym, _∙_, ap}
 use mathlib.Core.Bool.{Bool, true, false, cond}
 use mathlib.Core.List.{List}
-use Prim.Native.Nat.{ℕ, _+_, _^_, _≤_}
+use mathlib.Core.Option.{none}
+use Prim.Native.Nat.{ℕ, _+_, _^_, _≤_, _<_}
 use native.Mathlib.Nat.{add-assoc, mod-add-mod}
 use native.Mathlib.Omega.{arith}
 use borrow.Author.Tests.{le-ltb, lt-ltb, ltb-true}
@@ -12,19 +13,29 @@ use Rattle.page.specs.declared.Format.{Format}
 use Rattle.page.specs.declared.Format.the-variants.{Plain, Raw}
 use Rattle.page.specs.declared.Mended.{Mended}
 use Rattle.page.specs.Mended.{chunksIn, mendedAt, mendedBy, mendedChunks, mendedRaw, mendedStored, noneMended, one, wrapped}
-use Rattle.page.specs.Page.{isInside, isSome, pagesIn, readRaw, storedPage, verdictOf}
+use Rattle.page.specs.Page.{isInside, isSome, pageAt, pagesIn, readRaw, readStored, storedPage, verdictOf}
 use Rattle.page.specs.Twins.{CodesMatch}
 use Rattle.page.proofs.Formats.{whole-inside}
-use Rattle.page.proofs.Puts.{Whole}
+use Rattle.page.proofs.Puts.{Whole, counted-whole, page-inside, page-outside}
 
-pub mended-stored : (format : Format) (image : List ℕ) (p : ℕ) {stored : List ℕ} → Whole format image p → stored ≡ storedPage format image p
-    → mendedAt format image p ≡ mendedStored format stored
+mended-inside : (format : Format) (image : List ℕ) (p : ℕ) → Whole format image p → mendedAt format image p ≡ mendedStored format (storedPage format image p)
 unfolding mendedAt
-mended-stored format image p h e = rw (lt-ltb p (pagesIn format (length image)) (whole-inside format (length image) p h), e)
+mended-inside format image p h = rw (lt-ltb p (pagesIn format (length image)) (whole-inside format (length image) p h))
 
-pub mended-outside : (format : Format) (image : List ℕ) (p : ℕ) → pagesIn format (length image) ≤ p → mendedAt format image p ≡ noneMended
+mended-outside : (format : Format) (image : List ℕ) (p : ℕ) → pagesIn format (length image) ≤ p → mendedAt format image p ≡ noneMended
 unfolding mendedAt
 mended-outside format image p h = rw (le-ltb p (pagesIn format (length image)) h)
+
+-- what is told of a page below the count, by the bytes kept of it, and of one that is not
+module _ (format : Format) (image : List ℕ) (p : ℕ) {count : ℕ} (e : count ≡ pagesIn format (length image)) where
+  pub told-inside : {stored : List ℕ} → p < count → stored ≡ storedPage format image p
+      → (pageAt format image p ≡ readStored format stored) × (mendedAt format image p ≡ mendedStored format stored)
+  told-inside h f =
+      let whole = counted-whole format image p e h in
+      (page-inside format image p whole ∙ ap (readStored format) (sym f), mended-inside format image p whole ∙ ap (mendedStored format) (sym f))
+
+  pub told-outside : count ≤ p → (pageAt format image p ≡ none) × (mendedAt format image p ≡ noneMended)
+  told-outside h = let past = rw e at h in (page-outside format image p past, mended-outside format image p past)
 
 -- ---- a count that wraps: what is added later may be added at once
 pub count-on : (m x y : ℕ) {n : ℕ} → n ≡ wrapped (m + x) → wrapped (n + y) ≡ wrapped (m + (x + y))

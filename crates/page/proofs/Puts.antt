@@ -93,9 +93,6 @@ module _ (format : Format) where
   pub page-inside : (image : List ℕ) (p : ℕ) → Whole image p → pageAt format image p ≡ readStored format (storedPage format image p)
   page-inside image p h = page-is image p ∙ rw (inside image p h)
 
-  pub page-stored : (image : List ℕ) (p : ℕ) {stored : List ℕ} → Whole image p → stored ≡ storedPage format image p → pageAt format image p ≡ readStored format stored
-  page-stored image p h e = page-inside image p h ∙ ap (readStored format) (sym e)
-
   pub page-outside : (image : List ℕ) (p : ℕ) → pagesIn format (length image) ≤ p → pageAt format image p ≡ none
   page-outside image p h = page-is image p ∙ rw (le-ltb p (pagesIn format (length image)) h)
 
