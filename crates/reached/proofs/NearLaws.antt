@@ -8,12 +8,12 @@ use mathlib.Core.Path.{_∙_, _≡_, ap, refl, sym}
 use native.Mathlib.Decide.{ℕ-discrete}
 use native.Mathlib.Numerals.{sub-one}
 use native.Mathlib.Omega.{arith}
-use borrow.Author.Tests.{eq-eqb, eqb-true, lt-ltb, ne-eqb}
+use borrow.Author.Tests.{eq-eqb, lt-ltb, ne-eqb}
 use lib.Dec.{eqb, eqb·suc-zero, ltb}
 use lib.ListN.{getD, length}
 use Rattle.model.specs.Entry.{endMark}
 use Rattle.model.specs.View.{mostClusters, topBit}
-use Rattle.reached.specs.Chain.{broken, byCluster, chainBehind, chainFrom, nearBehind, nearFrom, stepAt}
+use Rattle.reached.specs.Chain.{broken, chainBehind, chainFrom, nearBehind, nearFrom, stepAt}
 use Rattle.reached.specs.Marks.{currentMark, markWords, turned, withBit, withMark}
 use Rattle.reached.specs.declared.Chain.{Chain}
 use Rattle.reached.specs.declared.Near.{Near}

@@ -7,7 +7,6 @@ use borrow.Author.Needs.{needs}
 use borrow.Author.Tests.{eq-eqb, le-ltb, lt-ltb, ne-eqb}
 use denote.Ref.{now}
 use lib.ListN.{getD, length}
-use Rattle.model.specs.Entry.{endMark}
 use Rattle.model.specs.View.{topBit}
 use Rattle.reached.specs.Marks.{currentMark}
 use Rattle.reached.proofs.step_at.Statement.{statement}

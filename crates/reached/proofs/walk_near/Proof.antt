@@ -1,12 +1,11 @@
 -- What is left to do gives the whole answer: the loop keeps `nearFrom` of its locals equal to that at the start.
-use Prim.Native.Nat.{_/_, _<_, _≤_, _^_}
-use mathlib.Core.Bool.{Bool, false}
+use Prim.Native.Nat.{_/_, _<_, _^_}
 use mathlib.Core.Path.{_∙_, _≡_, refl, sym}
 use native.Mathlib.Omega.{arith}
 use borrow.Author.Needs.{needs}
 use borrow.Author.Tests.{eq-eqb, eqb-true, lt-ltb, ltb-true}
 use denote.Ref.{now}
-use lib.Dec.{eqb, ltb}
+use lib.Dec.{ltb}
 use Rattle.model.proofs.Equality.{and-l, and-r, tf}
 use Rattle.reached.specs.Chain.{nearFrom}
 use Rattle.reached.proofs.NearLaws.{near-over, near-step, step-less}

@@ -4,7 +4,6 @@ use mathlib.Core.List.{List}
 use mathlib.Core.Path.{_∙_, _≡_, ap, refl, sym}
 use native.Mathlib.Numerals.{sub-one}
 use native.Mathlib.Omega.{arith}
-use borrow.Author.Needs.{needs}
 use lib.ListN.{drop, length}
 use Rattle.tree.specs.declared.names.Hash.{Hash}
 use Rattle.tree.specs.Met.{Small, hashFrom, hashOf, mixed, seedOf, threeOf}

@@ -1,10 +1,10 @@
 -- The walk of a directory's inside: the model's walk, slot by slot.
 -- The loop keeps where the walk stands: sound so far, and what is left of the slots gives what the whole inside gives; or refused.
 -- The count at the loop's begin has the first two entries already, so that the whole is any that the walk stood in there.
-use Prim.Native.Nat.{_*_, _+_, _-_, _<_, _≤_, _^_, ℕ}
+use Prim.Native.Nat.{_+_, _-_, _<_, _≤_, ℕ}
 use mathlib.Core.Bool.{Bool, _&&_, false, true}
 use mathlib.Core.Logic.{inl, inr, ⊎-elim}
-use mathlib.Core.Path.{_∙_, _≡_, ap, refl, sym}
+use mathlib.Core.Path.{_∙_, _≡_, refl, sym}
 use native.Mathlib.Omega.{arith}
 use borrow.Author.Needs.{needs}
 use borrow.Author.Tests.{ltb-false, ltb-true}
