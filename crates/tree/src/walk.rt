@@ -137,7 +137,8 @@ fn judge_dots(
 }
 
 // The inside of a directory of that many entries whose sound chain begins with cluster `first`; directories may lie `below`
-// further down. A slot that leads nowhere hands the record to nobody, and there is one way out, so that few copies are made.
+// further down. A slot that leads nowhere hands the record to nobody, a chain is followed in the current word before the record
+// is handed on, and there is one way out, so that few copies are made.
 fn walk_dir(
     image: &[u8],
     table: &[u32],
