@@ -9,25 +9,25 @@ use borrow.Author.Tests.{leb-false, leb-true}
 use lib.ListN.{get_or, length, length-append}
 use Rattle.page.specs.declared.Format.{Format}
 use Rattle.layout.specs.declared.Superblock.{Superblock}
-use Rattle.layout.specs.See.{checkImage, see}
-use Rattle.layout.specs.Table.{openCard, table_of}
+use Rattle.layout.specs.See.{check_image, see}
+use Rattle.layout.specs.Table.{open_card, table_of}
 use Rattle.layout.proofs.OpenFacts.{open-facts, own-format}
 use Rattle.layout.proofs.TableLaws.{length-table}
 use Rattle.tree.specs.declared.along.Place.{Place}
 use Rattle.tree.specs.declared.along.Place.TheVariants as place
 use Rattle.lookup.proofs.SlotLaws.{dead-at, dead-nowhere, name-found, name-nowhere}
-use Rattle.model.specs.Bytes.{wordLimit}
-use Rattle.model.specs.Change.{Change, create, creates, directoryMode, makeDirectory, path, size}
+use Rattle.model.specs.Bytes.{word_limit}
+use Rattle.model.specs.Change.{Change, create, creates, directory_mode, make_directory, path, size}
 use Rattle.model.specs.Check.{Marks, ok}
-use Rattle.model.specs.Entry.{clustersFor, entryOf, isDirectory}
+use Rattle.model.specs.Entry.{clusters_for, entry_of, is_directory}
 use Rattle.model.specs.Holds.{HoldsCard, HoldsSlots}
-use Rattle.model.specs.Lookup.{Found, absent, found, isNamed, lookIn}
-use Rattle.model.specs.Names.{Path, dotName, lastName, parent}
-use Rattle.model.specs.Pages.{newPage}
-use Rattle.model.specs.Plan.{newEntry}
-use Rattle.model.specs.Refusal.{mustLack, own, static}
-use Rattle.model.specs.Tree.{Root, Slot, Tree, entryPages, reached, times}
-use Rattle.model.specs.View.{mostClusters, top_bit}
+use Rattle.model.specs.Lookup.{Found, absent, found, is_named, look_in}
+use Rattle.model.specs.Names.{Path, dot_name, last_name, parent}
+use Rattle.model.specs.Pages.{new_page}
+use Rattle.model.specs.Plan.{new_entry}
+use Rattle.model.specs.Refusal.{must_lack, own, static}
+use Rattle.model.specs.Tree.{Root, Slot, Tree, entry_pages, reached, times}
+use Rattle.model.specs.View.{most_clusters, top_bit}
 use Rattle.model.proofs.CheckHolds.{check-holds}
 use Rattle.model.proofs.CountLaws.{card-used}
 use Rattle.model.proofs.Equality.{tf}
@@ -36,10 +36,10 @@ use Rattle.model.proofs.PageBytes.{length-new}
 use Rattle.model.proofs.Sites as tree
 use Rattle.change.specs.declared.entries.EntryAt.{EntryAt}
 use Rattle.change.specs.declared.entries.NewEntry.{NewEntry}
-use Rattle.change.specs.Calls.{CanAdd, CanAddIn, added, addedIn, deadOf, dotsOf, enough, lockedAt, need_of, newOf, place_of, refusedBy, slots_of, unlessThere}
+use Rattle.change.specs.Calls.{CanAdd, CanAddIn, added, added_in, dead_of, dots_of, enough, locked_at, need_of, new_of, place_of, refused_by, slots_of, unless_there}
 use Rattle.change.specs.Changed.{changed}
-use Rattle.change.specs.Deeds.{entriesOf, last_of, numberBy}
-use Rattle.change.specs.Words.{freeList}
+use Rattle.change.specs.Deeds.{entries_of, last_of, number_by}
+use Rattle.change.specs.Words.{free_list}
 use Rattle.change.proofs.AddPlans.{DeadAt, slots-many}
 use Rattle.change.proofs.Added.{Adds, added-exists, added_full, added-locked, create-done, make-done}
 use Rattle.change.proofs.CallLaws.{picked}
@@ -50,23 +50,23 @@ use Rattle.change.proofs.FreeLaws as free
 use Rattle.change.proofs.SiteFacts.{last-is}
 use Rattle.change.proofs.Sites.{Site}
 
-module _ (format : Format) (image : List ℕ) (s : Superblock) (root : Root) (m : Marks) (checked : checkImage format image ≡ ok (s, root, m)) where
-  opened : openCard format image ≡ ok s
+module _ (format : Format) (image : List ℕ) (s : Superblock) (root : Root) (m : Marks) (checked : check_image format image ≡ ok (s, root, m)) where
+  opened : open_card format image ≡ ok s
   opened = (checked-parts format image s root m checked).0
 
   holds : HoldsCard (see s image) root
   holds = (check-holds (see s image) root m (checked-parts format image s root m checked).1).0
 
-  pub end-few : s.end ≤ mostClusters
+  pub end-few : s.end ≤ most_clusters
   end-few = let g = open-facts format image s opened in omega (arith, g.room, g.most)
 
-  free-few : length (freeList s (table_of image s)) ≤ mostClusters
+  free-few : length (free_list s (table_of image s)) ≤ most_clusters
   free-few = free.free-few format image (table_of image s) s opened (length-table image s)
 
   module _ (p : Path) (here : EntryAt) (site : Site (see s image) (table_of image s) root p here) where
     -- the chain's clusters are allocatable ones, each once
     chain-reached : (c : ℕ) → times site.chain c ≤ reached root c
-    chain-reached c = omega (arith, (tree.site (see s image) root holds (parent p) (entryOf here.page) site.chain site.slots site.found-so).own c)
+    chain-reached c = omega (arith, (tree.site (see s image) root holds (parent p) (entry_of here.page) site.chain site.slots site.found-so).own c)
 
     chain-low : (c : ℕ) → s.end ≤ c → times site.chain c ≡ 0
     chain-low c h = omega (arith, chain-reached c, card-used (see s image) root holds c (no_words format image s opened c (omega (arith, end_is format image s opened))))
@@ -74,7 +74,7 @@ module _ (format : Format) (image : List ℕ) (s : Superblock) (root : Root) (m 
     chain-few : length site.chain ≤ s.end
     chain-few = few s.end site.chain (λ c. omega (arith, chain-reached c, holds.once c)) chain-low
 
-    pub entries-few : entriesOf here ≤ 2 * mostClusters
+    pub entries-few : entries_of here ≤ 2 * most_clusters
     entries-few = omega (arith, site.long, chain-few, end-few)
 
     pub last-low : last_of (table_of image s) here < top_bit
@@ -93,49 +93,49 @@ module _ (format : Format) (image : List ℕ) (s : Superblock) (root : Root) (m 
     pub held-slots : HoldsSlots (see s image) site.below (slots_of (table_of image s) here) site.slots
     held-slots = rw site.pages at site.held
 
-    pub dead-so : DeadAt (entryPages (Slot.directory (entryOf here.page) site.chain)) site.slots (deadOf (see s image) (table_of image s) here)
-    dead-so = go (deadOf (see s image) (table_of image s) here) refl
+    pub dead-so : DeadAt (entry_pages (Slot.directory (entry_of here.page) site.chain)) site.slots (dead_of (see s image) (table_of image s) here)
+    dead-so = go (dead_of (see s image) (table_of image s) here) refl
       where
-        go : (d : Place) → deadOf (see s image) (table_of image s) here ≡ d → DeadAt (entryPages (Slot.directory (entryOf here.page) site.chain)) site.slots d
+        go : (d : Place) → dead_of (see s image) (table_of image s) here ≡ d → DeadAt (entry_pages (Slot.directory (entry_of here.page) site.chain)) site.slots d
         go place.Nowhere e = dead-nowhere (see s image) site.below (slots_of (table_of image s) here) site.slots held-slots e
         go (place.At k q) e =
             let z = dead-at (see s image) site.below (slots_of (table_of image s) here) site.slots held-slots k q e in
             (z.0, z.1, z.2 ∙ ap (λ l. get_or l k 0) (sym site.pages))
 
     -- the number of the new slot
-    numbered : numberBy (deadOf (see s image) (table_of image s) here) (entriesOf here) ≤ 2 * mostClusters
-    numbered = go (deadOf (see s image) (table_of image s) here) dead-so
+    numbered : number_by (dead_of (see s image) (table_of image s) here) (entries_of here) ≤ 2 * most_clusters
+    numbered = go (dead_of (see s image) (table_of image s) here) dead-so
       where
-        go : (d : Place) → DeadAt (entryPages (Slot.directory (entryOf here.page) site.chain)) site.slots d → numberBy d (entriesOf here) ≤ 2 * mostClusters
+        go : (d : Place) → DeadAt (entry_pages (Slot.directory (entry_of here.page) site.chain)) site.slots d → number_by d (entries_of here) ≤ 2 * most_clusters
         go place.Nowhere z = omega (arith, entries-few)
         go (place.At k q) z =
-            omega (arith, entries-few, z.1, site.two, slots-many (entryOf here.page) site.chain site.slots (see s image) site.below site.two site.long site.held)
+            omega (arith, entries-few, z.1, site.two, slots-many (entry_of here.page) site.chain site.slots (see s image) site.below site.two site.long site.held)
 
-    pub absent-so : place_of (see s image) (table_of image s) here (lastName p) ≡ place.Nowhere → lookIn site.slots (lastName p ∷ []) ≡ absent
-    absent-so lacks = name-nowhere (see s image) site.below (slots_of (table_of image s) here) site.slots held-slots (lastName p) lacks
+    pub absent-so : place_of (see s image) (table_of image s) here (last_name p) ≡ place.Nowhere → look_in site.slots (last_name p ∷ []) ≡ absent
+    absent-so lacks = name-nowhere (see s image) site.below (slots_of (table_of image s) here) site.slots held-slots (last_name p) lacks
 
-    there-11 : (h : Slot) (u : Tree) → isNamed h (lastName p) ≡ true → mustLack (found h u) ≡ 11
+    there-11 : (h : Slot) (u : Tree) → is_named h (last_name p) ≡ true → must_lack (found h u) ≡ 11
     there-11 Slot.dead u n = tf n refl
     there-11 (Slot.file e cs ds) u n = refl
     there-11 (Slot.directory e cs) u n = refl
 
-    exists-11 : (k q : ℕ) → place_of (see s image) (table_of image s) here (lastName p) ≡ place.At k q → mustLack (lookIn site.slots (lastName p ∷ [])) ≡ 11
+    exists-11 : (k q : ℕ) → place_of (see s image) (table_of image s) here (last_name p) ≡ place.At k q → must_lack (look_in site.slots (last_name p ∷ [])) ≡ 11
     exists-11 k q e =
-        let f = name-found (see s image) site.below (slots_of (table_of image s) here) site.slots held-slots (lastName p) k q e in
-        ap mustLack f.2 ∙ there-11 f.0 f.1 f.5
+        let f = name-found (see s image) site.below (slots_of (table_of image s) here) site.slots held-slots (last_name p) k q e in
+        ap must_lack f.2 ∙ there-11 f.0 f.1 f.5
 
   -- ---- a change that puts a new entry down, with what the model does of it where the name is absent, nothing locked and enough free
-  module _ (c : Change) (fine : static c ≡ 0) (creating : creates c ≡ true) (lacking : (g : Found) → own c g ≡ mustLack g) (here : EntryAt)
-      (site : Site (see s image) (table_of image s) root (path c) here) (new : NewEntry) (dead-is : new.dead ≡ deadOf (see s image) (table_of image s) here) (time bytes : List ℕ)
-      (many : size c ≡ clustersFor (length bytes)) (few_bytes : clustersFor (length bytes) ≤ mostClusters → new.count < wordLimit)
-      (does : lookIn site.slots (lastName (path c) ∷ []) ≡ absent → lockedAt here ≡ false → need_of here new.dead bytes ≤ length (freeList s (table_of image s)) → Adds format image s here c new time (lastName (path c)) bytes) where
-    at_dead : DeadAt (entryPages (Slot.directory (entryOf here.page) site.chain)) site.slots new.dead
+  module _ (c : Change) (fine : static c ≡ 0) (creating : creates c ≡ true) (lacking : (g : Found) → own c g ≡ must_lack g) (here : EntryAt)
+      (site : Site (see s image) (table_of image s) root (path c) here) (new : NewEntry) (dead-is : new.dead ≡ dead_of (see s image) (table_of image s) here) (time bytes : List ℕ)
+      (many : size c ≡ clusters_for (length bytes)) (few_bytes : clusters_for (length bytes) ≤ most_clusters → new.count < word_limit)
+      (does : look_in site.slots (last_name (path c) ∷ []) ≡ absent → locked_at here ≡ false → need_of here new.dead bytes ≤ length (free_list s (table_of image s)) → Adds format image s here c new time (last_name (path c)) bytes) where
+    at_dead : DeadAt (entry_pages (Slot.directory (entry_of here.page) site.chain)) site.slots new.dead
     at_dead = rw dead-is (dead-so (path c) here site)
 
-    room_for : enough s (table_of image s) (need_of here new.dead bytes) ≡ true → need_of here new.dead bytes ≤ length (freeList s (table_of image s))
-    room_for e = leb-true (need_of here new.dead bytes) (length (freeList s (table_of image s))) e
+    room_for : enough s (table_of image s) (need_of here new.dead bytes) ≡ true → need_of here new.dead bytes ≤ length (free_list s (table_of image s))
+    room_for e = leb-true (need_of here new.dead bytes) (length (free_list s (table_of image s))) e
 
-    pub can-add : place_of (see s image) (table_of image s) here (lastName (path c)) ≡ place.Nowhere → CanAdd s image (table_of image s) here new time (lastName (path c)) bytes
+    pub can-add : place_of (see s image) (table_of image s) here (last_name (path c)) ≡ place.Nowhere → CanAdd s image (table_of image s) here new time (last_name (path c)) bytes
     can-add lacks =
         record {
           card = record { opened = own-format format image s opened; long = length-table image s };
@@ -148,60 +148,60 @@ module _ (format : Format) (image : List ℕ) (s : Superblock) (root : Root) (m 
         }
 
     -- the name is absent: 16, 12, or done
-    judged : place_of (see s image) (table_of image s) here (lastName (path c)) ≡ place.Nowhere
-        → added s image (table_of image s) here new time (lastName (path c)) bytes ≡ changed format c image
+    judged : place_of (see s image) (table_of image s) here (last_name (path c)) ≡ place.Nowhere
+        → added s image (table_of image s) here new time (last_name (path c)) bytes ≡ changed format c image
     judged l =
-        picked (lockedAt here) (refusedBy 16 image) _
+        picked (locked_at here) (refused_by 16 image) _
         (λ o. sym (added-locked format image s root m checked c fine here site creating new.dead at_dead lacks (rw (gone, o))))
-        (λ o. picked (enough s (table_of image s) (need_of here new.dead bytes)) _ (refusedBy 12 image)
+        (λ o. picked (enough s (table_of image s) (need_of here new.dead bytes)) _ (refused_by 12 image)
         (λ e. sym (does gone o (room_for e)).done)
         (λ e. sym (added_full format image s root m checked c fine here site creating new.dead at_dead lacks (rw (gone, o))
-        (omega (arith, many, leb-false (need_of here new.dead bytes) (length (freeList s (table_of image s))) e)))))
+        (omega (arith, many, leb-false (need_of here new.dead bytes) (length (free_list s (table_of image s))) e)))))
       where
-        gone : lookIn site.slots (lastName (path c) ∷ []) ≡ absent
+        gone : look_in site.slots (last_name (path c) ∷ []) ≡ absent
         gone = absent-so (path c) here site l
 
-        lacks : own c (lookIn site.slots (lastName (path c) ∷ [])) ≡ 0
-        lacks = lacking _ ∙ ap mustLack gone
+        lacks : own c (look_in site.slots (last_name (path c) ∷ [])) ≡ 0
+        lacks = lacking _ ∙ ap must_lack gone
 
-    pub added-at : (x : Place) → place_of (see s image) (table_of image s) here (lastName (path c)) ≡ x
-        → unlessThere s image (table_of image s) x (added s image (table_of image s) here new time (lastName (path c)) bytes) ≡ changed format c image
+    pub added-at : (x : Place) → place_of (see s image) (table_of image s) here (last_name (path c)) ≡ x
+        → unless_there s image (table_of image s) x (added s image (table_of image s) here new time (last_name (path c)) bytes) ≡ changed format c image
     added-at place.Nowhere e = judged e
     added-at (place.At k q) e = sym (added-exists format image s root m checked c fine here site creating new.dead at_dead 10 (lacking _ ∙ exists-11 (path c) here site k q e))
 
   -- ---- the two creations
   module _ (p : Path) (here : EntryAt) (site : Site (see s image) (table_of image s) root p here) (time bytes : List ℕ) where
     abbrev dead : Place
-    dead = deadOf (see s image) (table_of image s) here
+    dead = dead_of (see s image) (table_of image s) here
 
     abbrev dots : List ℕ
-    dots = dotsOf here.first (numberBy (deadOf (see s image) (table_of image s) here) (entriesOf here)) time
+    dots = dots_of here.first (number_by (dead_of (see s image) (table_of image s) here) (entries_of here)) time
 
-    one : clustersFor (length dots) ≡ 1
-    one = ap clustersFor (length-append (newPage (newEntry directoryMode 0 here.first (numberBy dead (entriesOf here)) time dotName)) _ ∙ ap₂ (λ a b. a + b) (length-new _) (length-new _))
+    one : clusters_for (length dots) ≡ 1
+    one = ap clusters_for (length-append (new_page (new_entry directory_mode 0 here.first (number_by dead (entries_of here)) time dot_name)) _ ∙ ap₂ (λ a b. a + b) (length-new _) (length-new _))
 
-    pub can-create : static (create p time bytes) ≡ 0 → CanAddIn s image (table_of image s) here false (lastName p) time bytes
+    pub can-create : static (create p time bytes) ≡ 0 → CanAddIn s image (table_of image s) here false (last_name p) time bytes
     can-create fine directory lacks =
-        can-add (create p time bytes) fine refl (λ g. refl) here site (newOf false bytes dead) refl time bytes refl (λ few. omega arith)
+        can-add (create p time bytes) fine refl (λ g. refl) here site (new_of false bytes dead) refl time bytes refl (λ few. omega arith)
         (λ l o room. create-done format image s root m checked p time here site dead (dead-so p here site) l o bytes fine room) lacks
 
-    pub created-here : isDirectory (entryOf here.page) ≡ true → static (create p time bytes) ≡ 0
-        → addedIn s image (table_of image s) here false (lastName p) time bytes ≡ changed format (create p time bytes) image
-    unfolding addedIn
+    pub created-here : is_directory (entry_of here.page) ≡ true → static (create p time bytes) ≡ 0
+        → added_in s image (table_of image s) here false (last_name p) time bytes ≡ changed format (create p time bytes) image
+    unfolding added_in
     created-here directory fine =
         rw directory
-        (added-at (create p time bytes) fine refl (λ g. refl) here site (newOf false bytes dead) refl time bytes refl (λ few. omega arith)
-        (λ l o room. create-done format image s root m checked p time here site dead (dead-so p here site) l o bytes fine room) (place_of (see s image) (table_of image s) here (lastName p)) refl)
+        (added-at (create p time bytes) fine refl (λ g. refl) here site (new_of false bytes dead) refl time bytes refl (λ few. omega arith)
+        (λ l o room. create-done format image s root m checked p time here site dead (dead-so p here site) l o bytes fine room) (place_of (see s image) (table_of image s) here (last_name p)) refl)
 
-    pub can-make : static (makeDirectory p time) ≡ 0 → CanAddIn s image (table_of image s) here true (lastName p) time bytes
+    pub can-make : static (make_directory p time) ≡ 0 → CanAddIn s image (table_of image s) here true (last_name p) time bytes
     can-make fine directory lacks =
-        can-add (makeDirectory p time) fine refl (λ g. refl) here site (newOf true bytes dead) refl time dots (sym one) (λ few. omega arith)
+        can-add (make_directory p time) fine refl (λ g. refl) here site (new_of true bytes dead) refl time dots (sym one) (λ few. omega arith)
         (λ l o room. make-done format image s root m checked p time here site dead (dead-so p here site) l o bytes fine room) lacks
 
-    pub made-here : isDirectory (entryOf here.page) ≡ true → static (makeDirectory p time) ≡ 0
-        → addedIn s image (table_of image s) here true (lastName p) time bytes ≡ changed format (makeDirectory p time) image
-    unfolding addedIn
+    pub made-here : is_directory (entry_of here.page) ≡ true → static (make_directory p time) ≡ 0
+        → added_in s image (table_of image s) here true (last_name p) time bytes ≡ changed format (make_directory p time) image
+    unfolding added_in
     made-here directory fine =
         rw directory
-        (added-at (makeDirectory p time) fine refl (λ g. refl) here site (newOf true bytes dead) refl time dots (sym one) (λ few. omega arith)
-        (λ l o room. make-done format image s root m checked p time here site dead (dead-so p here site) l o bytes fine room) (place_of (see s image) (table_of image s) here (lastName p)) refl)
+        (added-at (make_directory p time) fine refl (λ g. refl) here site (new_of true bytes dead) refl time dots (sym one) (λ few. omega arith)
+        (λ l o room. make-done format image s root m checked p time here site dead (dead-so p here site) l o bytes fine room) (place_of (see s image) (table_of image s) here (last_name p)) refl)

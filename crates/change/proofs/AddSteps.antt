@@ -9,29 +9,29 @@ use lib.ListN.{drop, length, length-drop, length-take, take}
 use lib.Seq.{length-take-le}
 use Rattle.layout.specs.declared.Superblock.{Superblock}
 use Rattle.tree.specs.declared.along.Place.{Place}
-use Rattle.model.specs.Entry.{clustersFor, entryOf}
-use Rattle.model.specs.Pages.{alteredPage, newPage}
-use Rattle.model.specs.Plan.{first_of, newEntry, withLength}
-use Rattle.tree.specs.Slots.{clusterAt}
+use Rattle.model.specs.Entry.{clusters_for, entry_of}
+use Rattle.model.specs.Pages.{altered_page, new_page}
+use Rattle.model.specs.Plan.{first_of, new_entry, with_length}
+use Rattle.tree.specs.Slots.{cluster_at}
 use Rattle.change.specs.declared.entries.EntryAt.{EntryAt}
 use Rattle.change.specs.declared.entries.NewEntry.{NewEntry}
-use Rattle.change.specs.Calls.{added, addedImage, doneWith, enough, lockedAt, need_of, refusedBy}
-use Rattle.change.specs.Deeds.{Listed, addedTable, addedWrites, entriesOf, growthBy, growthOf, last_of, lengthBy, pageBy, relinked, taken_of, writes_of}
+use Rattle.change.specs.Calls.{added, added_image, done_with, enough, locked_at, need_of, refused_by}
+use Rattle.change.specs.Deeds.{Listed, added_table, added_writes, entries_of, growth_by, growth_of, last_of, length_by, page_by, relinked, taken_of, writes_of}
 use Rattle.change.specs.Image.{Lands}
-use Rattle.change.specs.Words.{freeList}
+use Rattle.change.specs.Words.{free_list}
 use Rattle.change.proofs.FreeLaws.{growth-small}
 
 -- what is counted: the directory's entries, the clusters of its growth and of the entry itself, and enough free ones in a list
 pub record Counted (s : Superblock) (table list bytes : List ℕ) (directory : EntryAt) (dead : Place) (entries growing own : ℕ) : Type 0 where
-  pub entries-are : entries ≡ entriesOf directory
-  pub growing-is : growing ≡ growthBy dead entries
-  pub own_is : own ≡ clustersFor (length bytes)
+  pub entries-are : entries ≡ entries_of directory
+  pub growing-is : growing ≡ growth_by dead entries
+  pub own_is : own ≡ clusters_for (length bytes)
   pub free : Listed s table list (need_of directory dead bytes)
 
 module _ {s : Superblock} {table list bytes : List ℕ} {directory : EntryAt} {dead : Place} {entries growing own : ℕ} (counted : Counted s table list bytes directory dead entries growing own) where
   -- ---- the clusters: a directory's growth first, then the entry's own
-  growing-by : growing ≡ growthBy dead (entriesOf directory)
-  growing-by = counted.growing-is ∙ ap (growthBy dead) counted.entries-are
+  growing-by : growing ≡ growth_by dead (entries_of directory)
+  growing-by = counted.growing-is ∙ ap (growth_by dead) counted.entries-are
 
   pub both-fit : growing + own ≤ length list
   both-fit = omega (arith, growing-by, counted.own_is, counted.free.room)
@@ -45,12 +45,12 @@ module _ {s : Superblock} {table list bytes : List ℕ} {directory : EntryAt} {d
   own_alone : growing + own - growing ≡ own
   own_alone = omega arith
 
-  pub own-long : length (take (growing + own - growing) (drop growing list)) ≡ clustersFor (length bytes)
+  pub own-long : length (take (growing + own - growing) (drop growing list)) ≡ clusters_for (length bytes)
   own-long =
       let left : length (drop growing list) ≡ length list - growing = length-drop growing list in
       ap (λ n. length (take n (drop growing list))) own_alone ∙ length-take-le own (drop growing list) (omega (arith, both-fit)) ∙ counted.own_is
 
-  growth-so : take growing list ≡ growthOf s table directory dead
+  growth-so : take growing list ≡ growth_of s table directory dead
   growth-so = ap₂ take growing-by counted.free.listed
 
   taken-so : take (growing + own - growing) (drop growing list) ≡ taken_of s table directory dead bytes
@@ -60,40 +60,40 @@ module _ {s : Superblock} {table list bytes : List ℕ} {directory : EntryAt} {d
   room-so = le-leb _ _ (rw counted.free.listed at counted.free.room)
 
   -- ---- the words
-  module _ {last : ℕ} (last-is : last ≡ clusterAt table directory.first (entries - 1)) where
+  module _ {last : ℕ} (last-is : last ≡ cluster_at table directory.first (entries - 1)) where
     pub last-by : last ≡ last_of table directory
-    last-by = last-is ∙ ap (λ n. clusterAt table directory.first (n - 1)) counted.entries-are
+    last-by = last-is ∙ ap (λ n. cluster_at table directory.first (n - 1)) counted.entries-are
 
-    pub words-so : {after : List ℕ} → after ≡ relinked 0 0 (take (growing + own - growing) (drop growing list)) last (take growing list) table → after ≡ addedTable s table directory dead bytes
+    pub words-so : {after : List ℕ} → after ≡ relinked 0 0 (take (growing + own - growing) (drop growing list)) last (take growing list) table → after ≡ added_table s table directory dead bytes
     words-so e = e ∙ rw (taken-so, growth-so, last-by)
 
     -- ---- the pages
     module _ (mode count : ℕ) (time name : List ℕ) {slot start long : ℕ} {page longer : List ℕ}
-        (slot_is : slot ≡ pageBy dead last (take growing list)) (start_is : start ≡ first_of (take (growing + own - growing) (drop growing list)))
-        (page-is : page ≡ newPage (newEntry mode count start 0 time name)) (long-is : long ≡ lengthBy dead entries)
-        (longer-is : longer ≡ alteredPage directory.page (withLength (entryOf directory.page) long)) where
+        (slot_is : slot ≡ page_by dead last (take growing list)) (start_is : start ≡ first_of (take (growing + own - growing) (drop growing list)))
+        (page-is : page ≡ new_page (new_entry mode count start 0 time name)) (long-is : long ≡ length_by dead entries)
+        (longer-is : longer ≡ altered_page directory.page (with_length (entry_of directory.page) long)) where
       pub writes-so : writes_of (take growing list) (take (growing + own - growing) (drop growing list)) bytes
           (record { always = false; page = directory.at; bytes = longer }) (record { always = true; page = slot; bytes = page })
-          ≡ addedWrites s table directory (record { mode = mode; count = count; dead = dead }) time name bytes
+          ≡ added_writes s table directory (record { mode = mode; count = count; dead = dead }) time name bytes
       writes-so = rw (longer-is, page-is, slot_is, start_is, long-is, counted.entries-are, taken-so, growth-so, last-by)
 
-      pub lands-so : (end : ℕ) → Lands end (addedWrites s table directory (record { mode = mode; count = count; dead = dead }) time name bytes)
+      pub lands-so : (end : ℕ) → Lands end (added_writes s table directory (record { mode = mode; count = count; dead = dead }) time name bytes)
           → Lands end (writes_of (take growing list) (take (growing + own - growing) (drop growing list)) bytes
           (record { always = false; page = directory.at; bytes = longer }) (record { always = true; page = slot; bytes = page }))
       lands-so end h = subst (Lands end) (sym writes-so) h
 
 -- ---- judged by the directory's lock and against what is free
-pub need-so : (directory : EntryAt) (dead : Place) (bytes : List ℕ) {entries growing own : ℕ} → own ≡ clustersFor (length bytes) → entries ≡ entriesOf directory → growing ≡ growthBy dead entries
+pub need-so : (directory : EntryAt) (dead : Place) (bytes : List ℕ) {entries growing own : ℕ} → own ≡ clusters_for (length bytes) → entries ≡ entries_of directory → growing ≡ growth_by dead entries
     → own + growing ≡ need_of directory dead bytes
-need-so directory dead bytes o e g = ap₂ (λ a b. a + b) o (g ∙ ap (growthBy dead) e)
+need-so directory dead bytes o e g = ap₂ (λ a b. a + b) o (g ∙ ap (growth_by dead) e)
 
 module _ (s : Superblock) (image table : List ℕ) (directory : EntryAt) (new : NewEntry) (time name bytes : List ℕ) where
-  pub added-locked : lockedAt directory ≡ true → added s image table directory new time name bytes ≡ refusedBy 16 image
+  pub added-locked : locked_at directory ≡ true → added s image table directory new time name bytes ≡ refused_by 16 image
   added-locked l = rw l
 
-  pub added_full : lockedAt directory ≡ false → length (freeList s table) < need_of directory new.dead bytes → added s image table directory new time name bytes ≡ refusedBy 12 image
-  added_full o h = rw (o, lt-leb (need_of directory new.dead bytes) (length (freeList s table)) h)
+  pub added_full : locked_at directory ≡ false → length (free_list s table) < need_of directory new.dead bytes → added s image table directory new time name bytes ≡ refused_by 12 image
+  added_full o h = rw (o, lt-leb (need_of directory new.dead bytes) (length (free_list s table)) h)
 
-  pub added-done : {after : List ℕ} → lockedAt directory ≡ false → need_of directory new.dead bytes ≤ length (freeList s table) → after ≡ addedImage s image table directory new time name bytes
-      → added s image table directory new time name bytes ≡ doneWith after
-  added-done o h e = rw (o, le-leb (need_of directory new.dead bytes) (length (freeList s table)) h) (ap doneWith (sym e))
+  pub added-done : {after : List ℕ} → locked_at directory ≡ false → need_of directory new.dead bytes ≤ length (free_list s table) → after ≡ added_image s image table directory new time name bytes
+      → added s image table directory new time name bytes ≡ done_with after
+  added-done o h e = rw (o, le-leb (need_of directory new.dead bytes) (length (free_list s table)) h) (ap done_with (sym e))

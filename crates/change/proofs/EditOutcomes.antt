@@ -10,7 +10,7 @@ use lib.Dec.{eqb, leb→le}
 use lib.ListN.{get_or, length}
 use Rattle.page.specs.declared.Format.{Format}
 use Rattle.layout.specs.declared.Superblock.{Superblock}
-use Rattle.layout.specs.See.{checkImage, see}
+use Rattle.layout.specs.See.{check_image, see}
 use Rattle.layout.specs.Table.{table_of}
 use Rattle.layout.proofs.OpenFacts.{own-format}
 use Rattle.layout.proofs.TableLaws.{length-table}
@@ -21,29 +21,29 @@ use Rattle.lookup.specs.declared.way.Arrived.{Arrived}
 use Rattle.lookup.specs.Descend.{entered, nowhere}
 use Rattle.lookup.proofs.SlotLaws.{live_at, live-nowhere, name-at, name-found, name-nowhere}
 use Rattle.model.specs.Bytes.{word}
-use Rattle.model.specs.Change.{Change, creates, delete, path, removeDirectory, replace}
+use Rattle.model.specs.Change.{Change, creates, delete, path, remove_directory, replace}
 use Rattle.model.specs.Check.{Marks, ok}
-use Rattle.model.specs.Entry.{Entry, clustersFor, entryOf, isDirectory}
+use Rattle.model.specs.Entry.{Entry, clusters_for, entry_of, is_directory}
 use Rattle.model.specs.Holds.{HoldsSlot, HoldsSlots}
-use Rattle.model.specs.Lookup.{absent, index_of, lookIn}
-use Rattle.model.specs.Names.{Path, goodName, lastName}
+use Rattle.model.specs.Lookup.{absent, index_of, look_in}
+use Rattle.model.specs.Names.{Path, good_name, last_name}
 use Rattle.model.specs.Pages.{decoded}
 use Rattle.model.specs.Refusal.{own, static}
-use Rattle.model.specs.Tree.{Root, Slot, deadSlots, entryPages, slotCount}
+use Rattle.model.specs.Tree.{Root, Slot, dead_slots, entry_pages, slot_count}
 use Rattle.model.specs.View.{View}
 use Rattle.model.proofs.Equality.{and_r, to-T}
 use Rattle.tree.proofs.ChainPages.{directory-pages}
 use Rattle.change.specs.declared.editing.Action.{Action}
 use Rattle.change.specs.declared.editing.Action.TheVariants as action
 use Rattle.change.specs.declared.entries.EntryAt.{EntryAt}
-use Rattle.change.specs.Calls.{CanEdit, CanEditIn, EditLands, doneWith, edited, editedIn, eitherLocked, enough, live_of, on_entry, pickOutcome, place_of, refusedBy, removedImage, replacedImage, slots_of, unlessLive, unlessLocked}
+use Rattle.change.specs.Calls.{CanEdit, CanEditIn, EditLands, done_with, edited, edited_in, either_locked, enough, live_of, on_entry, pick_outcome, place_of, refused_by, removed_image, replaced_image, slots_of, unless_live, unless_locked}
 use Rattle.change.specs.Changed.{changed}
-use Rattle.change.specs.Words.{freeList}
+use Rattle.change.specs.Words.{free_list}
 use Rattle.change.proofs.AddOutcomes.{held-slots}
 use Rattle.change.proofs.CallLaws.{picked}
 use Rattle.change.proofs.ChangedLaws.{checked-parts}
 use Rattle.change.proofs.Edited.{IsDirectory, There, delete-done, directory-here, edit-full, edit-refused, file-here, remove-done, replace-done, unless-locked}
-use Rattle.change.proofs.Sites.{Site, entryIn}
+use Rattle.change.proofs.Sites.{Site, entry_in}
 
 -- a page that an entry is read from
 page-there : (o : Option (List ℕ)) (e : Entry) → decoded o ≡ some e → (page : List ℕ) × (o ≡ some page)
@@ -55,32 +55,32 @@ slot-entry v below q Slot.dead x = (x.0, x.1)
 slot-entry v below q (Slot.file e cs ds) x = (e, x.0)
 slot-entry v below q (Slot.directory e cs) x = (e, x.0)
 
-module _ (format : Format) (image : List ℕ) (s : Superblock) (root : Root) (m : Marks) (checked : checkImage format image ≡ ok (s, root, m)) (p : Path) (here : EntryAt)
-    (site : Site (see s image) (table_of image s) root p here) (directory : isDirectory (entryOf here.page) ≡ true) where
+module _ (format : Format) (image : List ℕ) (s : Superblock) (root : Root) (m : Marks) (checked : check_image format image ≡ ok (s, root, m)) (p : Path) (here : EntryAt)
+    (site : Site (see s image) (table_of image s) root p here) (directory : is_directory (entry_of here.page) ≡ true) where
   -- the name is not there
-  absent-so : place_of (see s image) (table_of image s) here (lastName p) ≡ place.Nowhere → lookIn site.slots (lastName p ∷ []) ≡ absent
-  absent-so e = name-nowhere (see s image) site.below (slots_of (table_of image s) here) site.slots (held-slots format image s root m checked p here site) (lastName p) e
+  absent-so : place_of (see s image) (table_of image s) here (last_name p) ≡ place.Nowhere → look_in site.slots (last_name p ∷ []) ≡ absent
+  absent-so e = name-nowhere (see s image) site.below (slots_of (table_of image s) here) site.slots (held-slots format image s root m checked p here site) (last_name p) e
 
-  arrived-nowhere : place_of (see s image) (table_of image s) here (lastName p) ≡ place.Nowhere → entered (see s image) (table_of image s) here.first here.page (lastName p) ≡ nowhere arrival.Absent
+  arrived-nowhere : place_of (see s image) (table_of image s) here (last_name p) ≡ place.Nowhere → entered (see s image) (table_of image s) here.first here.page (last_name p) ≡ nowhere arrival.Absent
   unfolding entered
   arrived-nowhere e = rw (directory, e)
 
-  arrived-at : (k q : ℕ) (entry : List ℕ) → place_of (see s image) (table_of image s) here (lastName p) ≡ place.At k q → (see s image).page q ≡ some entry
-      → entered (see s image) (table_of image s) here.first here.page (lastName p) ≡ record { arrival = arrival.At (word entry 0x10); at = q; page = entry }
+  arrived-at : (k q : ℕ) (entry : List ℕ) → place_of (see s image) (table_of image s) here (last_name p) ≡ place.At k q → (see s image).page q ≡ some entry
+      → entered (see s image) (table_of image s) here.first here.page (last_name p) ≡ record { arrival = arrival.At (word entry 0x10); at = q; page = entry }
   unfolding entered
   arrived-at k q entry e r = rw (directory, e, r)
 
   -- the name is there
   pub record Stands (q : ℕ) : Type 0 where
     pub entry : List ℕ
-    pub there : There image s site.below (entryPages (Slot.directory (entryOf here.page) site.chain)) site.slots (lastName p) q entry
-    pub arrives : entered (see s image) (table_of image s) here.first here.page (lastName p) ≡ record { arrival = arrival.At (word entry 0x10); at = q; page = entry }
+    pub there : There image s site.below (entry_pages (Slot.directory (entry_of here.page) site.chain)) site.slots (last_name p) q entry
+    pub arrives : entered (see s image) (table_of image s) here.first here.page (last_name p) ≡ record { arrival = arrival.At (word entry 0x10); at = q; page = entry }
 
-  stands : (k q : ℕ) → place_of (see s image) (table_of image s) here (lastName p) ≡ place.At k q → Stands q
+  stands : (k q : ℕ) → place_of (see s image) (table_of image s) here (last_name p) ≡ place.At k q → Stands q
   stands k q e =
       let held = held-slots format image s root m checked p here site in
-      let f = name-found (see s image) site.below (slots_of (table_of image s) here) site.slots held (lastName p) k q e in
-      let n = name-at (see s image) site.below (slots_of (table_of image s) here) site.slots held (lastName p) k q e in
+      let f = name-found (see s image) site.below (slots_of (table_of image s) here) site.slots held (last_name p) k q e in
+      let n = name-at (see s image) site.below (slots_of (table_of image s) here) site.slots held (last_name p) k q e in
       let x = slot-entry (see s image) site.below q f.0 f.3 in
       let y = page-there ((see s image).page q) x.0 x.1 in
       record {
@@ -91,7 +91,7 @@ module _ (format : Format) (image : List ℕ) (s : Superblock) (root : Root) (m 
               inside = f.1;
               found-so = f.2;
               named = f.5;
-              placed = n.1 ∙ ap (λ i. get_or (slots_of (table_of image s) here) i 0) (sym n.0) ∙ ap (λ l. get_or l (index_of (lastName p) site.slots) 0) (sym site.pages);
+              placed = n.1 ∙ ap (λ i. get_or (slots_of (table_of image s) here) i 0) (sym n.0) ∙ ap (λ l. get_or l (index_of (last_name p) site.slots) 0) (sym site.pages);
               read = y.1;
               held = f.3;
               within = f.4;
@@ -101,97 +101,97 @@ module _ (format : Format) (image : List ℕ) (s : Superblock) (root : Root) (m 
 
   -- ---- the outcomes of an entry that stands
 
-  replaced-at : (time bytes : List ℕ) → static (replace p time bytes) ≡ 0 → (q : ℕ) (x : Stands q) → (b : Bool) → isDirectory (entryOf x.entry) ≡ b
-      → pickOutcome b (refusedBy 10 image)
-      (unlessLocked s image (table_of image s) (eitherLocked here (entryIn q x.entry))
-      (pickOutcome (enough s (table_of image s) (clustersFor (length bytes))) (doneWith (replacedImage s image (table_of image s) here (entryIn q x.entry) time bytes)) (refusedBy 12 image)))
+  replaced-at : (time bytes : List ℕ) → static (replace p time bytes) ≡ 0 → (q : ℕ) (x : Stands q) → (b : Bool) → is_directory (entry_of x.entry) ≡ b
+      → pick_outcome b (refused_by 10 image)
+      (unless_locked s image (table_of image s) (either_locked here (entry_in q x.entry))
+      (pick_outcome (enough s (table_of image s) (clusters_for (length bytes))) (done_with (replaced_image s image (table_of image s) here (entry_in q x.entry) time bytes)) (refused_by 12 image)))
       ≡ changed format (replace p time bytes) image
   replaced-at time bytes fine q x true e =
       let d = directory-here format image s root m checked p here site q x.entry x.there e in
       sym (edit-refused format image s root m checked (replace p time bytes) fine refl here site 9 (rw d.found-directory))
   replaced-at time bytes fine q x false e =
       let f = file-here format image s root m checked p here site q x.entry x.there e in
-      let free = length (freeList s (table_of image s)) in
-      unless-locked format image s root m checked (replace p time bytes) fine refl here site (entryIn q x.entry) (rw f.found-file) (rw f.found-file) _
-      (λ o. picked (enough s (table_of image s) (clustersFor (length bytes))) _ (refusedBy 12 image)
-      (λ h. sym (replace-done format image s root m checked p here site q x.entry x.there time bytes fine f o (leb-true (clustersFor (length bytes)) free h)).done)
-      (λ h. sym (edit-full format image s root m checked (replace p time bytes) fine refl here site (rw f.found-file) (rw f.found-file o) (leb-false (clustersFor (length bytes)) free h))))
+      let free = length (free_list s (table_of image s)) in
+      unless-locked format image s root m checked (replace p time bytes) fine refl here site (entry_in q x.entry) (rw f.found-file) (rw f.found-file) _
+      (λ o. picked (enough s (table_of image s) (clusters_for (length bytes))) _ (refused_by 12 image)
+      (λ h. sym (replace-done format image s root m checked p here site q x.entry x.there time bytes fine f o (leb-true (clusters_for (length bytes)) free h)).done)
+      (λ h. sym (edit-full format image s root m checked (replace p time bytes) fine refl here site (rw f.found-file) (rw f.found-file o) (leb-false (clusters_for (length bytes)) free h))))
 
-  deleted-at : static (delete p) ≡ 0 → (q : ℕ) (x : Stands q) → (b : Bool) → isDirectory (entryOf x.entry) ≡ b
-      → pickOutcome b (refusedBy 10 image)
-      (unlessLocked s image (table_of image s) (eitherLocked here (entryIn q x.entry)) (doneWith (removedImage s image (table_of image s) here (entryIn q x.entry) (clustersFor (word x.entry 4)))))
+  deleted-at : static (delete p) ≡ 0 → (q : ℕ) (x : Stands q) → (b : Bool) → is_directory (entry_of x.entry) ≡ b
+      → pick_outcome b (refused_by 10 image)
+      (unless_locked s image (table_of image s) (either_locked here (entry_in q x.entry)) (done_with (removed_image s image (table_of image s) here (entry_in q x.entry) (clusters_for (word x.entry 4)))))
       ≡ changed format (delete p) image
   deleted-at fine q x true e =
       let d = directory-here format image s root m checked p here site q x.entry x.there e in
       sym (edit-refused format image s root m checked (delete p) fine refl here site 9 (rw d.found-directory))
   deleted-at fine q x false e =
       let f = file-here format image s root m checked p here site q x.entry x.there e in
-      unless-locked format image s root m checked (delete p) fine refl here site (entryIn q x.entry) (rw f.found-file) (rw f.found-file) _
+      unless-locked format image s root m checked (delete p) fine refl here site (entry_in q x.entry) (rw f.found-file) (rw f.found-file) _
       (λ o. sym (delete-done format image s root m checked p here site q x.entry x.there fine f o).done)
 
   -- the slots of a directory that is to go are those that the code scans
-  inside-held : (q : ℕ) (entry : List ℕ) (there : There image s site.below (entryPages (Slot.directory (entryOf here.page) site.chain)) site.slots (lastName p) q entry)
-      → IsDirectory format image s root m checked p here site q entry there → HoldsSlots (see s image) (pred site.below) (slots_of (table_of image s) (entryIn q entry)) there.inside
+  inside-held : (q : ℕ) (entry : List ℕ) (there : There image s site.below (entry_pages (Slot.directory (entry_of here.page) site.chain)) site.slots (last_name p) q entry)
+      → IsDirectory format image s root m checked p here site q entry there → HoldsSlots (see s image) (pred site.below) (slots_of (table_of image s) (entry_in q entry)) there.inside
   inside-held q entry there d =
-      let two : 2 ≤ word entry 4 = leb→le 2 _ (to-T (and_r (isDirectory (entryOf entry) && goodName (entryOf entry).name) _ d.subdirectory)) in
+      let two : 2 ≤ word entry 4 = leb→le 2 _ (to-T (and_r (is_directory (entry_of entry) && good_name (entry_of entry).name) _ d.subdirectory)) in
       let z = directory-pages (see s image) (table_of image s) (λ c. refl) (word entry 0x10) d.given d.linked (word entry 4) two d.many in
       rw z.2 at d.held
 
-  removed-at : static (removeDirectory p) ≡ 0 → (q : ℕ) (x : Stands q) → (b : Bool) → isDirectory (entryOf x.entry) ≡ b
-      → pickOutcome b
-      (unlessLive s image (table_of image s) (live_of (see s image) (table_of image s) (entryIn q x.entry))
-      (unlessLocked s image (table_of image s) (eitherLocked here (entryIn q x.entry))
-      (doneWith (removedImage s image (table_of image s) here (entryIn q x.entry) ((word x.entry 4 + 1) / 2))))) (refusedBy 10 image)
-      ≡ changed format (removeDirectory p) image
+  removed-at : static (remove_directory p) ≡ 0 → (q : ℕ) (x : Stands q) → (b : Bool) → is_directory (entry_of x.entry) ≡ b
+      → pick_outcome b
+      (unless_live s image (table_of image s) (live_of (see s image) (table_of image s) (entry_in q x.entry))
+      (unless_locked s image (table_of image s) (either_locked here (entry_in q x.entry))
+      (done_with (removed_image s image (table_of image s) here (entry_in q x.entry) ((word x.entry 4 + 1) / 2))))) (refused_by 10 image)
+      ≡ changed format (remove_directory p) image
   removed-at fine q x false e =
       let f = file-here format image s root m checked p here site q x.entry x.there e in
-      sym (edit-refused format image s root m checked (removeDirectory p) fine refl here site 9 (rw f.found-file))
-  removed-at fine q x true e = go (live_of (see s image) (table_of image s) (entryIn q x.entry)) refl
+      sym (edit-refused format image s root m checked (remove_directory p) fine refl here site 9 (rw f.found-file))
+  removed-at fine q x true e = go (live_of (see s image) (table_of image s) (entry_in q x.entry)) refl
     where
       d : IsDirectory format image s root m checked p here site q x.entry x.there
       d = directory-here format image s root m checked p here site q x.entry x.there e
 
-      full : (i j : ℕ) → live_of (see s image) (table_of image s) (entryIn q x.entry) ≡ place.At i j → eqb (slotCount x.there.inside) (deadSlots x.there.inside) ≡ false
-      full i j h = ne_eqb _ _ (live_at (see s image) (pred site.below) (slots_of (table_of image s) (entryIn q x.entry)) x.there.inside (inside-held q x.entry x.there d) i j h)
+      full : (i j : ℕ) → live_of (see s image) (table_of image s) (entry_in q x.entry) ≡ place.At i j → eqb (slot_count x.there.inside) (dead_slots x.there.inside) ≡ false
+      full i j h = ne_eqb _ _ (live_at (see s image) (pred site.below) (slots_of (table_of image s) (entry_in q x.entry)) x.there.inside (inside-held q x.entry x.there d) i j h)
 
-      go : (z : Place) → live_of (see s image) (table_of image s) (entryIn q x.entry) ≡ z
-          → unlessLive s image (table_of image s) z
-          (unlessLocked s image (table_of image s) (eitherLocked here (entryIn q x.entry)) (doneWith (removedImage s image (table_of image s) here (entryIn q x.entry) ((word x.entry 4 + 1) / 2))))
-          ≡ changed format (removeDirectory p) image
+      go : (z : Place) → live_of (see s image) (table_of image s) (entry_in q x.entry) ≡ z
+          → unless_live s image (table_of image s) z
+          (unless_locked s image (table_of image s) (either_locked here (entry_in q x.entry)) (done_with (removed_image s image (table_of image s) here (entry_in q x.entry) ((word x.entry 4 + 1) / 2))))
+          ≡ changed format (remove_directory p) image
       go place.Nowhere h =
-          let empty = live-nowhere (see s image) (pred site.below) (slots_of (table_of image s) (entryIn q x.entry)) x.there.inside (inside-held q x.entry x.there d) h in
-          unless-locked format image s root m checked (removeDirectory p) fine refl here site (entryIn q x.entry) (rw (d.found-directory, eq-eqb _ _ empty)) (rw d.found-directory) _
+          let empty = live-nowhere (see s image) (pred site.below) (slots_of (table_of image s) (entry_in q x.entry)) x.there.inside (inside-held q x.entry x.there d) h in
+          unless-locked format image s root m checked (remove_directory p) fine refl here site (entry_in q x.entry) (rw (d.found-directory, eq-eqb _ _ empty)) (rw d.found-directory) _
           (λ o. sym (remove-done format image s root m checked p here site q x.entry x.there fine d empty o).done)
-      go (place.At i j) h = sym (edit-refused format image s root m checked (removeDirectory p) fine refl here site 12 (rw (d.found-directory, full i j h)))
+      go (place.At i j) h = sym (edit-refused format image s root m checked (remove_directory p) fine refl here site 12 (rw (d.found-directory, full i j h)))
 
   -- ---- what is known of an entry before it is replaced or removed: its pages land
 
-  replace-lands : (time bytes : List ℕ) → static (replace p time bytes) ≡ 0 → (q : ℕ) (x : Stands q) → EditLands s image (table_of image s) action.Replace here time bytes (entryIn q x.entry)
+  replace-lands : (time bytes : List ℕ) → static (replace p time bytes) ≡ 0 → (q : ℕ) (x : Stands q) → EditLands s image (table_of image s) action.Replace here time bytes (entry_in q x.entry)
   replace-lands time bytes fine q x kind unlocked room =
       (replace-done format image s root m checked p here site q x.entry x.there time bytes fine
-      (file-here format image s root m checked p here site q x.entry x.there kind) unlocked (leb-true (clustersFor (length bytes)) (length (freeList s (table_of image s))) room)).lands
+      (file-here format image s root m checked p here site q x.entry x.there kind) unlocked (leb-true (clusters_for (length bytes)) (length (free_list s (table_of image s))) room)).lands
 
-  delete-lands : (time bytes : List ℕ) → static (delete p) ≡ 0 → (q : ℕ) (x : Stands q) → EditLands s image (table_of image s) action.Delete here time bytes (entryIn q x.entry)
+  delete-lands : (time bytes : List ℕ) → static (delete p) ≡ 0 → (q : ℕ) (x : Stands q) → EditLands s image (table_of image s) action.Delete here time bytes (entry_in q x.entry)
   delete-lands time bytes fine q x kind unlocked =
       (delete-done format image s root m checked p here site q x.entry x.there fine (file-here format image s root m checked p here site q x.entry x.there kind) unlocked).lands
 
-  remove-lands : (time bytes : List ℕ) → static (removeDirectory p) ≡ 0 → (q : ℕ) (x : Stands q) → EditLands s image (table_of image s) action.Remove here time bytes (entryIn q x.entry)
+  remove-lands : (time bytes : List ℕ) → static (remove_directory p) ≡ 0 → (q : ℕ) (x : Stands q) → EditLands s image (table_of image s) action.Remove here time bytes (entry_in q x.entry)
   remove-lands time bytes fine q x kind empty unlocked =
       let d = directory-here format image s root m checked p here site q x.entry x.there kind in
       (remove-done format image s root m checked p here site q x.entry x.there fine d
-      (live-nowhere (see s image) (pred site.below) (slots_of (table_of image s) (entryIn q x.entry)) x.there.inside (inside-held q x.entry x.there d) empty) unlocked).lands
+      (live-nowhere (see s image) (pred site.below) (slots_of (table_of image s) (entry_in q x.entry)) x.there.inside (inside-held q x.entry x.there d) empty) unlocked).lands
 
 -- ---- a change of an entry that stands: 9 where the name is absent, and else by what is done there
-module _ (format : Format) (image : List ℕ) (s : Superblock) (root : Root) (m : Marks) (checked : checkImage format image ≡ ok (s, root, m)) (c : Change) (fine : static c ≡ 0) (standing : creates c ≡ false)
-    (missing : own c absent ≡ 9) (here : EntryAt) (site : Site (see s image) (table_of image s) root (path c) here) (directory : isDirectory (entryOf here.page) ≡ true)
+module _ (format : Format) (image : List ℕ) (s : Superblock) (root : Root) (m : Marks) (checked : check_image format image ≡ ok (s, root, m)) (c : Change) (fine : static c ≡ 0) (standing : creates c ≡ false)
+    (missing : own c absent ≡ 9) (here : EntryAt) (site : Site (see s image) (table_of image s) root (path c) here) (directory : is_directory (entry_of here.page) ≡ true)
     (action : Action) (time bytes : List ℕ) where
-  edited-by : ((q : ℕ) (x : Stands format image s root m checked (path c) here site directory q) → edited s image (table_of image s) action here time bytes (entryIn q x.entry) ≡ changed format c image)
-      → editedIn s image (table_of image s) here action (lastName (path c)) time bytes ≡ changed format c image
-  unfolding editedIn
-  edited-by does = go (place_of (see s image) (table_of image s) here (lastName (path c))) refl
+  edited-by : ((q : ℕ) (x : Stands format image s root m checked (path c) here site directory q) → edited s image (table_of image s) action here time bytes (entry_in q x.entry) ≡ changed format c image)
+      → edited_in s image (table_of image s) here action (last_name (path c)) time bytes ≡ changed format c image
+  unfolding edited_in
+  edited-by does = go (place_of (see s image) (table_of image s) here (last_name (path c))) refl
     where
-      go : (z : Place) → place_of (see s image) (table_of image s) here (lastName (path c)) ≡ z
-          → on_entry s image (table_of image s) (entered (see s image) (table_of image s) here.first here.page (lastName (path c))) (edited s image (table_of image s) action here time bytes) ≡ changed format c image
+      go : (z : Place) → place_of (see s image) (table_of image s) here (last_name (path c)) ≡ z
+          → on_entry s image (table_of image s) (entered (see s image) (table_of image s) here.first here.page (last_name (path c))) (edited s image (table_of image s) action here time bytes) ≡ changed format c image
       go place.Nowhere e =
           rw (arrived-nowhere format image s root m checked (path c) here site directory e)
           (sym (edit-refused format image s root m checked c fine standing here site 8 (ap (own c) (absent-so format image s root m checked (path c) here site directory e) ∙ missing)))
@@ -202,16 +202,16 @@ module _ (format : Format) (image : List ℕ) (s : Superblock) (root : Root) (m 
   absent-at : {A : Type 0} (next : ℕ) → arrival.Absent ≡ arrival.At next → A
   absent-at next e = absurd (let z : ◌≡◌ {A = ℕ} 0 1 = cc in omega arith)
 
-  can-by : ((q : ℕ) (x : Stands format image s root m checked (path c) here site directory q) → EditLands s image (table_of image s) action here time bytes (entryIn q x.entry))
-      → CanEditIn s image (table_of image s) here action (lastName (path c)) time bytes
-  can-by lands first a = go (place_of (see s image) (table_of image s) here (lastName (path c))) refl
+  can-by : ((q : ℕ) (x : Stands format image s root m checked (path c) here site directory q) → EditLands s image (table_of image s) action here time bytes (entry_in q x.entry))
+      → CanEditIn s image (table_of image s) here action (last_name (path c)) time bytes
+  can-by lands first a = go (place_of (see s image) (table_of image s) here (last_name (path c))) refl
     where
-      go : (z : Place) → place_of (see s image) (table_of image s) here (lastName (path c)) ≡ z
+      go : (z : Place) → place_of (see s image) (table_of image s) here (last_name (path c)) ≡ z
           → CanEdit s image (table_of image s) action here time bytes
           (record {
-            at = (entered (see s image) (table_of image s) here.first here.page (lastName (path c))).at;
+            at = (entered (see s image) (table_of image s) here.first here.page (last_name (path c))).at;
             first = first;
-            page = (entered (see s image) (table_of image s) here.first here.page (lastName (path c))).page;
+            page = (entered (see s image) (table_of image s) here.first here.page (last_name (path c))).page;
           })
       go place.Nowhere e = absent-at first (sym (ap (λ (w : Arrived). w.arrival) (arrived-nowhere format image s root m checked (path c) here site directory e)) ∙ a)
       go (place.At k q) e =
@@ -220,34 +220,34 @@ module _ (format : Format) (image : List ℕ) (s : Superblock) (root : Root) (m 
           let same : word x.entry 0x10 ≡ first = cc in
           rw (x.arrives, ← same) (record { card = record { opened = own-format format image s (checked-parts format image s root m checked).0; long = length-table image s }; lands = lands q x })
 
-module _ (format : Format) (image : List ℕ) (s : Superblock) (root : Root) (m : Marks) (checked : checkImage format image ≡ ok (s, root, m)) (p : Path) (here : EntryAt)
-    (site : Site (see s image) (table_of image s) root p here) (directory : isDirectory (entryOf here.page) ≡ true) (time bytes : List ℕ) where
-  pub replaced-here : static (replace p time bytes) ≡ 0 → editedIn s image (table_of image s) here action.Replace (lastName p) time bytes ≡ changed format (replace p time bytes) image
+module _ (format : Format) (image : List ℕ) (s : Superblock) (root : Root) (m : Marks) (checked : check_image format image ≡ ok (s, root, m)) (p : Path) (here : EntryAt)
+    (site : Site (see s image) (table_of image s) root p here) (directory : is_directory (entry_of here.page) ≡ true) (time bytes : List ℕ) where
+  pub replaced-here : static (replace p time bytes) ≡ 0 → edited_in s image (table_of image s) here action.Replace (last_name p) time bytes ≡ changed format (replace p time bytes) image
   replaced-here fine =
       edited-by format image s root m checked (replace p time bytes) fine refl refl here site directory action.Replace time bytes
-      (λ q x. replaced-at format image s root m checked p here site directory time bytes fine q x (isDirectory (entryOf x.entry)) refl)
+      (λ q x. replaced-at format image s root m checked p here site directory time bytes fine q x (is_directory (entry_of x.entry)) refl)
 
-  pub deleted-here : static (delete p) ≡ 0 → editedIn s image (table_of image s) here action.Delete (lastName p) time bytes ≡ changed format (delete p) image
+  pub deleted-here : static (delete p) ≡ 0 → edited_in s image (table_of image s) here action.Delete (last_name p) time bytes ≡ changed format (delete p) image
   deleted-here fine =
       edited-by format image s root m checked (delete p) fine refl refl here site directory action.Delete time bytes
-      (λ q x. deleted-at format image s root m checked p here site directory fine q x (isDirectory (entryOf x.entry)) refl)
+      (λ q x. deleted-at format image s root m checked p here site directory fine q x (is_directory (entry_of x.entry)) refl)
 
-  pub removed-here : static (removeDirectory p) ≡ 0 → editedIn s image (table_of image s) here action.Remove (lastName p) time bytes ≡ changed format (removeDirectory p) image
+  pub removed-here : static (remove_directory p) ≡ 0 → edited_in s image (table_of image s) here action.Remove (last_name p) time bytes ≡ changed format (remove_directory p) image
   removed-here fine =
-      edited-by format image s root m checked (removeDirectory p) fine refl refl here site directory action.Remove time bytes
-      (λ q x. removed-at format image s root m checked p here site directory fine q x (isDirectory (entryOf x.entry)) refl)
+      edited-by format image s root m checked (remove_directory p) fine refl refl here site directory action.Remove time bytes
+      (λ q x. removed-at format image s root m checked p here site directory fine q x (is_directory (entry_of x.entry)) refl)
 
-  pub can-replace : static (replace p time bytes) ≡ 0 → CanEditIn s image (table_of image s) here action.Replace (lastName p) time bytes
+  pub can-replace : static (replace p time bytes) ≡ 0 → CanEditIn s image (table_of image s) here action.Replace (last_name p) time bytes
   can-replace fine =
       can-by format image s root m checked (replace p time bytes) fine refl refl here site directory action.Replace time bytes
       (replace-lands format image s root m checked p here site directory time bytes fine)
 
-  pub can-delete : static (delete p) ≡ 0 → CanEditIn s image (table_of image s) here action.Delete (lastName p) time bytes
+  pub can-delete : static (delete p) ≡ 0 → CanEditIn s image (table_of image s) here action.Delete (last_name p) time bytes
   can-delete fine =
       can-by format image s root m checked (delete p) fine refl refl here site directory action.Delete time bytes
       (delete-lands format image s root m checked p here site directory time bytes fine)
 
-  pub can-remove : static (removeDirectory p) ≡ 0 → CanEditIn s image (table_of image s) here action.Remove (lastName p) time bytes
+  pub can-remove : static (remove_directory p) ≡ 0 → CanEditIn s image (table_of image s) here action.Remove (last_name p) time bytes
   can-remove fine =
-      can-by format image s root m checked (removeDirectory p) fine refl refl here site directory action.Remove time bytes
+      can-by format image s root m checked (remove_directory p) fine refl refl here site directory action.Remove time bytes
       (remove-lands format image s root m checked p here site directory time bytes fine)

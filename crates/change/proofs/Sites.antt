@@ -3,7 +3,7 @@ use Prim.Native.Nat.{ℕ}
 use mathlib.Core.List.{List}
 use Rattle.lookup.proofs.SiteLaws as lookup
 use Rattle.model.specs.Bytes.{word}
-use Rattle.model.specs.Entry.{entryOf}
+use Rattle.model.specs.Entry.{entry_of}
 use Rattle.model.specs.Names.{Path}
 use Rattle.model.specs.Plan.{Directory}
 use Rattle.model.specs.Tree.{Root}
@@ -13,9 +13,9 @@ use Rattle.change.specs.declared.entries.EntryAt.{EntryAt}
 abbrev pub Site : View → List ℕ → Root → Path → EntryAt → Type 0
 Site v table root p here = lookup.Site v table root p here.first here.at here.page
 
-abbrev pub directoryAt : EntryAt → List ℕ → Directory
-directoryAt here chain = record { page = here.at; entry = entryOf here.page; chain = chain }
+abbrev pub directory_at : EntryAt → List ℕ → Directory
+directory_at here chain = record { page = here.at; entry = entry_of here.page; chain = chain }
 
 -- an entry in a page, whose chain begins where the page says
-abbrev pub entryIn : ℕ → List ℕ → EntryAt
-entryIn slot page = record { at = slot; first = word page 0x10; page = page }
+abbrev pub entry_in : ℕ → List ℕ → EntryAt
+entry_in slot page = record { at = slot; first = word page 0x10; page = page }

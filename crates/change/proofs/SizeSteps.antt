@@ -6,7 +6,7 @@ use native.Mathlib.Omega.{arith}
 use lib.ListN.{get_or, length}
 use Rattle.tree.specs.declared.along.Place.TheVariants as place
 use Rattle.model.specs.Plan.{first_of}
-use Rattle.change.specs.Deeds.{pageBy}
+use Rattle.change.specs.Deeds.{page_by}
 
 pub first-none : (clusters : List ℕ) → length clusters ≡ 0 → 4294967295 ≡ first_of clusters
 first-none [] h = refl
@@ -16,10 +16,10 @@ pub first_some : (clusters : List ℕ) → (length clusters ≡ 0 → ⊥) → g
 first_some [] h = absurd (h refl)
 first_some (c ∷ cs) h = refl
 
-pub page-behind : (last : ℕ) (growth : List ℕ) → length growth ≡ 0 → last * 2 + 1 ≡ pageBy place.Nowhere last growth
+pub page-behind : (last : ℕ) (growth : List ℕ) → length growth ≡ 0 → last * 2 + 1 ≡ page_by place.Nowhere last growth
 page-behind last [] h = omega arith
 page-behind last (g ∷ gs) h = absurd (omega arith)
 
-pub page-added : (last : ℕ) (growth : List ℕ) → (length growth ≡ 0 → ⊥) → get_or growth 0 0 * 2 ≡ pageBy place.Nowhere last growth
+pub page-added : (last : ℕ) (growth : List ℕ) → (length growth ≡ 0 → ⊥) → get_or growth 0 0 * 2 ≡ page_by place.Nowhere last growth
 page-added last [] h = absurd (h refl)
 page-added last (g ∷ gs) h = omega arith

@@ -10,43 +10,43 @@ use lib.Dec.{eqb, ltb}
 use lib.ListN.{drop, drop_of_length-le, get_or, length, set, take}
 use lib.Seq.{drop-cons, set_out, take-suc-set}
 use Rattle.model.specs.Counts.{takeable}
-use Rattle.model.specs.Entry.{endMark}
-use Rattle.model.specs.Plan.{freeBelow, ifFree}
+use Rattle.model.specs.Entry.{end_mark}
+use Rattle.model.specs.Plan.{free_below, if_free}
 use Rattle.model.specs.Tree.{times}
 use Rattle.model.specs.View.{Link, link_of, top_bit}
-use Rattle.model.specs.Writes.{wordTo}
+use Rattle.model.specs.Writes.{word_to}
 use Rattle.model.proofs.Equality.{and_l, and_r, tf}
 use Rattle.model.proofs.Frame.{hit-self}
 use Rattle.tree.specs.Slots.{next_of}
-use Rattle.change.specs.Words.{chained, clearedFrom}
+use Rattle.change.specs.Words.{chained, cleared_from}
 
 -- ---- free clusters that may be taken
-abbrev pub freeUpTo : (ℕ → Bool) → List ℕ → ℕ → List ℕ
-freeUpTo mayTake table c = freeBelow (takeable mayTake (λ x. link_of (get_or table x 0))) c
+abbrev pub free_up_to : (ℕ → Bool) → List ℕ → ℕ → List ℕ
+free_up_to may_take table c = free_below (takeable may_take (λ x. link_of (get_or table x 0))) c
 
-pub none_yet : (mayTake : ℕ → Bool) (table : List ℕ) → [] ≡ freeUpTo mayTake table 0
-unfolding freeBelow
-none_yet mayTake table = refl
+pub none_yet : (may_take : ℕ → Bool) (table : List ℕ) → [] ≡ free_up_to may_take table 0
+unfolding free_below
+none_yet may_take table = refl
 
-module _ (mayTake : ℕ → Bool) (table list : List ℕ) (count c : ℕ) (found : take count list ≡ freeUpTo mayTake table c) (may : Bool) (m : may ≡ mayTake c) where
-  pub one_more : count < length list → (may && ltb (get_or table c 0) top_bit) ≡ true → take (count + 1) (set list count c) ≡ freeUpTo mayTake table (c + 1)
-  unfolding freeBelow
+module _ (may_take : ℕ → Bool) (table list : List ℕ) (count c : ℕ) (found : take count list ≡ free_up_to may_take table c) (may : Bool) (m : may ≡ may_take c) where
+  pub one_more : count < length list → (may && ltb (get_or table c 0) top_bit) ≡ true → take (count + 1) (set list count c) ≡ free_up_to may_take table (c + 1)
+  unfolding free_below
   one_more room test =
       rw (add-one count, add-one c, ← m, and_l may _ test, and_r may _ test) (take-suc-set list count c room ∙ ap (λ (l : List ℕ). l ++ (c ∷ [])) found)
 
-  pub not-one : (may && ltb (get_or table c 0) top_bit) ≡ false → take count list ≡ freeUpTo mayTake table (c + 1)
-  unfolding freeBelow
-  not-one test = rw (add-one c, ← m) (found ∙ go may (ltb (get_or table c 0) top_bit) (eqb (get_or table c 0) endMark) test)
+  pub not-one : (may && ltb (get_or table c 0) top_bit) ≡ false → take count list ≡ free_up_to may_take table (c + 1)
+  unfolding free_below
+  not-one test = rw (add-one c, ← m) (found ∙ go may (ltb (get_or table c 0) top_bit) (eqb (get_or table c 0) end_mark) test)
     where
       go : (x low last : Bool) → (x && low) ≡ false
-          → freeUpTo mayTake table c ≡ freeUpTo mayTake table c ++ ifFree (cond x (cond low Link.free (cond last Link.last (Link.next (get_or table c 0 - top_bit)))) Link.last) c
+          → free_up_to may_take table c ≡ free_up_to may_take table c ++ if_free (cond x (cond low Link.free (cond last Link.last (Link.next (get_or table c 0 - top_bit)))) Link.last) c
       go true true last e = tf refl e
-      go true false true e = sym (append-nil (freeUpTo mayTake table c))
-      go true false false e = sym (append-nil (freeUpTo mayTake table c))
-      go false low last e = sym (append-nil (freeUpTo mayTake table c))
+      go true false true e = sym (append-nil (free_up_to may_take table c))
+      go true false false e = sym (append-nil (free_up_to may_take table c))
+      go false low last e = sym (append-nil (free_up_to may_take table c))
 
 -- ---- a chain linked, from its last cluster to its first
-pub nothing-linked : (clusters table : List ℕ) → (table ≡ chained (drop (length clusters) clusters) table) × (endMark ≡ wordTo (drop (length clusters) clusters))
+pub nothing-linked : (clusters table : List ℕ) → (table ≡ chained (drop (length clusters) clusters) table) × (end_mark ≡ word_to (drop (length clusters) clusters))
 unfolding chained
 nothing-linked clusters table = rw (drop_of_length-le clusters {i = length clusters} (omega arith)) (refl, refl)
 
@@ -55,7 +55,7 @@ all-linked clusters before after zero h e = e
 all-linked clusters before after (suc left) h e = absurd (omega arith)
 
 module _ (clusters before table : List ℕ) (word left : ℕ) (some : 0 < left) (inside : left ≤ length clusters)
-    (here : table ≡ chained (drop left clusters) before) (next : word ≡ wordTo (drop left clusters)) where
+    (here : table ≡ chained (drop left clusters) before) (next : word ≡ word_to (drop left clusters)) where
   first_of : drop (left - 1) clusters ≡ get_or clusters (left - 1) 0 ∷ drop left clusters
   first_of =
       let e : suc (left - 1) ≡ left = omega arith in
@@ -68,7 +68,7 @@ module _ (clusters before table : List ℕ) (word left : ℕ) (some : 0 < left) 
   pub linked-past : length table ≤ get_or clusters (left - 1) 0 → table ≡ chained (drop (left - 1) clusters) before
   linked-past h = sym (set_out table (get_or clusters (left - 1) 0) word h) ∙ linked
 
-  pub word-to : top_bit + get_or clusters (left - 1) 0 ≡ wordTo (drop (left - 1) clusters)
+  pub word-to : top_bit + get_or clusters (left - 1) 0 ≡ word_to (drop (left - 1) clusters)
   word-to = rw first_of
 
 -- clusters below a number, as a count and one by one
@@ -83,18 +83,18 @@ each_below n (c ∷ cs) low (suc i) h = each_below n cs (λ x u. omega (arith, l
 
 -- ---- a chain freed, from its first cluster on
 module _ (table : List ℕ) (c left : ℕ) (some : 0 < left) where
-  pub freed : clearedFrom c left table ≡ clearedFrom (next_of table c) (left - 1) (set table c (get_or table c 0 % top_bit))
-  unfolding clearedFrom
+  pub freed : cleared_from c left table ≡ cleared_from (next_of table c) (left - 1) (set table c (get_or table c 0 % top_bit))
+  unfolding cleared_from
   freed = go left some
     where
-      go : (n : ℕ) → 0 < n → clearedFrom c n table ≡ clearedFrom (next_of table c) (n - 1) (set table c (get_or table c 0 % top_bit))
+      go : (n : ℕ) → 0 < n → cleared_from c n table ≡ cleared_from (next_of table c) (n - 1) (set table c (get_or table c 0 % top_bit))
       go zero h = absurd (omega arith)
       go (suc n) h = let e : suc n - 1 ≡ n = omega arith in rw e
 
-  pub freed-past : length table ≤ c → clearedFrom c left table ≡ clearedFrom (next_of table c) (left - 1) table
-  freed-past h = freed ∙ ap (clearedFrom (next_of table c) (left - 1)) (set_out table c (get_or table c 0 % top_bit) h)
+  pub freed-past : length table ≤ c → cleared_from c left table ≡ cleared_from (next_of table c) (left - 1) table
+  freed-past h = freed ∙ ap (cleared_from (next_of table c) (left - 1)) (set_out table c (get_or table c 0 % top_bit) h)
 
-pub all-freed : (c left : ℕ) (table : List ℕ) → left ≤ 0 → clearedFrom c left table ≡ table
-unfolding clearedFrom
+pub all-freed : (c left : ℕ) (table : List ℕ) → left ≤ 0 → cleared_from c left table ≡ table
+unfolding cleared_from
 all-freed c zero table h = refl
 all-freed c (suc left) table h = absurd (omega arith)

@@ -1,7 +1,7 @@
 // A new entry in a directory.
 ghost use Rattle.std.specs.Prelude.{false, ◌≡◌};
 ghost use Rattle.change.specs.Answers.{Leaves};
-ghost use Rattle.change.specs.Calls.{CanAdd, CanAddIn, added, addedImage, addedIn, dotsOf, lockedAt, need_of};
+ghost use Rattle.change.specs.Calls.{CanAdd, CanAddIn, added, added_image, added_in, dots_of, locked_at, need_of};
 ghost use Rattle.change.specs.Deeds.{Listed};
 
 use crate::Answer;
@@ -29,8 +29,8 @@ fn add_listed(
     name: &[u8],
     bytes: &[u8],
 )
-    requires { Listed s table.old list.now (need_of directory new.dead bytes.now) × CanAdd s image.old table.old directory new time.now name.now bytes.now × (lockedAt directory ≡ false) }
-    ensures { image.new ≡ addedImage s image.old table.old directory new time.now name.now bytes.now }
+    requires { Listed s table.old list.now (need_of directory new.dead bytes.now) × CanAdd s image.old table.old directory new time.now name.now bytes.now × (locked_at directory ≡ false) }
+    ensures { image.new ≡ added_image s image.old table.old directory new time.now name.now bytes.now }
 {
     let entries = word_at(&directory.page, 0x04);
     let dead = new.dead;
@@ -102,7 +102,7 @@ fn add(
 
 // The first two entries of a new directory in slot `number` of the directory that begins with cluster `first`.
 fn first_entries(first: u32, number: u32, time: &[u8]) -> [u8; 1024]
-    ensures { result ≡ dotsOf first number time.now }
+    ensures { result ≡ dots_of first number time.now }
 {
     let dot = new_page(0x8427, 0, first, number, time, b".");
     let up = new_page(0x8427, 0, 0, 0, time, b"..");
@@ -121,7 +121,7 @@ pub(crate) fn add_in(
     bytes: &[u8],
 ) -> Answer
     requires { CanAddIn s image.old table.old directory making name.now time.now bytes.now }
-    ensures { Leaves (addedIn s image.old table.old directory making name.now time.now bytes.now) result image.new }
+    ensures { Leaves (added_in s image.old table.old directory making name.now time.now bytes.now) result image.new }
 {
     if !is_directory(&directory.page) {
         return Answer::Refused(Refusal::WrongKind);

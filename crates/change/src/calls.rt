@@ -1,8 +1,8 @@
 // The five changes from their path on: the path (8), the time (14), the names on the way (9, 10), then the directory's own business.
 ghost use Rattle.std.specs.Prelude.{◌≡◌};
 ghost use Rattle.change.specs.Answers.{Leaves};
-ghost use Rattle.change.specs.Changed.{changed, pathIn};
-ghost use Rattle.change.specs.Kinds.{CanChange, Loaded, Ready, changeOf, changedIn, takesNames, takesTime};
+ghost use Rattle.change.specs.Changed.{changed, path_in};
+ghost use Rattle.change.specs.Kinds.{CanChange, Loaded, Ready, change_of, changed_in, takes_names, takes_time};
 
 use crate::Answer;
 use crate::adding::add_in;
@@ -28,7 +28,7 @@ pub(crate) enum Kind {
 
 // Whether a path of that many names can be the change's: the root is never, and a new directory has fewer than MOST_NAMES.
 fn takes_names(kind: Kind, count: usize) -> bool
-    ensures { result ≡ takesNames kind count }
+    ensures { result ≡ takes_names kind count }
 {
     match kind {
         Kind::Create => 0 < count,
@@ -41,7 +41,7 @@ fn takes_names(kind: Kind, count: usize) -> bool
 
 // Whether the time is valid; removing takes none.
 fn takes_time(kind: Kind, time: &[u8]) -> bool
-    ensures { result ≡ takesTime kind time.now }
+    ensures { result ≡ takes_time kind time.now }
 {
     match kind {
         Kind::Create => is_valid_time(time),
@@ -64,7 +64,7 @@ fn change_in(
     bytes: &[u8],
 ) -> Answer
     requires { CanChange s image.old table.old directory name.now time.now bytes.now kind }
-    ensures { Leaves (changedIn s image.old table.old directory name.now time.now bytes.now kind) result image.new }
+    ensures { Leaves (changed_in s image.old table.old directory name.now time.now bytes.now kind) result image.new }
 {
     match kind {
         Kind::Create => add_in(image, table, s, directory, false, name, time, bytes),
@@ -114,7 +114,7 @@ fn change_at(
     bytes: &[u8],
 ) -> Answer
     requires { Ready image.old s table.old kind path.now count time.now bytes.now }
-    ensures { Leaves (changed s.geometry.format (changeOf kind (pathIn path.now) time.now bytes.now) image.old) result image.new }
+    ensures { Leaves (changed s.geometry.format (change_of kind (path_in path.now) time.now bytes.now) image.old) result image.new }
 {
     let a = descend(image, table, s.geometry, path, count - 1);
     let arrival = a.arrival;
@@ -145,7 +145,7 @@ fn change_card(
     bytes: &[u8],
 ) -> Answer
     requires { Loaded image.old s table.old }
-    ensures { Leaves (changed s.geometry.format (changeOf kind (pathIn path.now) time.now bytes.now) image.old) result image.new }
+    ensures { Leaves (changed s.geometry.format (change_of kind (path_in path.now) time.now bytes.now) image.old) result image.new }
 {
     let parsed = parse_path(path);
     match parsed {
@@ -171,7 +171,7 @@ pub(crate) fn change(
     time: &[u8],
     bytes: &[u8],
 ) -> Answer
-    ensures { Leaves (changed format (changeOf kind (pathIn path.now) time.now bytes.now) image.old) result image.new }
+    ensures { Leaves (changed format (change_of kind (path_in path.now) time.now bytes.now) image.old) result image.new }
 {
     let mut table = [0u32; MOST_CLUSTERS];
     let opened = open_checked(format, image, &mut table);

@@ -1,14 +1,14 @@
 // A change put down: the table's words in memory, the pages, and the table's pages.
 ghost use Rattle.std.specs.Prelude.{◌≡◌, ◌∷◌, [], ℕ, ◌+◌, ◌<◌, ◌≤◌, length};
 ghost use Rattle.std.proofs.Math.Option.{some};
-ghost use Rattle.model.specs.Bytes.{pageLimit};
-ghost use Rattle.model.specs.Entry.{clustersFor};
-ghost use Rattle.model.specs.Pages.{zeroPage};
+ghost use Rattle.model.specs.Bytes.{page_limit};
+ghost use Rattle.model.specs.Entry.{clusters_for};
+ghost use Rattle.model.specs.Pages.{zero_page};
 ghost use Rattle.model.specs.Tree.{times};
-ghost use Rattle.model.specs.View.{pagesOf, top_bit};
-ghost use Rattle.model.specs.Writes.{clusterWrites};
-ghost use Rattle.change.specs.Deeds.{CanPut, imageBy, relinked, writeOf, writes_of};
-ghost use Rattle.change.specs.Image.{writePages};
+ghost use Rattle.model.specs.View.{pages_of, top_bit};
+ghost use Rattle.model.specs.Writes.{cluster_writes};
+ghost use Rattle.change.specs.Deeds.{CanPut, image_by, relinked, write_of, writes_of};
+ghost use Rattle.change.specs.Image.{write_pages};
 
 use crate::entries::EntryWrite;
 use crate::pages::{write_data, zero_page};
@@ -40,7 +40,7 @@ pub(crate) fn relink(
 // Writes zeros to both pages of a directory's growth.
 fn write_zeros(image: &mut [u8], geometry: Geometry, growth: &[u32])
     requires { length growth.now ≤ 1 }
-    ensures { image.new ≡ writePages geometry (clusterWrites (pagesOf growth.now) (some zeroPage ∷ some zeroPage ∷ [])) image.old }
+    ensures { image.new ≡ write_pages geometry (cluster_writes (pages_of growth.now) (some zero_page ∷ some zero_page ∷ [])) image.old }
 {
     if growth.len() == 0 {
         return;
@@ -54,8 +54,8 @@ fn write_zeros(image: &mut [u8], geometry: Geometry, growth: &[u32])
 
 // Writes the page of an entry: a new one always, another where its data changes.
 fn write_entry(image: &mut [u8], geometry: Geometry, write: EntryWrite)
-    requires { write.at < pageLimit }
-    ensures { image.new ≡ writePages geometry (writeOf write ∷ []) image.old }
+    requires { write.at < page_limit }
+    ensures { image.new ≡ write_pages geometry (write_of write ∷ []) image.old }
 {
     let format = geometry.format;
     let at = image_page(geometry, write.at);
@@ -76,8 +76,8 @@ fn write_pages(
     directory: EntryWrite,
     own: EntryWrite,
 )
-    requires { (length growth.now ≤ 1) × (length taken.now ≡ clustersFor (length bytes.now)) × (directory.at < pageLimit) × (own.at < pageLimit) }
-    ensures { image.new ≡ writePages geometry (writes_of growth.now taken.now bytes.now (writeOf directory) (writeOf own)) image.old }
+    requires { (length growth.now ≤ 1) × (length taken.now ≡ clusters_for (length bytes.now)) × (directory.at < page_limit) × (own.at < page_limit) }
+    ensures { image.new ≡ write_pages geometry (writes_of growth.now taken.now bytes.now (write_of directory) (write_of own)) image.old }
 {
     write_zeros(image, geometry, growth);
     write_data(image, geometry, taken, bytes);
@@ -96,8 +96,8 @@ pub(crate) fn put_down(
     directory: EntryWrite,
     own: EntryWrite,
 )
-    requires { CanPut s image.old table.now growth.now taken.now bytes.now (writeOf directory) (writeOf own) }
-    ensures { image.new ≡ imageBy s image.old (writes_of growth.now taken.now bytes.now (writeOf directory) (writeOf own)) table.now }
+    requires { CanPut s image.old table.now growth.now taken.now bytes.now (write_of directory) (write_of own) }
+    ensures { image.new ≡ image_by s image.old (writes_of growth.now taken.now bytes.now (write_of directory) (write_of own)) table.now }
 {
     write_pages(image, s.geometry, growth, taken, bytes, directory, own);
     store_table(image, s, table);

@@ -1,10 +1,10 @@
 // An entry that stands: replaced or removed.
 ghost use Rattle.std.specs.Prelude.{[], ◌≡◌, length, ◌||◌};
 ghost use Rattle.change.specs.declared.editing.Action.TheVariants as action;
-ghost use Rattle.model.specs.Entry.{clustersFor, entryOf, isLocked};
+ghost use Rattle.model.specs.Entry.{clusters_for, entry_of, is_locked};
 ghost use Rattle.change.specs.Answers.{Leaves};
-ghost use Rattle.change.specs.Calls.{CanEdit, CanEditIn, deletedEntry, editedIn, removedEntry, removedImage, replacedEntry, replacedImage};
-ghost use Rattle.change.specs.Deeds.{Listed, Open, removedWrites, replacedWrites};
+ghost use Rattle.change.specs.Calls.{CanEdit, CanEditIn, deleted_entry, edited_in, removed_entry, removed_image, replaced_entry, replaced_image};
+ghost use Rattle.change.specs.Deeds.{Listed, Open, removed_writes, replaced_writes};
 ghost use Rattle.change.specs.Image.{Lands};
 
 use crate::Answer;
@@ -31,7 +31,7 @@ pub(crate) enum Action {
 
 // Whether an entry is locked, or the directory directly around it.
 fn either_locked(entry: &[u8; 512], directory: &[u8; 512]) -> bool
-    ensures { result ≡ (isLocked (entryOf entry.now).mode || isLocked (entryOf directory.now).mode) }
+    ensures { result ≡ (is_locked (entry_of entry.now).mode || is_locked (entry_of directory.now).mode) }
 {
     is_locked(entry) | is_locked(directory)
 }
@@ -47,8 +47,8 @@ fn replace_listed(
     time: &[u8],
     bytes: &[u8],
 )
-    requires { Open s image.old table.old × Listed s table.old list.now (clustersFor (length bytes.now)) × Lands s.end (replacedWrites s table.old directory entry time.now bytes.now) }
-    ensures { image.new ≡ replacedImage s image.old table.old directory entry time.now bytes.now }
+    requires { Open s image.old table.old × Listed s table.old list.now (clusters_for (length bytes.now)) × Lands s.end (replaced_writes s table.old directory entry time.now bytes.now) }
+    ensures { image.new ≡ replaced_image s image.old table.old directory entry time.now bytes.now }
 {
     let own = clusters_for(bytes.len());
     let taken = &list[..own];
@@ -88,7 +88,7 @@ fn replace_entry(
     bytes: &[u8],
 ) -> Answer
     requires { CanEdit s image.old table.old action.Replace directory time.now bytes.now entry }
-    ensures { Leaves (replacedEntry s image.old table.old directory entry time.now bytes.now) result image.new }
+    ensures { Leaves (replaced_entry s image.old table.old directory entry time.now bytes.now) result image.new }
 {
     if is_directory(&entry.page) {
         return Answer::Refused(Refusal::WrongKind);
@@ -123,8 +123,8 @@ fn take_away(
     entry: EntryAt,
     count: u32,
 )
-    requires { Open s image.old table.old × Lands s.end (removedWrites directory entry) }
-    ensures { image.new ≡ removedImage s image.old table.old directory entry count }
+    requires { Open s image.old table.old × Lands s.end (removed_writes directory entry) }
+    ensures { image.new ≡ removed_image s image.old table.old directory entry count }
 {
     let gone = killed_page(&entry.page);
     let kept = with_length(&directory.page, word_at(&directory.page, 0x04));
@@ -159,7 +159,7 @@ fn delete_entry(
     entry: EntryAt,
 ) -> Answer
     requires { CanEdit s image.old table.old action.Delete directory [] [] entry }
-    ensures { Leaves (deletedEntry s image.old table.old directory entry) result image.new }
+    ensures { Leaves (deleted_entry s image.old table.old directory entry) result image.new }
 {
     if is_directory(&entry.page) {
         return Answer::Refused(Refusal::WrongKind);
@@ -181,7 +181,7 @@ fn remove_entry(
     entry: EntryAt,
 ) -> Answer
     requires { CanEdit s image.old table.old action.Remove directory [] [] entry }
-    ensures { Leaves (removedEntry s image.old table.old directory entry) result image.new }
+    ensures { Leaves (removed_entry s image.old table.old directory entry) result image.new }
 {
     if !is_directory(&entry.page) {
         return Answer::Refused(Refusal::WrongKind);
@@ -220,7 +220,7 @@ pub(crate) fn edit_in(
     bytes: &[u8],
 ) -> Answer
     requires { CanEditIn s image.old table.old directory action name.now time.now bytes.now }
-    ensures { Leaves (editedIn s image.old table.old directory action name.now time.now bytes.now) result image.new }
+    ensures { Leaves (edited_in s image.old table.old directory action name.now time.now bytes.now) result image.new }
 {
     let a = enter(
         image,

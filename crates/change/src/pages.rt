@@ -1,13 +1,13 @@
 // The pages that a change writes: data in new clusters, a new entry, an entry altered.
 ghost use Rattle.std.specs.Prelude.{◌≡◌, ◌++◌, ◌+◌, ◌-◌, length};
 ghost use Rattle.model.specs.Bytes.{slice};
-ghost use Rattle.model.specs.Entry.{clustersFor, entryOf};
-ghost use Rattle.model.specs.Pages.{alteredEntry, alteredPage, dataPages, newPage, zeroPage};
-ghost use Rattle.model.specs.Plan.{killed, newEntry, withLength};
-ghost use Rattle.model.specs.View.{pagesOf};
-ghost use Rattle.model.specs.Writes.{clusterWrites};
-ghost use Rattle.change.specs.Image.{writePages};
-ghost use Rattle.change.specs.Pages.{dataPage};
+ghost use Rattle.model.specs.Entry.{clusters_for, entry_of};
+ghost use Rattle.model.specs.Pages.{altered_entry, altered_page, data_pages, new_page, zero_page};
+ghost use Rattle.model.specs.Plan.{killed, new_entry, with_length};
+ghost use Rattle.model.specs.View.{pages_of};
+ghost use Rattle.model.specs.Writes.{cluster_writes};
+ghost use Rattle.change.specs.Image.{write_pages};
+ghost use Rattle.change.specs.Pages.{data_page};
 
 use fields::numbers::{half_at, word_at};
 use fields::writes::{put_bytes, put_half, put_word};
@@ -15,14 +15,14 @@ use layout::{Geometry, image_page};
 use page::write_page;
 
 pub(crate) fn zero_page() -> [u8; 512]
-    ensures { result ≡ zeroPage }
+    ensures { result ≡ zero_page }
 {
     [0u8; 512]
 }
 
 // Page k of data as it is written.
 fn data_page(bytes: &[u8], k: usize) -> [u8; 512]
-    ensures { result ≡ dataPage bytes.now k }
+    ensures { result ≡ data_page bytes.now k }
 {
     let mut page = zero_page();
     if k <= bytes.len() / 512 {
@@ -39,8 +39,8 @@ fn data_page(bytes: &[u8], k: usize) -> [u8; 512]
 
 // Writes all pages of newly taken clusters: the data, and zeros after its end.
 pub(crate) fn write_data(image: &mut [u8], geometry: Geometry, clusters: &[u32], bytes: &[u8])
-    requires { length clusters.now ≡ clustersFor (length bytes.now) }
-    ensures { image.new ≡ writePages geometry (clusterWrites (pagesOf clusters.now) (dataPages bytes.now)) image.old }
+    requires { length clusters.now ≡ clusters_for (length bytes.now) }
+    ensures { image.new ≡ write_pages geometry (cluster_writes (pages_of clusters.now) (data_pages bytes.now)) image.old }
 {
     let format = geometry.format;
     let count = 2 * clusters.len();
@@ -67,7 +67,7 @@ pub(crate) fn new_page(
     time: &[u8],
     name: &[u8],
 ) -> [u8; 512]
-    ensures { result ≡ newPage (newEntry mode length first dir_entry time.now name.now) }
+    ensures { result ≡ new_page (new_entry mode length first dir_entry time.now name.now) }
 {
     let mut page = zero_page();
     put_bytes(&mut page, 0x40, name);
@@ -89,7 +89,7 @@ pub(crate) fn altered_page(
     first: u32,
     modified: &[u8],
 ) -> [u8; 512]
-    ensures { result ≡ alteredPage page.now (alteredEntry (entryOf page.now) mode length first modified.now) }
+    ensures { result ≡ altered_page page.now (altered_entry (entry_of page.now) mode length first modified.now) }
 {
     let mut altered = *page;
     put_bytes(&mut altered, 0x18, modified);
@@ -109,7 +109,7 @@ fn modified_of(page: &[u8]) -> &[u8]
 
 // The page of a directory's entry with another length.
 pub(crate) fn with_length(page: &[u8; 512], length: u32) -> [u8; 512]
-    ensures { result ≡ alteredPage page.now (withLength (entryOf page.now) length) }
+    ensures { result ≡ altered_page page.now (with_length (entry_of page.now) length) }
 {
     altered_page(
         page,
@@ -122,14 +122,14 @@ pub(crate) fn with_length(page: &[u8; 512], length: u32) -> [u8; 512]
 
 // The page of a file's entry with new contents: length, first cluster and time of change.
 pub(crate) fn replaced_page(page: &[u8; 512], length: u32, first: u32, time: &[u8]) -> [u8; 512]
-    ensures { result ≡ alteredPage page.now (alteredEntry (entryOf page.now) (entryOf page.now).mode length first time.now) }
+    ensures { result ≡ altered_page page.now (altered_entry (entry_of page.now) (entry_of page.now).mode length first time.now) }
 {
     altered_page(page, half_at(page, 0x00), length, first, time)
 }
 
 // The page of an entry that is gone: bit 0x8000 is cleared.
 pub(crate) fn killed_page(page: &[u8; 512]) -> [u8; 512]
-    ensures { result ≡ alteredPage page.now (killed (entryOf page.now)) }
+    ensures { result ≡ altered_page page.now (killed (entry_of page.now)) }
 {
     altered_page(
         page,

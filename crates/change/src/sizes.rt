@@ -1,22 +1,22 @@
 // How much a change needs, and where a new entry goes.
 ghost use Rattle.std.specs.Prelude.{◌≡◌, ◌+◌, ◌/◌, ◌<◌, length};
-ghost use Rattle.model.specs.Bytes.{wordLimit};
-ghost use Rattle.model.specs.Entry.{clustersFor};
+ghost use Rattle.model.specs.Bytes.{word_limit};
+ghost use Rattle.model.specs.Entry.{clusters_for};
 ghost use Rattle.model.specs.Plan.{first_of};
-ghost use Rattle.change.specs.Deeds.{growthBy, lengthBy, numberBy, pageBy};
+ghost use Rattle.change.specs.Deeds.{growth_by, length_by, number_by, page_by};
 
 use tree::along::Place;
 
 // The clusters that data of that many bytes need.
 pub(crate) fn clusters_for(bytes: usize) -> usize
-    ensures { result ≡ clustersFor bytes }
+    ensures { result ≡ clusters_for bytes }
 {
     bytes / 1024 + (bytes % 1024 + 1023) / 1024
 }
 
 // The same of a length as an entry has it.
 pub(crate) fn file_clusters(length: u32) -> u32
-    ensures { result ≡ clustersFor length }
+    ensures { result ≡ clusters_for length }
 {
     length / 1024 + (length % 1024 + 1023) / 1024
 }
@@ -30,7 +30,7 @@ pub(crate) fn directory_clusters(length: u32) -> u32
 
 // Behind the last entry of an even directory a cluster is added.
 pub(crate) fn growth_by(dead: Place, length: u32) -> usize
-    ensures { result ≡ growthBy dead length }
+    ensures { result ≡ growth_by dead length }
 {
     match dead {
         Place::At { slot: _, page: _ } => 0,
@@ -39,8 +39,8 @@ pub(crate) fn growth_by(dead: Place, length: u32) -> usize
 }
 
 pub(crate) fn length_by(dead: Place, length: u32) -> u32
-    requires { length + 1 < wordLimit }
-    ensures { result ≡ lengthBy dead length }
+    requires { length + 1 < word_limit }
+    ensures { result ≡ length_by dead length }
 {
     match dead {
         Place::At { slot: _, page: _ } => length,
@@ -50,8 +50,8 @@ pub(crate) fn length_by(dead: Place, length: u32) -> u32
 
 // The slot's number, counted from the directory's first entry.
 pub(crate) fn number_by(dead: Place, length: u32) -> u32
-    requires { numberBy dead length < wordLimit }
-    ensures { result ≡ numberBy dead length }
+    requires { number_by dead length < word_limit }
+    ensures { result ≡ number_by dead length }
 {
     match dead {
         Place::At { slot, page: _ } => slot + 2,
@@ -61,7 +61,7 @@ pub(crate) fn number_by(dead: Place, length: u32) -> u32
 
 // The page of the new entry.
 pub(crate) fn page_by(dead: Place, last: u32, growth: &[u32]) -> usize
-    ensures { result ≡ pageBy dead last growth.now }
+    ensures { result ≡ page_by dead last growth.now }
 {
     match dead {
         Place::At { slot: _, page } => page,

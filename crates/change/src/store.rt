@@ -1,10 +1,10 @@
 // The allocation table stored back into the image: the pages in which a word changed.
 ghost use Rattle.std.specs.Prelude.{◌≡◌, true, ◌++◌, ◌+◌, ◌*◌, ◌≤◌, ◌<◌, get_or, length};
-ghost use Rattle.page.specs.Page.{is_some, pageAt};
-ghost use Rattle.layout.specs.Table.{names_of, tableClusters, tableNames};
-ghost use Rattle.model.specs.View.{mostClusters};
-ghost use Rattle.change.specs.Image.{alterPage, storeTable, words_in};
-ghost use Rattle.change.specs.Pages.{tableIn, tableStored};
+ghost use Rattle.page.specs.Page.{is_some, page_at};
+ghost use Rattle.layout.specs.Table.{names_of, table_clusters, table_names};
+ghost use Rattle.model.specs.View.{most_clusters};
+ghost use Rattle.change.specs.Image.{alter_page, store_table, words_in};
+ghost use Rattle.change.specs.Pages.{table_in, table_stored};
 
 use fields::writes::put_word;
 use layout::Superblock;
@@ -29,7 +29,7 @@ fn words_in(end: usize, t: usize) -> usize
 // The words of page t of the table put into a page from its first word on.
 fn put_words(page: &mut [u8; 512], table: &[u32], t: usize)
     requires { t < 65536 }
-    ensures { page.new ≡ tableIn table.now t page.old }
+    ensures { page.new ≡ table_in table.now t page.old }
 {
     let from = 128 * t;
     let count = words_in(table.len(), t);
@@ -43,7 +43,7 @@ fn put_words(page: &mut [u8; 512], table: &[u32], t: usize)
 // Page t of the table, which is page p of the image, rewritten where a word of it changed.
 fn store_page(format: Format, image: &mut [u8], p: usize, table: &[u32], t: usize)
     requires { t < 65536 }
-    ensures { image.new ≡ alterPage format p (tableIn table.now t) image.old }
+    ensures { image.new ≡ alter_page format p (table_in table.now t) image.old }
 {
     let mut page = [0u8; 512];
     if read_page(format, image, p, &mut page).readable {
@@ -62,7 +62,7 @@ fn store_pages(
     table: &[u32],
 )
     requires { count < 32768 }
-    ensures { image.new ≡ tableStored format (tableNames (first.now ++ second.now) count) table.now (2 * count) image.old }
+    ensures { image.new ≡ table_stored format (table_names (first.now ++ second.now) count) table.now (2 * count) image.old }
 {
     let mut t: usize = 0;
     while t < 2 * count {
@@ -73,8 +73,8 @@ fn store_pages(
 
 // Stores the table of a card whose indirect cluster is readable.
 pub(crate) fn store_table(image: &mut [u8], s: Superblock, table: &[u32])
-    requires { (s.end ≤ mostClusters) × (length table.now ≡ s.end) × (is_some (pageAt s.geometry.format image.old (2 * s.indirect)) ≡ true) × (is_some (pageAt s.geometry.format image.old (2 * s.indirect + 1)) ≡ true) }
-    ensures { image.new ≡ storeTable s.geometry.format (names_of image.old s) s.end (λ c. get_or table.now c 0) (2 * tableClusters s.end) image.old }
+    requires { (s.end ≤ most_clusters) × (length table.now ≡ s.end) × (is_some (page_at s.geometry.format image.old (2 * s.indirect)) ≡ true) × (is_some (page_at s.geometry.format image.old (2 * s.indirect + 1)) ≡ true) }
+    ensures { image.new ≡ store_table s.geometry.format (names_of image.old s) s.end (λ c. get_or table.now c 0) (2 * table_clusters s.end) image.old }
 {
     let geometry = s.geometry;
     let format = geometry.format;

@@ -1,8 +1,8 @@
 // The allocation table in memory: its free clusters, chains linked and freed.
 ghost use Rattle.std.specs.Prelude.{◌≡◌, ℕ, ◌≤◌, length, take};
 ghost use Rattle.model.specs.Tree.{times};
-ghost use Rattle.model.specs.View.{mostClusters, top_bit};
-ghost use Rattle.change.specs.Words.{chained, clearedFrom, freeList};
+ghost use Rattle.model.specs.View.{most_clusters, top_bit};
+ghost use Rattle.change.specs.Words.{chained, cleared_from, free_list};
 
 use layout::Superblock;
 use reached::takeable::{Looked, take_limit};
@@ -10,8 +10,8 @@ use tree::slots::next_of;
 
 // The free clusters of a card's table that may be taken, ascending, into a list with room for all; how many there are.
 pub(crate) fn collect_free(table: &[u32], s: Superblock, list: &mut [u32]) -> usize
-    requires { (length table.now ≤ length list.old) × (length table.now ≤ mostClusters) }
-    ensures { (result ≡ length (freeList s table.now)) × (take result list.new ≡ freeList s table.now) }
+    requires { (length table.now ≤ length list.old) × (length table.now ≤ most_clusters) }
+    ensures { (result ≡ length (free_list s table.now)) × (take result list.new ≡ free_list s table.now) }
 {
     let geometry = s.geometry;
     let offset = geometry.offset as usize;
@@ -51,7 +51,7 @@ pub(crate) fn link_chain(table: &mut [u32], clusters: &[u32])
 
 // Frees `count` clusters of the chain that begins with cluster `first`.
 pub(crate) fn clear_chain(table: &mut [u32], first: u32, count: u32)
-    ensures { table.new ≡ clearedFrom first count table.old }
+    ensures { table.new ≡ cleared_from first count table.old }
 {
     let mut c = first;
     let mut left = count;

@@ -6,30 +6,30 @@ use mathlib.Core.Option.{Option, none, some}
 use mathlib.Core.Path.{◌∙◌, ◌≡◌, ap, refl, subst, sym}
 use lib.ListN.{get_or, length}
 use Rattle.page.specs.declared.Format.{Format}
-use Rattle.page.specs.Page.{pageAt, put}
+use Rattle.page.specs.Page.{page_at, put}
 use Rattle.page.specs.Twins.{SameData}
 use Rattle.page.proofs.Laws.{page-length}
 use Rattle.page.proofs.Twins.{same-page}
 use Rattle.layout.specs.declared.Superblock.{Superblock}
-use Rattle.layout.specs.See.{checkImage, imagePage, see}
-use Rattle.layout.specs.Table.{names_of, tableClusters, table_of, tablePage}
+use Rattle.layout.specs.See.{check_image, image_page, see}
+use Rattle.layout.specs.Table.{names_of, table_clusters, table_of, table_page}
 use Rattle.model.specs.Change.{Change}
 use Rattle.model.specs.Check.{Marks, ok}
 use Rattle.model.specs.Plan.{Plan, plan_of}
 use Rattle.model.specs.Refusal.{refusal}
 use Rattle.model.specs.Tree.{Root}
 use Rattle.model.specs.View.{View}
-use Rattle.model.specs.Writes.{PageWrite, pageWrites, wordsAfter}
+use Rattle.model.specs.Writes.{PageWrite, page_writes, words_after}
 use Rattle.model.proofs.ChangeActs.{acts}
 use Rattle.model.proofs.CheckHolds.{check-holds}
 use Rattle.model.proofs.Outcome as model
 use Rattle.model.proofs.Refusals.{refusal-accepts}
-use Rattle.change.specs.Changed.{Outcome, changed, rulesOf}
-use Rattle.change.specs.Image.{Lands, alterPage, alteredBy, imageAfter, storeTable, with_words, words_in, writePages}
+use Rattle.change.specs.Changed.{Outcome, changed, rules_of}
+use Rattle.change.specs.Image.{Lands, alter_page, altered_by, image_after, store_table, with_words, words_in, write_pages}
 use Rattle.change.proofs.ChangedLaws.{changed-is, checked-parts, refuses}
 use Rattle.change.proofs.ChangedView.{land, no_words}
 use Rattle.change.proofs.TableStore.{length-with-words}
-use Rattle.claims.proofs.OpenAlike.{Checks, cardIn, checks, names-alike, see-alike, words-alike}
+use Rattle.claims.proofs.OpenAlike.{Checks, card_in, checks, names-alike, see-alike, words-alike}
 
 -- what two images share, at least the same data, where a page that is put into both keeps it
 pub record Common (one other : Format) (Shared : List ℕ → List ℕ → Type 0) : Type 0 where
@@ -40,80 +40,80 @@ pub record Common (one other : Format) (Shared : List ℕ → List ℕ → Type 
 -- a plan's pages and words written by the names, the table and the view of either image
 abbrev written_by : Format → Superblock → List ℕ → List ℕ → View → Plan → List ℕ → List ℕ
 written_by format s names table v plan image =
-    storeTable format names s.end (wordsAfter plan (λ c. get_or table c 0)) (2 * tableClusters s.end)
-    (writePages (cardIn format s).geometry (pageWrites v plan) image)
+    store_table format names s.end (words_after plan (λ c. get_or table c 0)) (2 * table_clusters s.end)
+    (write_pages (card_in format s).geometry (page_writes v plan) image)
 
 module _ (one other : Format) (Shared : List ℕ → List ℕ → Type 0) (common : Common one other Shared) where
   -- ---- pages written into both
   writes-alike : (s : Superblock) (ws : List PageWrite) (image twin : List ℕ) → Lands s.end ws → Shared image twin
-      → Shared (writePages (cardIn one s).geometry ws image) (writePages (cardIn other s).geometry ws twin)
+      → Shared (write_pages (card_in one s).geometry ws image) (write_pages (card_in other s).geometry ws twin)
   writes-alike s [] image twin l r = r
   writes-alike s (w ∷ ws) image twin l r =
-      writes-alike s ws _ _ l.2 (common.puts w.always (imagePage s.geometry w.page) w.bytes image twin l.1 r)
+      writes-alike s ws _ _ l.2 (common.puts w.always (image_page s.geometry w.page) w.bytes image twin l.1 r)
 
   alter-alike : (p : ℕ) (f : List ℕ → List ℕ) → ((page : List ℕ) → length (f page) ≡ length page) → (image twin : List ℕ) → Shared image twin
-      → Shared (alterPage one p f image) (alterPage other p f twin)
-  unfolding alterPage
-  alter-alike p f long image twin r = go (pageAt one image p) refl (sym (same-page (common.same image twin r) p))
+      → Shared (alter_page one p f image) (alter_page other p f twin)
+  unfolding alter_page
+  alter-alike p f long image twin r = go (page_at one image p) refl (sym (same-page (common.same image twin r) p))
     where
-      go : (o : Option (List ℕ)) → pageAt one image p ≡ o → pageAt other twin p ≡ pageAt one image p
-          → Shared (alteredBy one p f image (pageAt one image p)) (alteredBy other p f twin (pageAt other twin p))
+      go : (o : Option (List ℕ)) → page_at one image p ≡ o → page_at other twin p ≡ page_at one image p
+          → Shared (altered_by one p f image (page_at one image p)) (altered_by other p f twin (page_at other twin p))
       go none e t = rw (t, e) r
       go (some page) e t = rw (t, e) (common.puts false p (f page) image twin (long page ∙ page-length one image p page e) r)
 
   store-alike : (names : List ℕ) (end : ℕ) (words : ℕ → ℕ) (k : ℕ) (image twin : List ℕ) → Shared image twin
-      → Shared (storeTable one names end words k image) (storeTable other names end words k twin)
-  unfolding storeTable
+      → Shared (store_table one names end words k image) (store_table other names end words k twin)
+  unfolding store_table
   store-alike names end words zero image twin r = r
   store-alike names end words (suc t) image twin r =
-      alter-alike (tablePage names t) (with_words words (128 * t) (words_in end t)) (λ page. length-with-words words (128 * t) page (words_in end t))
-      (storeTable one names end words t image) (storeTable other names end words t twin) (store-alike names end words t image twin r)
+      alter-alike (table_page names t) (with_words words (128 * t) (words_in end t)) (λ page. length-with-words words (128 * t) page (words_in end t))
+      (store_table one names end words t image) (store_table other names end words t twin) (store-alike names end words t image twin r)
 
   -- the same answer, and images that share it still
   abbrev pub Together : Outcome → Outcome → Type 0
   Together a b = (a.answer ≡ b.answer) × Shared a.image b.image
 
   module _ (image twin : List ℕ) (shared : Shared image twin) where
-    after-alike : (s : Superblock) (plan : Plan) → Lands s.end (pageWrites (see (cardIn one s) image) plan)
-        → Shared (imageAfter (cardIn one s) image plan) (imageAfter (cardIn other s) twin plan)
-    unfolding imageAfter
+    after-alike : (s : Superblock) (plan : Plan) → Lands s.end (page_writes (see (card_in one s) image) plan)
+        → Shared (image_after (card_in one s) image plan) (image_after (card_in other s) twin plan)
+    unfolding image_after
     after-alike s plan l =
         let same = common.same image twin shared in
-        let put_both : Shared (imageAfter (cardIn one s) image plan) (written_by other s (names_of image (cardIn one s)) (table_of image (cardIn one s)) (see (cardIn one s) image) plan twin) =
-        store-alike (names_of image (cardIn one s)) s.end (wordsAfter plan (λ c. get_or (table_of image (cardIn one s)) c 0)) (2 * tableClusters s.end) _ _
-        (writes-alike s (pageWrites (see (cardIn one s) image) plan) image twin l shared) in
-        let its_own : written_by other s (names_of image (cardIn one s)) (table_of image (cardIn one s)) (see (cardIn one s) image) plan twin ≡ imageAfter (cardIn other s) twin plan =
+        let put_both : Shared (image_after (card_in one s) image plan) (written_by other s (names_of image (card_in one s)) (table_of image (card_in one s)) (see (card_in one s) image) plan twin) =
+        store-alike (names_of image (card_in one s)) s.end (words_after plan (λ c. get_or (table_of image (card_in one s)) c 0)) (2 * table_clusters s.end) _ _
+        (writes-alike s (page_writes (see (card_in one s) image) plan) image twin l shared) in
+        let its_own : written_by other s (names_of image (card_in one s)) (table_of image (card_in one s)) (see (card_in one s) image) plan twin ≡ image_after (card_in other s) twin plan =
         λ j. written_by other s (names-alike one other image twin same s j) (words-alike one other image twin same s j) (see-alike one other image twin same s j) plan twin in
-        subst (λ (after : List ℕ). Shared (imageAfter (cardIn one s) image plan) after) its_own put_both
+        subst (λ (after : List ℕ). Shared (image_after (card_in one s) image plan) after) its_own put_both
 
     -- ---- the outcome
-    module _ (s : Superblock) (root : Root) (m : Marks) (checked : checkImage one image ≡ ok (cardIn one s, root, m))
-        (also : checkImage other twin ≡ ok (cardIn other s, root, m)) (c : Change) where
+    module _ (s : Superblock) (root : Root) (m : Marks) (checked : check_image one image ≡ ok (card_in one s, root, m))
+        (also : check_image other twin ≡ ok (card_in other s, root, m)) (c : Change) where
       abbrev rule : ℕ
-      rule = refusal (rulesOf (cardIn one s)) c (see (cardIn one s) image) root
+      rule = refusal (rules_of (card_in one s)) c (see (card_in one s) image) root
 
-      rule-alike : refusal (rulesOf (cardIn other s)) c (see (cardIn other s) twin) root ≡ rule
-      rule-alike = ap (λ (v : View). refusal (rulesOf (cardIn other s)) c v root) (sym (see-alike one other image twin (common.same image twin shared) s))
+      rule-alike : refusal (rules_of (card_in other s)) c (see (card_in other s) twin) root ≡ rule
+      rule-alike = ap (λ (v : View). refusal (rules_of (card_in other s)) c v root) (sym (see-alike one other image twin (common.same image twin shared) s))
 
       done-alike : rule ≡ 0 → Together (changed one c image) (changed other c twin)
       done-alike allowed =
-          let parts = checked-parts one image (cardIn one s) root m checked in
-          let v = see (cardIn one s) image in
+          let parts = checked-parts one image (card_in one s) root m checked in
+          let v = see (card_in one s) image in
           let holds = (check-holds v root m parts.1).0 in
-          let free = no_words one image (cardIn one s) parts.0 in
-          let o : model.Outcome (rulesOf (cardIn one s)) v root c =
-          acts (rulesOf (cardIn one s)) v root holds free c (refusal-accepts (rulesOf (cardIn one s)) v root holds c allowed) in
-          let planned : plan_of (rulesOf (cardIn other s)) c (see (cardIn other s) twin) root ≡ some o.plan =
-          ap (λ (v : View). plan_of (rulesOf (cardIn other s)) c v root) (sym (see-alike one other image twin (common.same image twin shared) s)) ∙ o.planned in
-          let mine : changed one c image ≡ record { answer = ok tt; image = imageAfter (cardIn one s) image o.plan } =
-          changed-is one image (cardIn one s) root m checked c ∙ rw (allowed, o.planned) in
-          let its : changed other c twin ≡ record { answer = ok tt; image = imageAfter (cardIn other s) twin o.plan } =
-          changed-is other twin (cardIn other s) root m also c ∙ rw (rule-alike ∙ allowed, planned) in
-          rw (mine, its) (refl, after-alike s o.plan (land one image (cardIn one s) parts.0 root holds o.plan o.deed))
+          let free = no_words one image (card_in one s) parts.0 in
+          let o : model.Outcome (rules_of (card_in one s)) v root c =
+          acts (rules_of (card_in one s)) v root holds free c (refusal-accepts (rules_of (card_in one s)) v root holds c allowed) in
+          let planned : plan_of (rules_of (card_in other s)) c (see (card_in other s) twin) root ≡ some o.plan =
+          ap (λ (v : View). plan_of (rules_of (card_in other s)) c v root) (sym (see-alike one other image twin (common.same image twin shared) s)) ∙ o.planned in
+          let mine : changed one c image ≡ record { answer = ok tt; image = image_after (card_in one s) image o.plan } =
+          changed-is one image (card_in one s) root m checked c ∙ rw (allowed, o.planned) in
+          let its : changed other c twin ≡ record { answer = ok tt; image = image_after (card_in other s) twin o.plan } =
+          changed-is other twin (card_in other s) root m also c ∙ rw (rule-alike ∙ allowed, planned) in
+          rw (mine, its) (refl, after-alike s o.plan (land one image (card_in one s) parts.0 root holds o.plan o.deed))
 
       refused-alike : (n : ℕ) → rule ≡ suc n → Together (changed one c image) (changed other c twin)
       refused-alike n e =
-          rw ((refuses one image (cardIn one s) root m checked c n e).0, (refuses other twin (cardIn other s) root m also c n (rule-alike ∙ e)).0) (refl, shared)
+          rw ((refuses one image (card_in one s) root m checked c n e).0, (refuses other twin (card_in other s) root m also c n (rule-alike ∙ e)).0) (refl, shared)
 
       accepted-alike : Together (changed one c image) (changed other c twin)
       accepted-alike = go rule refl

@@ -12,9 +12,9 @@ marked-numbers =
       only-byte-5 = only-byte-5;
       bytes-0-and-1 = bytes-0-and-1;
       all_ones = all_ones;
-      leap-day-2000 = rule-numbers.leapDay2000;
-      leap-day-2100 = rule-numbers.leapDay2100;
-      word-free = rule-numbers.wordFree;
-      word_next = rule-numbers.wordNext;
-      word_end = rule-numbers.wordEnd;
+      leap-day-2000 = rule-numbers.leap_day2000;
+      leap-day-2100 = rule-numbers.leap_day2100;
+      word-free = rule-numbers.word_free;
+      word_next = rule-numbers.word_next;
+      word_end = rule-numbers.word_end;
     }

@@ -9,17 +9,17 @@ use lib.ListN.{drop, take}
 use Rattle.layout.proofs.NeededOnce.{needed-once, read-apart}
 use Rattle.layout.specs.See.{see}
 use Rattle.change.proofs.ChangedLaws.{checked-parts}
-use Rattle.lookup.specs.Read.{bytesToCopy, pagesWith}
+use Rattle.lookup.specs.Read.{bytes_to_copy, pages_with}
 use Rattle.model.proofs.CheckHolds.{check-holds}
 use Rattle.model.proofs.Frame.{times-drop, times-take}
 use Rattle.model.proofs.NeededPages.{file-pages-once}
 use Rattle.model.specs.Tree.{times}
-use Rattle.model.specs.View.{pagesOf}
+use Rattle.model.specs.View.{pages_of}
 use Rattle.claims.specs.Pages.{CountedOnce}
 
 -- those with a byte to copy are some of a file's pages
-times-with : (offset count : ℕ) (ps : List ℕ) (p : ℕ) → times (pagesWith offset count ps) p ≤ times ps p
-unfolding pagesWith
+times-with : (offset count : ℕ) (ps : List ℕ) (p : ℕ) → times (pages_with offset count ps) p ≤ times ps p
+unfolding pages_with
 times-with offset count ps p = go (eqb count 0)
   where
     go : (b : Bool) → times (cond b [] (drop (offset / 512) (take ((offset + count + 511) / 512) ps))) p ≤ times ps p
@@ -33,6 +33,6 @@ counted-once format image s root m checked =
     record {
       needed = needed-once format image s parts.0 (see s image) root holds;
       read = λ path e chain pages inside stands offset count.
-          read-apart format image s parts.0 root (pagesWith offset (bytesToCopy e.length offset count) (pagesOf chain))
-          (λ p. omega (arith, times-with offset (bytesToCopy e.length offset count) (pagesOf chain) p, file-pages-once (see s image) root holds path stands p));
+          read-apart format image s parts.0 root (pages_with offset (bytes_to_copy e.length offset count) (pages_of chain))
+          (λ p. omega (arith, times-with offset (bytes_to_copy e.length offset count) (pages_of chain) p, file-pages-once (see s image) root holds path stands p));
     }

@@ -4,15 +4,15 @@ use Rattle.page.specs.declared.Format.{Format}
 use Rattle.page.specs.declared.Format.TheVariants.{Plain, Raw}
 use Rattle.page.specs.Twins.{CodesMatch, SameData}
 use Rattle.change.specs.Changed.{changed}
-use Rattle.layout.specs.Mended.{mendedOf}
-use Rattle.listing.specs.Text.{listingOf}
-use Rattle.lookup.specs.Find.{findOf}
-use Rattle.lookup.specs.Mended.{readMended}
+use Rattle.layout.specs.Mended.{mended_of}
+use Rattle.listing.specs.Text.{listing_of}
+use Rattle.lookup.specs.Find.{find_of}
+use Rattle.lookup.specs.Mended.{read_mended}
 use Rattle.lookup.specs.Read.{read_of}
 use Rattle.lookup.specs.Step.{step_of}
 use Rattle.model.specs.Change.{Change}
 use Rattle.model.specs.Check.{Result, fault, ok}
-use Rattle.tree.specs.Counted.{checkOf}
+use Rattle.tree.specs.Counted.{check_of}
 use Rattle.tree.specs.declared.Counts.{Counts}
 
 -- the check's answer with no chunk counted as corrected
@@ -23,20 +23,20 @@ unmended (ok c) =
 
 -- no call reports a corrected chunk
 pub record NoneMended (format : Format) (image : List ℕ) : Type 0 where
-  pub checked : mendedOf format image ≡ 0
-  pub read : (path : List ℕ) (offset count : ℕ) → readMended format image path offset count ≡ 0
+  pub checked : mended_of format image ≡ 0
+  pub read : (path : List ℕ) (offset count : ℕ) → read_mended format image path offset count ≡ 0
 
 -- Every call answers the same but for the chunks that were corrected: on a plain image none is, nor on a raw one whose codes
 -- all match. A change leaves the same data; where all codes of the raw image match, they match again.
 pub record Alike (raw plain : List ℕ) : Type 0 where
-  pub check : unmended (checkOf Raw raw) ≡ checkOf Plain plain
-  pub find : (path : List ℕ) → findOf Raw raw path ≡ findOf Plain plain path
+  pub check : unmended (check_of Raw raw) ≡ check_of Plain plain
+  pub find : (path : List ℕ) → find_of Raw raw path ≡ find_of Plain plain path
   pub step : (path : List ℕ) (slot : ℕ) → step_of Raw raw path slot ≡ step_of Plain plain path slot
   pub read : (path : List ℕ) (offset count : ℕ) → read_of Raw raw path offset count ≡ read_of Plain plain path offset count
   pub plain-mended : NoneMended Plain plain
   pub codes-mended : CodesMatch raw → NoneMended Raw raw
-  pub counts : CodesMatch raw → checkOf Raw raw ≡ checkOf Plain plain
-  pub list : CodesMatch raw → (minutes : ℤ) → listingOf Raw raw minutes ≡ listingOf Plain plain minutes
+  pub counts : CodesMatch raw → check_of Raw raw ≡ check_of Plain plain
+  pub list : CodesMatch raw → (minutes : ℤ) → listing_of Raw raw minutes ≡ listing_of Plain plain minutes
   pub answer : (c : Change) → (changed Raw c raw).answer ≡ (changed Plain c plain).answer
   pub left : (c : Change) → SameData Raw Plain (changed Raw c raw).image (changed Plain c plain).image
   pub codes : CodesMatch raw → (c : Change) → CodesMatch (changed Raw c raw).image

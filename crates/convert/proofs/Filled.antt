@@ -11,8 +11,8 @@ use borrow.Author.Tests.{eq-eqb, ne_eqb}
 use lib.ListN.{length}
 use Rattle.page.specs.declared.Format.{Format}
 use Rattle.page.specs.declared.Format.TheVariants.{Raw}
-use Rattle.page.specs.Page.{pageAt, pagesIn, written}
-use Rattle.page.specs.Twins.{GoodChunk, spareByte}
+use Rattle.page.specs.Page.{page_at, pages_in, written}
+use Rattle.page.specs.Twins.{GoodChunk, spare_byte}
 use Rattle.page.proofs.Lists.{below_or_not}
 use Rattle.page.proofs.Laws.{length-put, page-put}
 use Rattle.page.proofs.Twins.{other-codes, spare-put, written-codes}
@@ -44,11 +44,11 @@ module _ (to : Format) (content : ℕ → List ℕ) (image : List ℕ) where
   length-filled (suc n) sized =
       length-put to true n (content n) (filled to content n image) (sized n (omega arith)) ∙ length-filled n (fewer content n sized)
 
-  inside-filled : (n q : ℕ) → Sized content n → q < pagesIn to (length image) → q < pagesIn to (length (filled to content n image))
+  inside-filled : (n q : ℕ) → Sized content n → q < pages_in to (length image) → q < pages_in to (length (filled to content n image))
   inside-filled n q sized h = rw (length-filled n sized) h
 
-  pub page-filled : (n : ℕ) → Sized content n → n ≤ pagesIn to (length image) → (q : ℕ) → q < n
-      → pageAt to (filled to content n image) q ≡ some (content q)
+  pub page-filled : (n : ℕ) → Sized content n → n ≤ pages_in to (length image) → (q : ℕ) → q < n
+      → page_at to (filled to content n image) q ≡ some (content q)
   unfolding filled
   page-filled zero sized room q h = absurd (omega arith)
   page-filled (suc n) sized room q h =
@@ -57,7 +57,7 @@ module _ (to : Format) (content : ℕ → List ℕ) (image : List ℕ) where
       (λ (l : n ≤ q). let here : q ≡ n = omega arith in rw (here, eq-eqb n n refl)) (below_or_not q n)
 
 module _ (content : ℕ → List ℕ) (image : List ℕ) where
-  pub codes-filled : (n : ℕ) → Sized content n → n ≤ pagesIn Raw (length image) → (q k : ℕ) → q < n → k < 4
+  pub codes-filled : (n : ℕ) → Sized content n → n ≤ pages_in Raw (length image) → (q k : ℕ) → q < n → k < 4
       → GoodChunk (filled Raw content n image) q k
   unfolding filled
   codes-filled zero sized room q k h b = absurd (omega arith)
@@ -72,7 +72,7 @@ module _ (content : ℕ → List ℕ) (image : List ℕ) where
       rw here (written-codes n (content n) before k (sized n (omega arith)) (inside-filled Raw content image n n (fewer content n sized) (omega arith)) b))
       (below_or_not q n)
 
-  pub spare-filled : (n : ℕ) → Sized content n → (q j : ℕ) → 12 ≤ j → j < 16 → spareByte (filled Raw content n image) q j ≡ spareByte image q j
+  pub spare-filled : (n : ℕ) → Sized content n → (q j : ℕ) → 12 ≤ j → j < 16 → spare_byte (filled Raw content n image) q j ≡ spare_byte image q j
   unfolding filled
   spare-filled zero sized q j h k = refl
   spare-filled (suc n) sized q j h k =

@@ -1,11 +1,11 @@
 // An image in the other format: the data of each page as read, written in turn.
 ghost use Rattle.std.specs.Prelude.{◌≡◌, true, List, ℕ, ◌<◌, length, replicate};
 ghost use Rattle.page.specs.declared.Format.TheVariants.{Plain, Raw};
-ghost use Rattle.page.specs.Page.{is_some, pageAt, pagesIn};
+ghost use Rattle.page.specs.Page.{is_some, page_at, pages_in};
 ghost use Rattle.model.specs.Check.{ok};
 ghost use Rattle.layout.specs.Superblock.{up_to};
-ghost use Rattle.layout.specs.Table.{data_of, needPages};
-ghost use Rattle.convert.specs.Converted.{filled, inFormat, converted, toldConversion, Converts};
+ghost use Rattle.layout.specs.Table.{data_of, need_pages};
+ghost use Rattle.convert.specs.Converted.{filled, in_format, converted, told_conversion, Converts};
 
 use layout::Refusal;
 use layout::page0::{clusters_in, good_length};
@@ -20,7 +20,7 @@ pub enum Conversion {
 
 // Every page of the image in turn: the first that is unreadable decides.
 fn judge_pages(format: Format, image: &[u8]) -> Conversion
-    ensures* { λ r. ⌜ ((result : List ℕ) → toldConversion r result ≡ needPages format image.now (up_to (λ p. p) (pagesIn format (length image.now))) (ok result)) ⌝ }
+    ensures* { λ r. ⌜ ((result : List ℕ) → told_conversion r result ≡ need_pages format image.now (up_to (λ p. p) (pages_in format (length image.now))) (ok result)) ⌝ }
 {
     let pages = page_count(format, image);
     let mut p = 0;
@@ -35,7 +35,7 @@ fn judge_pages(format: Format, image: &[u8]) -> Conversion
 
 // The refusals in their order. All pages are judged before a byte is written.
 fn judge(from: Format, to: Format, image: &[u8], room: usize) -> Conversion
-    ensures { toldConversion result (inFormat from to image.now) ≡ converted from to image.now room }
+    ensures { told_conversion result (in_format from to image.now) ≡ converted from to image.now room }
 {
     if !good_length(from, image.len()) {
         return Conversion::Refused(Refusal::BadLength);
@@ -59,8 +59,8 @@ fn clear(out: &mut [u8])
 
 // Writes the data of each page, all of which are readable.
 fn write_pages(from: Format, to: Format, image: &[u8], out: &mut [u8])
-    requires { (p : ℕ) → p < pagesIn from (length image.now) → is_some (pageAt from image.now p) ≡ true }
-    ensures { out.new ≡ filled to (λ p. data_of (pageAt from image.now p)) (pagesIn from (length image.now)) out.old }
+    requires { (p : ℕ) → p < pages_in from (length image.now) → is_some (page_at from image.now p) ≡ true }
+    ensures { out.new ≡ filled to (λ p. data_of (page_at from image.now p)) (pages_in from (length image.now)) out.old }
 {
     let pages = page_count(from, image);
     let mut page = [0u8; 512];

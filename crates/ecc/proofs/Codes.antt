@@ -5,7 +5,7 @@ use lib.Bits.{xor_comm, xor_self, xor_zero_r}
 use lib.Dec.{T, eqb, eqb→eq, eqb_refl}
 use Rattle.ecc.specs.declared.Code.{Code}
 use Rattle.ecc.specs.Code.{◌⊕◌}
-use Rattle.ecc.specs.Judge.{noBits, counted, same}
+use Rattle.ecc.specs.Judge.{no_bits, counted, same}
 use Rattle.ecc.proofs.Xor.{xor_assoc, xor-back, and_xor, and_again}
 use Rattle.ecc.proofs.Tests.{and_T, and_left, and_right}
 
@@ -19,10 +19,10 @@ pub ⊕-assoc : (p q r : Code) → (p ⊕ q) ⊕ r ≡ p ⊕ (q ⊕ r)
 ⊕-assoc p q r =
     code-path _ _ (xor_assoc p.byte0 q.byte0 r.byte0) (xor_assoc p.byte1 q.byte1 r.byte1) (xor_assoc p.byte2 q.byte2 r.byte2)
 
-pub ⊕-self : (p : Code) → p ⊕ p ≡ noBits
+pub ⊕-self : (p : Code) → p ⊕ p ≡ no_bits
 ⊕-self p = code-path _ _ (xor_self p.byte0) (xor_self p.byte1) (xor_self p.byte2)
 
-pub ⊕-none : (p : Code) → p ⊕ noBits ≡ p
+pub ⊕-none : (p : Code) → p ⊕ no_bits ≡ p
 ⊕-none p = code-path _ _ (xor_zero_r p.byte0) (xor_zero_r p.byte1) (xor_zero_r p.byte2)
 
 pub ⊕-back : (p q : Code) → p ⊕ (p ⊕ q) ≡ q
@@ -32,10 +32,10 @@ pub ⊕-swap : (p q r : Code) → (p ⊕ q) ⊕ r ≡ (p ⊕ r) ⊕ q
 ⊕-swap p q r = ⊕-assoc p q r ∙ ap (λ (x : Code). p ⊕ x) (⊕-comm q r) ∙ sym (⊕-assoc p r q)
 
 -- p ⊕ q is nothing exactly where p is q
-pub ⊕-zero→ : (p q : Code) → p ⊕ q ≡ noBits → p ≡ q
+pub ⊕-zero→ : (p q : Code) → p ⊕ q ≡ no_bits → p ≡ q
 ⊕-zero→ p q e = sym (⊕-none p) ∙ ap (λ (x : Code). p ⊕ x) (sym e) ∙ ⊕-back p q
 
-pub ⊕-zero← : (p q : Code) → p ≡ q → p ⊕ q ≡ noBits
+pub ⊕-zero← : (p q : Code) → p ≡ q → p ⊕ q ≡ no_bits
 ⊕-zero← p q e = ap (λ (x : Code). x ⊕ q) e ∙ ⊕-self q
 
 -- the mask goes through, and a second time it does nothing

@@ -10,24 +10,24 @@ use lib.Count.{ones_in}
 use lib.Dec.{T, eqb, eqb→eq}
 use lib.ListN.{length, get_or, set}
 use Rattle.ecc.specs.declared.Code.{Code}
-use Rattle.ecc.specs.Code.{parity, columnParities, whereOdd, contribution, ◌⊕◌, codeFrom, code_of, start}
-use Rattle.ecc.specs.Judge.{flipBit}
+use Rattle.ecc.specs.Code.{parity, column_parities, where_odd, contribution, ◌⊕◌, code_from, code_of, start}
+use Rattle.ecc.specs.Judge.{flip_bit}
 use Rattle.ecc.proofs.Xor.{and_xor, Digit, d0, d1, digit, xor-join, xor-digit, ones-parity}
 use Rattle.ecc.proofs.Codes.{code-path, ⊕-assoc, ⊕-swap}
 use Rattle.ecc.proofs.Tests.{all_below, all-at}
 
 -- ---- the fold over the bytes
-pub from-⊕ : (i : ℕ) (l : List ℕ) (k e : Code) → codeFrom i l (k ⊕ e) ≡ codeFrom i l k ⊕ e
+pub from-⊕ : (i : ℕ) (l : List ℕ) (k e : Code) → code_from i l (k ⊕ e) ≡ code_from i l k ⊕ e
 from-⊕ i [] k e = refl
-from-⊕ i (b ∷ bs) k e = ap (codeFrom (suc i) bs) (⊕-swap k e (contribution i b)) ∙ from-⊕ (suc i) bs (k ⊕ contribution i b) e
+from-⊕ i (b ∷ bs) k e = ap (code_from (suc i) bs) (⊕-swap k e (contribution i b)) ∙ from-⊕ (suc i) bs (k ⊕ contribution i b) e
 
 -- one byte changed
 pub from-set : (n : ℕ) (l : List ℕ) (i y : ℕ) (k e : Code) → i < length l → contribution (n + i) y ≡ contribution (n + i) (get_or l i 0) ⊕ e
-    → codeFrom n (set l i y) k ≡ codeFrom n l k ⊕ e
+    → code_from n (set l i y) k ≡ code_from n l k ⊕ e
 from-set n [] i y k e h s = absurd (not-suc-le-zero h)
 from-set n (b ∷ bs) zero y k e h s =
-    ap (λ (x : Code). codeFrom (suc n) bs (k ⊕ x)) (rw add-zero at s)
-    ∙ ap (codeFrom (suc n) bs) (sym (⊕-assoc k (contribution n b) e))
+    ap (λ (x : Code). code_from (suc n) bs (k ⊕ x)) (rw add-zero at s)
+    ∙ ap (code_from (suc n) bs) (sym (⊕-assoc k (contribution n b) e))
     ∙ from-⊕ (suc n) bs (k ⊕ contribution n b) e
 from-set n (b ∷ bs) (suc i) y k e h s =
     from-set (suc n) bs i y (k ⊕ contribution n b) e (le_of_suc-le-suc h) (rw (add-suc n i, ← suc-add n i) at s)
@@ -49,8 +49,8 @@ parity-xor : (a b : ℕ) → parity (bit_xor a b) ≡ differ (parity a) (parity 
 unfolding parity
 parity-xor a b = ones-parity 8 a b
 
-pub columns-lt : (b : ℕ) → columnParities b < 128
-unfolding columnParities
+pub columns-lt : (b : ℕ) → column_parities b < 128
+unfolding column_parities
 columns-lt b =
     omega
     (arith, parity-lt (bit_and b 0x55), parity-lt (bit_and b 0x33), parity-lt (bit_and b 0x0F), parity-lt (bit_and b 0xAA), parity-lt (bit_and b 0xCC), parity-lt (bit_and b 0xF0))
@@ -63,9 +63,9 @@ packed-sum : (u v w x y z : ℕ) → u * 1 + v * 2 + w * 4 + x * 16 + y * 32 + z
 packed-sum u v w x y z = omega arith
 
 columns-packed : (b : ℕ)
-    → columnParities b
+    → column_parities b
     ≡ packed (parity (bit_and b 0x55)) (parity (bit_and b 0x33)) (parity (bit_and b 0x0F)) (parity (bit_and b 0xAA)) (parity (bit_and b 0xCC)) (parity (bit_and b 0xF0))
-unfolding columnParities
+unfolding column_parities
 columns-packed b =
     packed-sum (parity (bit_and b 0x55)) (parity (bit_and b 0x33)) (parity (bit_and b 0x0F)) (parity (bit_and b 0xAA)) (parity (bit_and b 0xCC)) (parity (bit_and b 0xF0))
 
@@ -89,7 +89,7 @@ packed-xor {u} {v} {w} {x} {y} {z} {u'} {v'} {w'} {x'} {y'} {z'} du dv dw dx dy 
 parity-masked : (a b m : ℕ) → parity (bit_and (bit_xor a b) m) ≡ differ (parity (bit_and a m)) (parity (bit_and b m))
 parity-masked a b m = ap parity (and_xor a b m) ∙ parity-xor (bit_and a m) (bit_and b m)
 
-columns-xor : (a b : ℕ) → columnParities (bit_xor a b) ≡ bit_xor (columnParities a) (columnParities b)
+columns-xor : (a b : ℕ) → column_parities (bit_xor a b) ≡ bit_xor (column_parities a) (column_parities b)
 columns-xor a b =
     columns-packed (bit_xor a b)
     ∙ rw (parity-masked a b 0x55, parity-masked a b 0x33, parity-masked a b 0x0F, parity-masked a b 0xAA, parity-masked a b 0xCC, parity-masked a b 0xF0)
@@ -100,33 +100,33 @@ columns-xor a b =
     o x m = parity-digit (bit_and x m)
 
 -- the parities of a byte with one bit
-columnsRight : ℕ → Bool
-columnsRight j = eqb (columnParities (2 ^ j)) (16 * j + (7 - j))
+columns_right : ℕ → Bool
+columns_right j = eqb (column_parities (2 ^ j)) (16 * j + (7 - j))
 
-parityRight : ℕ → Bool
-parityRight j = eqb (parity (2 ^ j)) 1
+parity_right : ℕ → Bool
+parity_right j = eqb (parity (2 ^ j)) 1
 
-all-columns : T (all_below 8 columnsRight)
-unfolding columnsRight columnParities parity ones_in
+all-columns : T (all_below 8 columns_right)
+unfolding columns_right column_parities parity ones_in
 all-columns = tt
 
-all-parities : T (all_below 8 parityRight)
-unfolding parityRight parity ones_in
+all-parities : T (all_below 8 parity_right)
+unfolding parity_right parity ones_in
 all-parities = tt
 
-columns-flip : (b j : ℕ) → j < 8 → columnParities (bit_xor b (2 ^ j)) ≡ bit_xor (columnParities b) (16 * j + (7 - j))
-unfolding columnsRight
-columns-flip b j hj = columns-xor b (2 ^ j) ∙ ap (bit_xor (columnParities b)) (eqb→eq _ _ (all-at 8 columnsRight all-columns j hj))
+columns-flip : (b j : ℕ) → j < 8 → column_parities (bit_xor b (2 ^ j)) ≡ bit_xor (column_parities b) (16 * j + (7 - j))
+unfolding columns_right
+columns-flip b j hj = columns-xor b (2 ^ j) ∙ ap (bit_xor (column_parities b)) (eqb→eq _ _ (all-at 8 columns_right all-columns j hj))
 
 parity-flip : (b j : ℕ) → j < 8 → parity (bit_xor b (2 ^ j)) ≡ 1 - parity b
-unfolding parityRight
-parity-flip b j hj = parity-xor b (2 ^ j) ∙ ap (differ (parity b)) (eqb→eq (parity (2 ^ j)) 1 (all-at 8 parityRight all-parities j hj)) ∙ go (parity-digit b)
+unfolding parity_right
+parity-flip b j hj = parity-xor b (2 ^ j) ∙ ap (differ (parity b)) (eqb→eq (parity (2 ^ j)) 1 (all-at 8 parity_right all-parities j hj)) ∙ go (parity-digit b)
   where
     go : {o : ℕ} → Digit o → differ o 1 ≡ 1 - o
     go d0 = refl
     go d1 = refl
 
-where-flip : (o x : ℕ) → o < 2 → whereOdd (1 - o) x ≡ bit_xor (whereOdd o x) x
+where-flip : (o x : ℕ) → o < 2 → where_odd (1 - o) x ≡ bit_xor (where_odd o x) x
 where-flip zero x h = refl
 where-flip (suc zero) x h = sym (xor_self x)
 where-flip (suc (suc o)) x h = absurd (omega arith)
@@ -135,12 +135,12 @@ pub contribution-flip : (i b j : ℕ) → j < 8
     → contribution i (bit_xor b (2 ^ j)) ≡ contribution i b ⊕ (record { byte0 = 16 * j + (7 - j); byte1 = 127 - i; byte2 = i })
 contribution-flip i b j hj =
     code-path _ _ (columns-flip b j hj)
-    (ap (λ (o : ℕ). whereOdd o (127 - i)) (parity-flip b j hj) ∙ where-flip (parity b) (127 - i) (parity-lt b))
-    (ap (λ (o : ℕ). whereOdd o i) (parity-flip b j hj) ∙ where-flip (parity b) i (parity-lt b))
+    (ap (λ (o : ℕ). where_odd o (127 - i)) (parity-flip b j hj) ∙ where-flip (parity b) (127 - i) (parity-lt b))
+    (ap (λ (o : ℕ). where_odd o i) (parity-flip b j hj) ∙ where-flip (parity b) i (parity-lt b))
 
 -- so a flipped data bit flips its pattern
-pub code-flip : (d : List ℕ) (k : ℕ) → k / 8 < length d → code_of (flipBit d k) ≡ code_of d ⊕ pattern k
-unfolding code_of flipBit pattern
+pub code-flip : (d : List ℕ) (k : ℕ) → k / 8 < length d → code_of (flip_bit d k) ≡ code_of d ⊕ pattern k
+unfolding code_of flip_bit pattern
 code-flip d k hk =
     from-set 0 d (k / 8) (bit_xor (get_or d (k / 8) 0) (2 ^ (k % 8))) start (pattern k) hk
     (subst (λ (n : ℕ). contribution n (bit_xor (get_or d (k / 8) 0) (2 ^ (k % 8))) ≡ contribution n (get_or d (k / 8) 0) ⊕ pattern k) (sym (zero-add (k / 8)))

@@ -9,8 +9,8 @@ use lib.Seq.{get_or-set_same, set-set, set-get_or}
 use Rattle.ecc.specs.declared.Code.{Code}
 use Rattle.ecc.specs.declared.Verdict.{Verdict}
 use Rattle.ecc.specs.Code.{◌⊕◌}
-use Rattle.ecc.specs.Judge.{flipAt, flipBit, judge, corrected}
-use Rattle.ecc.specs.Flip.{Flip, inData, in_code, Counts, flippedData, flippedCode, flipVerdict}
+use Rattle.ecc.specs.Judge.{flip_at, flip_bit, judge, corrected}
+use Rattle.ecc.specs.Flip.{Flip, in_data, in_code, Counts, flipped_data, flipped_code, flip_verdict}
 use Rattle.ecc.specs.Claims.{RightlyCoded, OneFlipFound, OneFlipUnique}
 use Rattle.ecc.proofs.Xor.{xor_assoc}
 use Rattle.ecc.proofs.Codes.{⊕-comm, ⊕-none, ⊕-zero→}
@@ -19,7 +19,7 @@ use Rattle.ecc.proofs.Laws.{judge-is}
 use Rattle.ecc.proofs.Flips.{effect, syndrome-flip, locate-effect, length-flip, effect-inj}
 
 -- after the flip the syndrome is the flip's effect
-pub syndrome-one : (d : List ℕ) (c : Code) (f : Flip) → RightlyCoded d c → Counts f → syndrome (flippedData f d) (flippedCode f c) ≡ effect f
+pub syndrome-one : (d : List ℕ) (c : Code) (f : Flip) → RightlyCoded d c → Counts f → syndrome (flipped_data f d) (flipped_code f c) ≡ effect f
 syndrome-one d c f right hf =
     syndrome-flip f d c hf right.size
     ∙ ap (λ (x : Code). x ⊕ effect f) (matches→ d c right.right) ∙ ⊕-none-left (effect f)
@@ -27,11 +27,11 @@ syndrome-one d c f right hf =
     ⊕-none-left : (p : Code) → record { byte0 = 0; byte1 = 0; byte2 = 0 } ⊕ p ≡ p
     ⊕-none-left p = ⊕-comm _ p ∙ ⊕-none p
 
-told : (d : List ℕ) (c : Code) (f : Flip) → RightlyCoded d c → Counts f → judge (flippedData f d) (flippedCode f c) ≡ flipVerdict f
+told : (d : List ℕ) (c : Code) (f : Flip) → RightlyCoded d c → Counts f → judge (flipped_data f d) (flipped_code f c) ≡ flip_verdict f
 told d c f right hf =
-    judge-is (flippedData f d) (flippedCode f c) (length-flip f d ∙ right.size) ∙ ap locate (syndrome-one d c f right hf) ∙ locate-effect f hf
+    judge-is (flipped_data f d) (flipped_code f c) (length-flip f d ∙ right.size) ∙ ap locate (syndrome-one d c f right hf) ∙ locate-effect f hf
 
-flip_twice : (d : List ℕ) (i j : ℕ) → i < length d → flipAt (flipAt d i j) i j ≡ d
+flip_twice : (d : List ℕ) (i j : ℕ) → i < length d → flip_at (flip_at d i j) i j ≡ d
 flip_twice d i j h =
     let x = get_or d i 0 in
     let y = bit_xor x (2 ^ j) in
@@ -40,19 +40,19 @@ flip_twice d i j h =
     (ap (λ (z : ℕ). bit_xor z (2 ^ j)) (get_or-set_same d i y 0 h) ∙ xor_assoc x (2 ^ j) (2 ^ j) ∙ ap (bit_xor x) (xor_self (2 ^ j)) ∙ xor_zero_r x)
     ∙ set-get_or d i 0
 
-back : (d : List ℕ) (f : Flip) → length d ≡ 128 → Counts f → corrected (flipVerdict f) (flippedData f d) ≡ d
-unfolding flipBit
-back d (inData k) hl hf = flip_twice d (k / 8) (k % 8) (omega arith)
+back : (d : List ℕ) (f : Flip) → length d ≡ 128 → Counts f → corrected (flip_verdict f) (flipped_data f d) ≡ d
+unfolding flip_bit
+back d (in_data k) hl hf = flip_twice d (k / 8) (k % 8) (omega arith)
 back d (in_code k) hl hf = refl
 
 pub one-flip-found : OneFlipFound
 one-flip-found d c f right hf = record {
   told = told d c f right hf;
-  restored = ap (λ (v : Verdict). corrected v (flippedData f d)) (told d c f right hf) ∙ back d f right.size hf;
+  restored = ap (λ (v : Verdict). corrected v (flipped_data f d)) (told d c f right hf) ∙ back d f right.size hf;
 }
 
 pub one-flip-unique : OneFlipUnique
 one-flip-unique d c f g hl hf hg s t =
     effect-inj f g hf hg
-    (sym (⊕-zero→ (syndrome d c) (effect f) (sym (syndrome-flip f d c hf hl) ∙ matches→ (flippedData f d) (flippedCode f c) s))
-    ∙ ⊕-zero→ (syndrome d c) (effect g) (sym (syndrome-flip g d c hg hl) ∙ matches→ (flippedData g d) (flippedCode g c) t))
+    (sym (⊕-zero→ (syndrome d c) (effect f) (sym (syndrome-flip f d c hf hl) ∙ matches→ (flipped_data f d) (flipped_code f c) s))
+    ∙ ⊕-zero→ (syndrome d c) (effect g) (sym (syndrome-flip g d c hg hl) ∙ matches→ (flipped_data g d) (flipped_code g c) t))

@@ -6,12 +6,12 @@ use native.Mathlib.Numerals.{add-one}
 use lib.ListN.{length, drop, get_or, drop_of_length-le}
 use lib.Seq.{drop-cons}
 use Rattle.ecc.specs.declared.Code.{Code}
-use Rattle.ecc.specs.Code.{codeFrom, code_of, contribution, ◌⊕◌}
+use Rattle.ecc.specs.Code.{code_from, code_of, contribution, ◌⊕◌}
 use Rattle.ecc.specs.Parities.{code_in}
 
 -- the code by `sums` and the bytes from index i on
 abbrev pub left : List ℕ → ℕ → ℕ → Code
-left l i sums = codeFrom i (drop i l) (code_in sums)
+left l i sums = code_from i (drop i l) (code_in sums)
 
 pub first : (l : List ℕ) → left l 0 0x7F77 ≡ code_of l
 unfolding code_of

@@ -7,8 +7,8 @@ use native.Mathlib.Omega.{arith}
 use lib.Bits.{bit_and, bit_xor, xor_comm, and_zero_l, and_comm, and_mask, and_block, xor_shr, xor_mod}
 use lib.Dec.{T, eqb, eqb→eq}
 use Rattle.ecc.specs.declared.Code.{Code}
-use Rattle.ecc.specs.Code.{parity, columnParities, whereOdd, contribution, ◌⊕◌}
-use Rattle.ecc.specs.Parities.{code_in, parityEntry}
+use Rattle.ecc.specs.Code.{parity, column_parities, where_odd, contribution, ◌⊕◌}
+use Rattle.ecc.specs.Parities.{code_in, parity_entry}
 use Rattle.ecc.proofs.Xor.{Digit, d0, d1, digit, digit_lt, xor_assoc}
 use Rattle.ecc.proofs.Codes.{code-path}
 use Rattle.ecc.proofs.Linear.{parity-digit, columns-lt}
@@ -55,19 +55,19 @@ unfolding opposite
 opposite-is i h = eqb→eq _ _ (all-at 128 opposite all-opposite i h)
 
 -- the mask of an index: all of bits 0 to 7, and the index in bits 8 to 14
-abbrev pub indexMask : ℕ → ℕ
-indexMask i = 256 * i + 255
+abbrev pub index_mask : ℕ → ℕ
+index_mask i = 256 * i + 255
 
-masked-index : (i : ℕ) {p : ℕ} → i < 128 → Digit p → bit_and (127 * p) i ≡ whereOdd p i
+masked-index : (i : ℕ) {p : ℕ} → i < 128 → Digit p → bit_and (127 * p) i ≡ where_odd p i
 masked-index i h d0 = and_zero_l i
 masked-index i h d1 = and_comm 127 i ∙ and_mask i 7 ∙ omega arith
 
 masked-entry : (i columns : ℕ) {p : ℕ} → i < 128 → columns < 128 → Digit p
-    → bit_and (columns + 0x7F80 * p) (indexMask i) ≡ whereOdd p i * 256 + (columns + 128 * p)
+    → bit_and (columns + 0x7F80 * p) (index_mask i) ≡ where_odd p i * 256 + (columns + 128 * p)
 masked-entry i columns {p} hi hc d =
     let hp : p < 2 = digit_lt d in
     let entry : columns + 0x7F80 * p ≡ 127 * p * 256 + (columns + 128 * p) = omega arith in
-    let mask : indexMask i ≡ i * 256 + 255 = omega arith in
+    let mask : index_mask i ≡ i * 256 + 255 = omega arith in
     ap₂ bit_and entry mask ∙ and_block 8 (127 * p) i (columns + 128 * p) 255 (omega arith) (omega arith)
     ∙ ap₂ (λ (m n : ℕ). m * 256 + n) (masked-index i hi d) (and_mask (columns + 128 * p) 8 ∙ omega arith)
 
@@ -79,21 +79,21 @@ parts w columns p hw hc hp =
     let high : (w * 256 + (columns + 128 * p)) / 256 % 256 ≡ w = omega arith in
     code-path _ _ (omega arith) (ap₂ (λ (m n : ℕ). bit_xor m (127 * n)) high odd) high
 
-index-lt : (i : ℕ) {p : ℕ} → i < 128 → Digit p → whereOdd p i < 128
+index-lt : (i : ℕ) {p : ℕ} → i < 128 → Digit p → where_odd p i < 128
 index-lt i h d0 = omega arith
 index-lt i h d1 = h
 
-opposite-index : (i : ℕ) {p : ℕ} → i < 128 → Digit p → bit_xor (whereOdd p i) (127 * p) ≡ whereOdd p (127 - i)
+opposite-index : (i : ℕ) {p : ℕ} → i < 128 → Digit p → bit_xor (where_odd p i) (127 * p) ≡ where_odd p (127 - i)
 opposite-index i h d0 = refl
 opposite-index i h d1 = opposite-is i h
 
-entry-code : (i byte : ℕ) → i < 128 → code_in (bit_and (parityEntry byte) (indexMask i)) ≡ contribution i byte
+entry-code : (i byte : ℕ) → i < 128 → code_in (bit_and (parity_entry byte) (index_mask i)) ≡ contribution i byte
 entry-code i byte h =
     let d = parity-digit byte in
-    ap code_in (masked-entry i (columnParities byte) h (columns-lt byte) d)
-    ∙ parts (whereOdd (parity byte) i) (columnParities byte) (parity byte) (index-lt i h d) (columns-lt byte) (digit_lt d)
-    ∙ ap (λ (n : ℕ). record { byte0 = columnParities byte; byte1 = n; byte2 = whereOdd (parity byte) i }) (opposite-index i h d)
+    ap code_in (masked-entry i (column_parities byte) h (columns-lt byte) d)
+    ∙ parts (where_odd (parity byte) i) (column_parities byte) (parity byte) (index-lt i h d) (columns-lt byte) (digit_lt d)
+    ∙ ap (λ (n : ℕ). record { byte0 = column_parities byte; byte1 = n; byte2 = where_odd (parity byte) i }) (opposite-index i h d)
 
 -- one byte more
-pub with-entry : (sums i byte : ℕ) → i < 128 → code_in (bit_xor sums (bit_and (parityEntry byte) (indexMask i))) ≡ code_in sums ⊕ contribution i byte
-with-entry sums i byte h = code-in-xor sums (bit_and (parityEntry byte) (indexMask i)) ∙ ap (λ (e : Code). code_in sums ⊕ e) (entry-code i byte h)
+pub with-entry : (sums i byte : ℕ) → i < 128 → code_in (bit_xor sums (bit_and (parity_entry byte) (index_mask i))) ≡ code_in sums ⊕ contribution i byte
+with-entry sums i byte h = code-in-xor sums (bit_and (parity_entry byte) (index_mask i)) ∙ ap (λ (e : Code). code_in sums ⊕ e) (entry-code i byte h)

@@ -7,7 +7,7 @@ use native.Mathlib.Nat.{not-suc-le-zero}
 use native.Mathlib.Decide.{ℕ_discrete}
 use native.Mathlib.Omega.{arith}
 use lib.Dec.{T}
-use Rattle.ecc.specs.Judge.{findBelow}
+use Rattle.ecc.specs.Judge.{find_below}
 
 -- ---- a test and the fact that it passes
 pub T_true : {b : Bool} → b ≡ true → T b
@@ -37,10 +37,10 @@ and_right true b t = t
 and_right false b t = absurd t
 
 -- v is asked only where b passes, or only where it fails
-abbrev pub ifSo : Bool → Bool → Bool
-ifSo b v = elim b [ true ↦ v | false ↦ true ]
+abbrev pub if_so : Bool → Bool → Bool
+if_so b v = elim b [ true ↦ v | false ↦ true ]
 
-pub if-so : (b v : Bool) → T (ifSo b v) → T b → T v
+pub if-so : (b v : Bool) → T (if_so b v) → T b → T v
 if-so true v t h = t
 if-so false v t h = absurd h
 
@@ -65,24 +65,24 @@ all-at (suc n) f t k h = go (all-at n f (and_right (f n) (all_below n f) t) k) (
     go r (no e) = r (omega arith)
 
 -- ---- the search below a bound
-pub find-some : (n : ℕ) (p : ℕ → Bool) (k : ℕ) → findBelow n p ≡ some k → (k < n) × T (p k)
+pub find-some : (n : ℕ) (p : ℕ → Bool) (k : ℕ) → find_below n p ≡ some k → (k < n) × T (p k)
 find-some zero p k e = absurd (none-some e)
   where
     none-some : ◌≡◌ {A = Option ℕ} none (some k) → ⊥
     none-some q = let z : ◌≡◌ {A = ℕ} 0 1 = cc in omega arith
 find-some (suc n) p k e = go (p n) refl (find-some n p k) e
   where
-    go : (b : Bool) → p n ≡ b → (findBelow n p ≡ some k → (k < n) × T (p k))
-        → elim b [ true ↦ some n | false ↦ findBelow n p ] ≡ some k → (k < suc n) × T (p k)
+    go : (b : Bool) → p n ≡ b → (find_below n p ≡ some k → (k < n) × T (p k))
+        → elim b [ true ↦ some n | false ↦ find_below n p ] ≡ some k → (k < suc n) × T (p k)
     go true h r q = let z : n ≡ k = cc in (omega arith, subst (λ (m : ℕ). T (p m)) z (T_true h))
     go false h r q = let z = r q in (omega (arith, z.0), z.1)
 
-pub find_none : (n : ℕ) (p : ℕ → Bool) → findBelow n p ≡ none → (k : ℕ) → k < n → T (p k) → ⊥
+pub find_none : (n : ℕ) (p : ℕ → Bool) → find_below n p ≡ none → (k : ℕ) → k < n → T (p k) → ⊥
 find_none zero p e k h t = not-suc-le-zero h
 find_none (suc n) p e k h t = go (p n) refl (λ q. find_none n p q k) e (ℕ_discrete k n)
   where
-    go : (b : Bool) → p n ≡ b → (findBelow n p ≡ none → k < n → T (p k) → ⊥)
-        → ◌≡◌ {A = Option ℕ} (elim b [ true ↦ some n | false ↦ findBelow n p ]) none → Dec (k ≡ n) → ⊥
+    go : (b : Bool) → p n ≡ b → (find_below n p ≡ none → k < n → T (p k) → ⊥)
+        → ◌≡◌ {A = Option ℕ} (elim b [ true ↦ some n | false ↦ find_below n p ]) none → Dec (k ≡ n) → ⊥
     go true q r w dec = let z : ◌≡◌ {A = ℕ} 0 1 = cc in omega arith
     go false q r w (yes s) = not-T-false q (subst (λ (m : ℕ). T (p m)) s t)
     go false q r w (no s) = r w (omega arith) t

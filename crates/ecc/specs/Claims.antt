@@ -4,7 +4,7 @@ use Rattle.ecc.specs.declared.Code.{Code}
 use Rattle.ecc.specs.declared.Verdict.TheVariants.{Unreadable}
 use Rattle.ecc.specs.Code.{code_of}
 use Rattle.ecc.specs.Judge.{counted, matches, judge, corrected}
-use Rattle.ecc.specs.Flip.{Flip, Counts, flippedData, flippedCode, flipVerdict}
+use Rattle.ecc.specs.Flip.{Flip, Counts, flipped_data, flipped_code, flip_verdict}
 
 -- A chunk of 128 bytes beside a stored code whose 20 bits match; the ignored bits may be anything.
 pub record RightlyCoded (chunk : List ℕ) (stored : Code) : Type 0 where
@@ -19,8 +19,8 @@ IgnoredBitsZero = (chunk : List ℕ) → length chunk ≤ 128 → counted (code_
 
 -- The verdict tells the flip, and the corrected data are those before it.
 pub record FlipFound (chunk : List ℕ) (stored : Code) (flip : Flip) : Type 0 where
-  pub told : judge (flippedData flip chunk) (flippedCode flip stored) ≡ flipVerdict flip
-  pub restored : corrected (judge (flippedData flip chunk) (flippedCode flip stored)) (flippedData flip chunk) ≡ chunk
+  pub told : judge (flipped_data flip chunk) (flipped_code flip stored) ≡ flip_verdict flip
+  pub restored : corrected (judge (flipped_data flip chunk) (flipped_code flip stored)) (flipped_data flip chunk) ≡ chunk
 
 -- One flipped bit of a rightly coded chunk, in the data or in the code, is found and put right.
 abbrev pub OneFlipFound : Type 0
@@ -30,7 +30,7 @@ OneFlipFound = (chunk : List ℕ) (stored : Code) (flip : Flip) → RightlyCoded
 abbrev pub OneFlipUnique : Type 0
 OneFlipUnique =
     (chunk : List ℕ) (stored : Code) (one other : Flip) → length chunk ≡ 128 → Counts one → Counts other
-    → T (matches (flippedData one chunk) (flippedCode one stored)) → T (matches (flippedData other chunk) (flippedCode other stored)) → one ≡ other
+    → T (matches (flipped_data one chunk) (flipped_code one stored)) → T (matches (flipped_data other chunk) (flipped_code other stored)) → one ≡ other
 
 -- ---- two flipped bits
 
@@ -38,4 +38,4 @@ OneFlipUnique =
 abbrev pub TwoFlipsUnreadable : Type 0
 TwoFlipsUnreadable =
     (chunk : List ℕ) (stored : Code) (one other : Flip) → RightlyCoded chunk stored → Counts one → Counts other → (one ≡ other → ⊥)
-    → judge (flippedData other (flippedData one chunk)) (flippedCode other (flippedCode one stored)) ≡ Unreadable
+    → judge (flipped_data other (flipped_data one chunk)) (flipped_code other (flipped_code one stored)) ≡ Unreadable

@@ -5,8 +5,8 @@ use Rattle.std.specs.Int.Count.{ones_in}
 use Rattle.ecc.specs.declared.Code.{Code}
 
 -- Three bytes as a code, and a chunk of zeros.
-abbrev pub codeOfBytes : ℕ → ℕ → ℕ → Code
-codeOfBytes x y z = record { byte0 = x; byte1 = y; byte2 = z }
+abbrev pub code_of_bytes : ℕ → ℕ → ℕ → Code
+code_of_bytes x y z = record { byte0 = x; byte1 = y; byte2 = z }
 
 abbrev pub zeros : List ℕ
 zeros = replicate 128 0x00
@@ -16,15 +16,15 @@ unfoldable pub parity : ℕ → ℕ
 parity byte = ones_in 8 byte % 2
 
 -- What a data byte flips in code byte 0: bit 0, 1, 2, 4, 5, 6 where the byte, ANDed with that bit's mask, has an odd number of ones.
-unfoldable pub columnParities : ℕ → ℕ
-columnParities byte =
+unfoldable pub column_parities : ℕ → ℕ
+column_parities byte =
     parity (bit_and byte 0x55) * 1 + parity (bit_and byte 0x33) * 2 + parity (bit_and byte 0x0F) * 4
     + parity (bit_and byte 0xAA) * 16 + parity (bit_and byte 0xCC) * 32 + parity (bit_and byte 0xF0) * 64
 
 -- The value where the parity is 1, else zero.
-abbrev pub whereOdd : ℕ → ℕ → ℕ
-whereOdd zero value = zero
-whereOdd (suc more) value = value
+abbrev pub where_odd : ℕ → ℕ → ℕ
+where_odd zero value = zero
+where_odd (suc more) value = value
 
 -- Exclusive or of two codes, byte by byte.
 abbrev pub ◌⊕◌ : Code → Code → Code
@@ -34,17 +34,17 @@ infixl 60 ◌⊕◌
 -- What the data byte at an index flips: its columns in byte 0 and, where it has an odd number of ones, 127 - index in byte 1 and index in byte 2.
 abbrev pub contribution : ℕ → ℕ → Code
 contribution index byte =
-    record { byte0 = columnParities byte; byte1 = whereOdd (parity byte) (127 - index); byte2 = whereOdd (parity byte) index }
+    record { byte0 = column_parities byte; byte1 = where_odd (parity byte) (127 - index); byte2 = where_odd (parity byte) index }
 
 -- Byte 0 starts at 0x77, bytes 1 and 2 at 0x7F.
 abbrev pub start : Code
-start = codeOfBytes 0x77 0x7F 0x7F
+start = code_of_bytes 0x77 0x7F 0x7F
 
 -- The code after the bytes, the first of which stands at the index.
-abbrev pub codeFrom : ℕ → List ℕ → Code → Code
-codeFrom index [] code = code
-codeFrom index (byte ∷ bytes) code = codeFrom (suc index) bytes (code ⊕ contribution index byte)
+abbrev pub code_from : ℕ → List ℕ → Code → Code
+code_from index [] code = code
+code_from index (byte ∷ bytes) code = code_from (suc index) bytes (code ⊕ contribution index byte)
 
 -- The code of a chunk.
 unfoldable pub code_of : List ℕ → Code
-code_of chunk = codeFrom 0 chunk start
+code_of chunk = code_from 0 chunk start

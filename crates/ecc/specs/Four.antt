@@ -3,21 +3,21 @@ use Rattle.std.specs.Prelude.{List, ℕ, ◌+◌, ◌*◌, get_or}
 use Rattle.ecc.specs.declared.Code.{Code}
 use Rattle.ecc.specs.declared.FourCodes.{FourCodes}
 use Rattle.ecc.specs.declared.FourVerdicts.{FourVerdicts}
-use Rattle.ecc.specs.Code.{code_of, codeOfBytes}
-use Rattle.ecc.specs.Judge.{judgeSlice}
+use Rattle.ecc.specs.Code.{code_of, code_of_bytes}
+use Rattle.ecc.specs.Judge.{judge_slice}
 
 abbrev pub codes_of : (chunk0 chunk1 chunk2 chunk3 : List ℕ) → FourCodes
 codes_of chunk0 chunk1 chunk2 chunk3 = record { chunk0 = code_of chunk0; chunk1 = code_of chunk1; chunk2 = code_of chunk2; chunk3 = code_of chunk3 }
 
 -- Bytes 3k to 3k+2 are the code of chunk k; one that is missing counts as zero.
 abbrev pub code_at : List ℕ → ℕ → Code
-code_at stored k = codeOfBytes (get_or stored (3 * k) 0) (get_or stored (3 * k + 1) 0) (get_or stored (3 * k + 2) 0)
+code_at stored k = code_of_bytes (get_or stored (3 * k) 0) (get_or stored (3 * k + 1) 0) (get_or stored (3 * k + 2) 0)
 
-abbrev pub judgeFour : (chunk0 chunk1 chunk2 chunk3 stored : List ℕ) → FourVerdicts
-judgeFour chunk0 chunk1 chunk2 chunk3 stored =
+abbrev pub judge_four : (chunk0 chunk1 chunk2 chunk3 stored : List ℕ) → FourVerdicts
+judge_four chunk0 chunk1 chunk2 chunk3 stored =
     record {
-      chunk0 = judgeSlice chunk0 (code_at stored 0);
-      chunk1 = judgeSlice chunk1 (code_at stored 1);
-      chunk2 = judgeSlice chunk2 (code_at stored 2);
-      chunk3 = judgeSlice chunk3 (code_at stored 3);
+      chunk0 = judge_slice chunk0 (code_at stored 0);
+      chunk1 = judge_slice chunk1 (code_at stored 1);
+      chunk2 = judge_slice chunk2 (code_at stored 2);
+      chunk3 = judge_slice chunk3 (code_at stored 3);
     }

@@ -1,7 +1,7 @@
 ghost use Rattle.std.specs.Prelude.{◌≡◌, List, ℕ, ◌<◌, get_or, length, take};
 ghost use Rattle.ecc.specs.Code.{code_of, contribution, ◌⊕◌};
-ghost use Rattle.ecc.specs.Four.{code_at, codes_of, judgeFour};
-ghost use Rattle.ecc.specs.Judge.{judge, judgeSlice};
+ghost use Rattle.ecc.specs.Four.{code_at, codes_of, judge_four};
+ghost use Rattle.ecc.specs.Judge.{judge, judge_slice};
 ghost use Rattle.ecc.specs.Parities.{code_in, HoldsParities};
 
 use crate::parities::{parities_in, parity_table};
@@ -92,7 +92,7 @@ fn judge_by(right: Code, stored: Code) -> Verdict
 
 // How a chunk beside its stored code is judged; what is not 128 bytes long is no chunk, and unreadable.
 pub fn judge_chunk(chunk: &[u8], stored: Code) -> Verdict
-    ensures { result ≡ judgeSlice chunk.now stored }
+    ensures { result ≡ judge_slice chunk.now stored }
 {
     if chunk.len() != 128 {
         return Verdict::Unreadable;
@@ -174,7 +174,7 @@ pub fn judge_four(
     chunk3: &[u8],
     stored: &[u8],
 ) -> FourVerdicts
-    ensures { result ≡ judgeFour chunk0.now chunk1.now chunk2.now chunk3.now stored.now }
+    ensures { result ≡ judge_four chunk0.now chunk1.now chunk2.now chunk3.now stored.now }
 {
     if (chunk0.len() == 128)
         & ((chunk1.len() == 128) & ((chunk2.len() == 128) & (chunk3.len() == 128)))

@@ -4,6 +4,6 @@ use Rattle.model.specs.declared.Moment.{Moment}
 use Rattle.fields.specs.declared.calendar.Shown.{Shown}
 use Rattle.fields.specs.declared.calendar.Shown.TheVariants as is
 
-abbrev pub shownAs : Option Moment → Shown
-shownAs none = is.Unknown
-shownAs (some m) = is.Time m
+abbrev pub shown_as : Option Moment → Shown
+shown_as none = is.Unknown
+shown_as (some m) = is.Time m

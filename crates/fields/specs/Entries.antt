@@ -2,15 +2,15 @@
 use Rattle.fields.specs.declared.entries.Entry.{Entry}
 use Rattle.model.specs.Entry as model
 
-abbrev pub fieldsOfEntry : model.Entry → Entry
-fieldsOfEntry e =
+abbrev pub fields_of_entry : model.Entry → Entry
+fields_of_entry e =
     record {
       mode = e.mode;
       length = e.length;
       created = e.created;
-      first = e.firstCluster;
-      dir_entry = e.dirEntry;
+      first = e.first_cluster;
+      dir_entry = e.dir_entry;
       modified = e.modified;
       attribute = e.attribute;
-      name = e.nameField;
+      name = e.name_field;
     }

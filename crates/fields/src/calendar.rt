@@ -1,10 +1,10 @@
 // A time shifted by minutes: it carries across day, month and year.
 ghost use Rattle.std.specs.Prelude.{◌≡◌, true, ◌+◌, ◌<◌, ◌≤◌, pos, ◌+ℤ◌, length};
-ghost use Rattle.model.specs.Calendar.{clockAt, dayAfter, dayBefore, isShift, moved, shown};
+ghost use Rattle.model.specs.Calendar.{clock_at, day_after, day_before, is_shift, moved, shown};
 ghost use Rattle.model.specs.Bytes.{slice};
-ghost use Rattle.model.specs.Entry.{entryOf};
-ghost use Rattle.model.specs.Time.{validDate, validMoment};
-ghost use Rattle.fields.specs.Calendar.{shownAs};
+ghost use Rattle.model.specs.Entry.{entry_of};
+ghost use Rattle.model.specs.Time.{valid_date, valid_moment};
+ghost use Rattle.fields.specs.Calendar.{shown_as};
 
 use crate::times::{days_in, in_years, is_valid_time, moment_of};
 use model::{Date, Moment};
@@ -25,14 +25,14 @@ pub enum Shown {
 }
 
 pub fn is_shift(minutes: i32) -> bool
-    ensures { result ≡ isShift minutes }
+    ensures { result ≡ is_shift minutes }
 {
     (MOST_BEHIND <= minutes) & (minutes <= MOST_AHEAD)
 }
 
 fn day_after(date: Date) -> Date
-    requires { validDate date ≡ true }
-    ensures { result ≡ dayAfter date }
+    requires { valid_date date ≡ true }
+    ensures { result ≡ day_after date }
 {
     if date.day < days_in(date.year, date.month) {
         return Date {
@@ -56,8 +56,8 @@ fn day_after(date: Date) -> Date
 }
 
 fn day_before(date: Date) -> Date
-    requires { validDate date ≡ true }
-    ensures { result ≡ dayBefore date }
+    requires { valid_date date ≡ true }
+    ensures { result ≡ day_before date }
 {
     if 1 < date.day {
         return Date {
@@ -82,7 +82,7 @@ fn day_before(date: Date) -> Date
 
 // A minute of a day, with the seconds of a moment.
 fn clock_at(moment: Moment, date: Date, minute: u32) -> Moment
-    ensures { result ≡ clockAt moment date minute }
+    ensures { result ≡ clock_at moment date minute }
 {
     Moment {
         date: date,
@@ -94,7 +94,7 @@ fn clock_at(moment: Moment, date: Date, minute: u32) -> Moment
 
 // The shifted minute, from the midnight before the unshifted one.
 fn add_shift(minute: u32, minutes: i32) -> i32
-    requires { (minute < 1440) × (isShift minutes ≡ true) }
+    requires { (minute < 1440) × (is_shift minutes ≡ true) }
     ensures { result ≡ pos minute +ℤ minutes }
 {
     minute as i32 + minutes
@@ -102,7 +102,7 @@ fn add_shift(minute: u32, minutes: i32) -> i32
 
 // A shift that a listing takes leads at most one day back or on.
 fn shift(moment: Moment, minutes: i32) -> Moment
-    requires { (validMoment moment ≡ true) × (isShift minutes ≡ true) }
+    requires { (valid_moment moment ≡ true) × (is_shift minutes ≡ true) }
     ensures { result ≡ moved minutes moment }
 {
     let date = moment.date;
@@ -118,7 +118,7 @@ fn shift(moment: Moment, minutes: i32) -> Moment
 
 // A stored time in the shop's own: unknown where it is invalid or falls out of 1980 to 9999.
 pub fn shop_time(time: &[u8], minutes: i32) -> Shown
-    ensures { result ≡ shownAs (shown minutes time.now) }
+    ensures { result ≡ shown_as (shown minutes time.now) }
 {
     if !is_valid_time(time) {
         return Shown::Unknown;
@@ -135,7 +135,7 @@ pub fn shop_time(time: &[u8], minutes: i32) -> Shown
 
 fn shop_time_at(page: &[u8], from: usize, minutes: i32) -> Shown
     requires { from + 8 ≤ length page.now }
-    ensures { result ≡ shownAs (shown minutes (slice page.now from 8)) }
+    ensures { result ≡ shown_as (shown minutes (slice page.now from 8)) }
 {
     let end = from + 8;
     shop_time(&page[from..end], minutes)
@@ -143,7 +143,7 @@ fn shop_time_at(page: &[u8], from: usize, minutes: i32) -> Shown
 
 // When the entry in a page was last changed, in the shop's own time.
 pub fn modified_at(page: &[u8; 512], minutes: i32) -> Shown
-    ensures { result ≡ shownAs (shown minutes (entryOf page.now).modified) }
+    ensures { result ≡ shown_as (shown minutes (entry_of page.now).modified) }
 {
     shop_time_at(page, 0x18, minutes)
 }

@@ -1,8 +1,8 @@
 // An entry's fields as one value.
 ghost use Rattle.std.specs.Prelude.{◌≡◌, ◌+◌, ◌≤◌, length};
 ghost use Rattle.model.specs.Bytes.{slice};
-ghost use Rattle.model.specs.Entry.{entryOf};
-ghost use Rattle.fields.specs.Entries.{fieldsOfEntry};
+ghost use Rattle.model.specs.Entry.{entry_of};
+ghost use Rattle.fields.specs.Entries.{fields_of_entry};
 
 use crate::numbers::{half_at, word_at};
 
@@ -40,7 +40,7 @@ fn thirty_two(page: &[u8], from: usize) -> [u8; 32]
 
 // Every field of an entry's page.
 pub fn entry_of(page: &[u8; 512]) -> Entry
-    ensures { result ≡ fieldsOfEntry (entryOf page.now) }
+    ensures { result ≡ fields_of_entry (entry_of page.now) }
 {
     let mode = half_at(page, 0x00) as u16;
     let length = word_at(page, 0x04);

@@ -1,12 +1,12 @@
 // Names: where an entry's page holds one, the name rule, and comparing whole.
 ghost use Rattle.std.specs.Prelude.{◌≡◌, ◌∷◌, [], length};
-ghost use Rattle.model.specs.Bytes.{beforeZero, slice};
-ghost use Rattle.model.specs.Names.{legalBytes, goodName, same_name, dotName, dotDotName};
-ghost use Rattle.model.specs.Entry.{entryOf};
+ghost use Rattle.model.specs.Bytes.{before_zero, slice};
+ghost use Rattle.model.specs.Names.{legal_bytes, good_name, same_name, dot_name, dot_dot_name};
+ghost use Rattle.model.specs.Entry.{entry_of};
 
 // How many bytes stand before the first zero.
 fn count_before_zero(field: &[u8]) -> usize
-    ensures { result ≡ length (beforeZero field.now) }
+    ensures { result ≡ length (before_zero field.now) }
 {
     let mut i: usize = 0;
     while i < field.len() {
@@ -21,7 +21,7 @@ fn count_before_zero(field: &[u8]) -> usize
 // The name in the bytes of an entry's page: 32 bytes where no zero ends it.
 fn name_in(page: &[u8]) -> &[u8]
     requires { length page.now ≡ 512 }
-    ensures { result.now ≡ beforeZero (slice page.now 0x40 32) }
+    ensures { result.now ≡ before_zero (slice page.now 0x40 32) }
 {
     let field = &page[0x40..0x60];
     let count = count_before_zero(field);
@@ -30,14 +30,14 @@ fn name_in(page: &[u8]) -> &[u8]
 
 // The name of an entry, lent from its page.
 pub fn entry_name(page: &[u8; 512]) -> &[u8]
-    ensures { result.now ≡ (entryOf page.now).name }
+    ensures { result.now ≡ (entry_of page.now).name }
 {
     name_in(page)
 }
 
 // How long an entry's name is.
 pub fn name_length(page: &[u8; 512]) -> usize
-    ensures { result ≡ length (beforeZero (slice page.now 0x40 32)) }
+    ensures { result ≡ length (before_zero (slice page.now 0x40 32)) }
 {
     let name = entry_name(page);
     name.len()
@@ -45,13 +45,13 @@ pub fn name_length(page: &[u8; 512]) -> usize
 
 // Whether a byte may stand in a name.
 fn is_legal(byte: u8) -> bool
-    ensures { result ≡ legalBytes (byte ∷ []) }
+    ensures { result ≡ legal_bytes (byte ∷ []) }
 {
     (0x20 <= byte) & (byte <= 0x7E) & !((byte == b'*') | (byte == b'/') | (byte == b'?'))
 }
 
 fn all_legal(name: &[u8]) -> bool
-    ensures { result ≡ legalBytes name.now }
+    ensures { result ≡ legal_bytes name.now }
 {
     let mut i: usize = 0;
     while i < name.len() {
@@ -72,7 +72,7 @@ pub fn same_name(a: &[u8], b: &[u8]) -> bool
 
 // Whether a name keeps the name rule.
 pub fn is_good_name(name: &[u8]) -> bool
-    ensures { result ≡ goodName name.now }
+    ensures { result ≡ good_name name.now }
 {
     (0 < name.len())
         & (name.len() < 32)
@@ -83,28 +83,28 @@ pub fn is_good_name(name: &[u8]) -> bool
 
 // Whether the name of an entry keeps the name rule.
 pub fn name_is_good(page: &[u8; 512]) -> bool
-    ensures { result ≡ goodName (entryOf page.now).name }
+    ensures { result ≡ good_name (entry_of page.now).name }
 {
     is_good_name(entry_name(page))
 }
 
 // Whether an entry has this name.
 pub fn is_named(page: &[u8; 512], name: &[u8]) -> bool
-    ensures { result ≡ same_name (entryOf page.now).name name.now }
+    ensures { result ≡ same_name (entry_of page.now).name name.now }
 {
     same_name(entry_name(page), name)
 }
 
 // Whether an entry is named `.`, as the first one of a directory is.
 pub fn is_dot(page: &[u8; 512]) -> bool
-    ensures { result ≡ same_name (entryOf page.now).name dotName }
+    ensures { result ≡ same_name (entry_of page.now).name dot_name }
 {
     same_name(entry_name(page), b".")
 }
 
 // Whether an entry is named `..`, as the second one of a directory is.
 pub fn is_dot_dot(page: &[u8; 512]) -> bool
-    ensures { result ≡ same_name (entryOf page.now).name dotDotName }
+    ensures { result ≡ same_name (entry_of page.now).name dot_dot_name }
 {
     same_name(entry_name(page), b"..")
 }

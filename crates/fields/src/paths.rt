@@ -1,6 +1,6 @@
 // A path as bytes: `/`, or one to MOST_NAMES names each after `/`.
 ghost use Rattle.std.specs.Prelude.{◌≡◌, [], ◌+◌, ◌≤◌, length, drop, get_or};
-ghost use Rattle.fields.specs.PathBytes.{splitNames, pathOf, parsedOf, name_at};
+ghost use Rattle.fields.specs.PathBytes.{split_names, path_of, parsed_of, name_at};
 
 use crate::names::is_good_name;
 use model::MOST_NAMES;
@@ -15,7 +15,7 @@ pub enum Parsed {
 // Where the name ends that begins here: at the next slash, or where the bytes end.
 fn name_end(path: &[u8], from: usize) -> usize
     requires { from ≤ length path.now }
-    ensures { result ≡ from + length (get_or (splitNames (drop from path.now)) 0 []) }
+    ensures { result ≡ from + length (get_or (split_names (drop from path.now)) 0 []) }
 {
     let mut end = from;
     while end < path.len() {
@@ -29,7 +29,7 @@ fn name_end(path: &[u8], from: usize) -> usize
 
 // Whether bytes are a path, and how many names it has.
 pub fn parse_path(path: &[u8]) -> Parsed
-    ensures { result ≡ parsedOf (pathOf path.now) }
+    ensures { result ≡ parsed_of (path_of path.now) }
 {
     if path.len() == 0 {
         return Parsed::Malformed;

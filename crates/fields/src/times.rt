@@ -1,6 +1,6 @@
 // When a time that is handed in is valid, and what it shows.
 ghost use Rattle.std.specs.Prelude.{◌≡◌, ◌<◌, ◌≤◌, get_or};
-ghost use Rattle.model.specs.Time.{daysIn, inYears, isLeap, momentOf, monthDays, validTime};
+ghost use Rattle.model.specs.Time.{days_in, in_years, is_leap, moment_of, month_days, valid_time};
 
 use crate::numbers::{byte_in, half_in};
 use model::{Date, Moment};
@@ -12,7 +12,7 @@ const DAYS: [[u8; 12]; 2] = [
 ];
 
 fn is_leap(year: u32) -> bool
-    ensures { result ≡ isLeap year }
+    ensures { result ≡ is_leap year }
 {
     (year % 4 == 0) & (!(year % 100 == 0) | (year % 400 == 0))
 }
@@ -20,7 +20,7 @@ fn is_leap(year: u32) -> bool
 // How many days a month has, counted from 0.
 fn days(leap: bool, month: usize) -> u8
     requires { month < 12 }
-    ensures { result ≡ get_or (monthDays leap) month 0 }
+    ensures { result ≡ get_or (month_days leap) month 0 }
 {
     let row = leap as usize;
     DAYS[row][month]
@@ -29,20 +29,20 @@ fn days(leap: bool, month: usize) -> u8
 // The same of a month from 1 to 12.
 pub(crate) fn days_in(year: u32, month: u32) -> u32
     requires { (1 ≤ month) × (month ≤ 12) }
-    ensures { result ≡ daysIn year month }
+    ensures { result ≡ days_in year month }
 {
     days(is_leap(year), (month - 1) as usize) as u32
 }
 
 pub(crate) fn in_years(year: u32) -> bool
-    ensures { result ≡ inYears year }
+    ensures { result ≡ in_years year }
 {
     (1980 <= year) & (year <= 9999)
 }
 
 // What the bytes of a time show.
 pub(crate) fn moment_of(time: &[u8]) -> Moment
-    ensures { result ≡ momentOf time.now }
+    ensures { result ≡ moment_of time.now }
 {
     Moment {
         date: Date {
@@ -58,7 +58,7 @@ pub(crate) fn moment_of(time: &[u8]) -> Moment
 
 // Whether eight bytes are a time: zero, second, minute, hour, day, month, and a half for the year.
 pub fn is_valid_time(time: &[u8]) -> bool
-    ensures { result ≡ validTime time.now }
+    ensures { result ≡ valid_time time.now }
 {
     if time.len() != 8 {
         return false;

@@ -1,7 +1,7 @@
 // Numbers and bytes put into a page. What would lie past its end is not written.
 ghost use Rattle.std.specs.Prelude.{◌≡◌, ◌%◌, set};
 ghost use Rattle.std.proofs.lemmas.List.Edits.{sets};
-ghost use Rattle.model.specs.Bytes.{littleBytes};
+ghost use Rattle.model.specs.Bytes.{little_bytes};
 
 fn put_byte(bytes: &mut [u8], at: usize, value: u8)
     ensures { bytes.new ≡ set bytes.old at value }
@@ -39,7 +39,7 @@ pub fn put_bytes(page: &mut [u8; 512], at: usize, field: &[u8])
 
 // A half put at a place of a page.
 pub fn put_half(page: &mut [u8; 512], at: usize, value: u32)
-    ensures { page.new ≡ sets page.old at (littleBytes 2 value) }
+    ensures { page.new ≡ sets page.old at (little_bytes 2 value) }
 {
     let field = [low(value), low(value / 256)];
     put_bytes_in(page, at, &field)
@@ -47,7 +47,7 @@ pub fn put_half(page: &mut [u8; 512], at: usize, value: u32)
 
 // A word put at a place of a page.
 pub fn put_word(page: &mut [u8; 512], at: usize, value: u32)
-    ensures { page.new ≡ sets page.old at (littleBytes 4 value) }
+    ensures { page.new ≡ sets page.old at (little_bytes 4 value) }
 {
     let field = [
         low(value),

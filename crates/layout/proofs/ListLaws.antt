@@ -1,13 +1,13 @@
 -- The rule on the bad block list, judged word by word.
 use Rattle.std.proofs.Common.{◌≡◌, ℕ, ◌+◌, ◌<◌, ◌≤◌, true, false, List, length, get_or, drop, add-one, drop_of_length-le, drop-cons}
-use Rattle.layout.specs.Superblock.{goodBadBlock, goodBadBlocks}
+use Rattle.layout.specs.Superblock.{good_bad_block, good_bad_blocks}
 
 module _ (n : ℕ) (bad : List ℕ) (i : ℕ) where
-  pub list-stop : i < length bad → goodBadBlock n (get_or bad i 0) ≡ false → goodBadBlocks n (drop i bad) ≡ false
+  pub list-stop : i < length bad → good_bad_block n (get_or bad i 0) ≡ false → good_bad_blocks n (drop i bad) ≡ false
   list-stop h e = rw (drop-cons bad i 0 h, e)
 
-  pub list-more : i < length bad → goodBadBlock n (get_or bad i 0) ≡ true → goodBadBlocks n (drop i bad) ≡ goodBadBlocks n (drop (i + 1) bad)
+  pub list-more : i < length bad → good_bad_block n (get_or bad i 0) ≡ true → good_bad_blocks n (drop i bad) ≡ good_bad_blocks n (drop (i + 1) bad)
   list-more h e = rw (drop-cons bad i 0 h, e, add-one i)
 
-  pub list_done : length bad ≤ i → goodBadBlocks n (drop i bad) ≡ true
+  pub list_done : length bad ≤ i → good_bad_blocks n (drop i bad) ≡ true
   list_done h = rw (drop_of_length-le bad {i = i} h)

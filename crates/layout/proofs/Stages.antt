@@ -2,22 +2,22 @@
 use Rattle.std.proofs.Common.{◌≡◌, ℕ, zero, suc, ◌<◌, Bool, true, false, List, [], ◌∷◌, length, get_or, refl, arith}
 use mathlib.Core.Option.{Option, none, some}
 use Rattle.page.specs.declared.Format.{Format}
-use Rattle.page.specs.Page.{pageAt, is_some, orKept}
+use Rattle.page.specs.Page.{page_at, is_some, or_kept}
 use Rattle.model.specs.Check.{Result, fault, ok}
 use Rattle.layout.specs.declared.Superblock.{Superblock}
 use Rattle.layout.specs.declared.Verdict.{Verdict}
-use Rattle.layout.specs.Table.{unless, withPage, needPages, told, data_of}
+use Rattle.layout.specs.Table.{unless, with_page, need_pages, told, data_of}
 
 -- a page that is there
 abbrev pub Readable : Format → List ℕ → ℕ → Type 0
-Readable format image p = pageAt format image p ≡ some (data_of (pageAt format image p))
+Readable format image p = page_at format image p ≡ some (data_of (page_at format image p))
 
 pub there : (o : Option (List ℕ)) → is_some o ≡ true → o ≡ some (data_of o)
 there none e = let z : ◌≡◌ {A = ℕ} 0 1 = cc in absurd (omega arith)
 there (some page) e = refl
 
 -- what a read page leaves in a buffer
-pub read-data : (o : Option (List ℕ)) (before : List ℕ) → o ≡ some (data_of o) → orKept o before ≡ data_of o
+pub read-data : (o : Option (List ℕ)) (before : List ℕ) → o ≡ some (data_of o) → or_kept o before ≡ data_of o
 read-data none before e = let z : ◌≡◌ {A = ℕ} 0 1 = cc in absurd (omega arith)
 read-data (some page) before e = refl
 
@@ -37,18 +37,18 @@ module _ {A : Type 0} where
   unless-ok true n rest a e = (refl, e)
   unless-ok false n rest a e = not-ok n 0 a e
 
-  pub page-ok : (p : ℕ) (o : Option (List ℕ)) (rest : List ℕ → Result A) (a : A) → withPage p o rest ≡ ok a
+  pub page-ok : (p : ℕ) (o : Option (List ℕ)) (rest : List ℕ → Result A) (a : A) → with_page p o rest ≡ ok a
       → (o ≡ some (data_of o)) × (rest (data_of o) ≡ ok a)
-  unfolding withPage
+  unfolding with_page
   page-ok p none rest a e = not-ok 2 p a e
   page-ok p (some page) rest a e = (refl, e)
 
-  pub pages-ok : (format : Format) (image ps : List ℕ) (rest : Result A) (a : A) → needPages format image ps rest ≡ ok a
+  pub pages-ok : (format : Format) (image ps : List ℕ) (rest : Result A) (a : A) → need_pages format image ps rest ≡ ok a
       → (rest ≡ ok a) × ((i : ℕ) → i < length ps → Readable format image (get_or ps i 0))
-  unfolding needPages
+  unfolding need_pages
   pages-ok format image [] rest a e = (e, λ i h. absurd (omega arith))
   pages-ok format image (p ∷ ps) rest a e =
-      let first = page-ok p (pageAt format image p) (λ page. needPages format image ps rest) a e in
+      let first = page-ok p (page_at format image p) (λ page. need_pages format image ps rest) a e in
       let later = pages-ok format image ps rest a first.1 in
       (later.0, each first.0 later.1)
     where
@@ -56,7 +56,7 @@ module _ {A : Type 0} where
       each f g zero h = f
       each f g (suc i) h = g i (omega arith)
 
-  pub pages-pass : (format : Format) (image ps : List ℕ) (rest : Result A) → ((i : ℕ) → i < length ps → Readable format image (get_or ps i 0)) → needPages format image ps rest ≡ rest
-  unfolding needPages withPage
+  pub pages-pass : (format : Format) (image ps : List ℕ) (rest : Result A) → ((i : ℕ) → i < length ps → Readable format image (get_or ps i 0)) → need_pages format image ps rest ≡ rest
+  unfolding need_pages with_page
   pages-pass format image [] rest h = refl
   pages-pass format image (p ∷ ps) rest h = rw (h 0 (omega arith)) (pages-pass format image ps rest (λ i l. h (suc i) (omega arith)))

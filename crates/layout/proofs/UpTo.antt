@@ -5,22 +5,22 @@ use lib.Seq.{get_or_at, set_at, append_snoc}
 use Rattle.model.proofs.Equality.{bool}
 use Rattle.layout.specs.Superblock.{up_to}
 
-pub length-upTo : (f : ℕ → ℕ) (n : ℕ) → length (up_to f n) ≡ n
+pub length-up_to : (f : ℕ → ℕ) (n : ℕ) → length (up_to f n) ≡ n
 unfolding up_to
-length-upTo f zero = refl
-length-upTo f (suc n) = simp (length-append, length-upTo f n) (omega arith)
+length-up_to f zero = refl
+length-up_to f (suc n) = simp (length-append, length-up_to f n) (omega arith)
 
-pub getD-upTo : (f : ℕ → ℕ) (n i : ℕ) → i < n → get_or (up_to f n) i 0 ≡ f i
+pub get_or-up_to : (f : ℕ → ℕ) (n i : ℕ) → i < n → get_or (up_to f n) i 0 ≡ f i
 unfolding up_to
-getD-upTo f zero i h = absurd (omega arith)
-getD-upTo f (suc n) i h =
-    ⊎_elim (λ (t : ltb i n ≡ true). let l = ltb-true i n t in get_or-append (up_to f n) (f n ∷ []) 0 i (omega (arith, length-upTo f n)) ∙ getD-upTo f n i l)
-    (λ (t : ltb i n ≡ false). let e : i ≡ n = omega (arith, ltb-false i n t) in rw e (get_or_at (up_to f n) (f n) [] 0 n (length-upTo f n)))
+get_or-up_to f zero i h = absurd (omega arith)
+get_or-up_to f (suc n) i h =
+    ⊎_elim (λ (t : ltb i n ≡ true). let l = ltb-true i n t in get_or-append (up_to f n) (f n ∷ []) 0 i (omega (arith, length-up_to f n)) ∙ get_or-up_to f n i l)
+    (λ (t : ltb i n ≡ false). let e : i ≡ n = omega (arith, ltb-false i n t) in rw e (get_or_at (up_to f n) (f n) [] 0 n (length-up_to f n)))
     (bool (ltb i n))
 
-pub drop-upTo : (f : ℕ → ℕ) (n i : ℕ) → i < n → drop i (up_to f n) ≡ f i ∷ drop (suc i) (up_to f n)
-drop-upTo f n i h =
-    drop-cons (up_to f n) i 0 (omega (arith, length-upTo f n)) ∙ ap (λ (x : ℕ). x ∷ drop (suc i) (up_to f n)) (getD-upTo f n i h)
+pub drop-up_to : (f : ℕ → ℕ) (n i : ℕ) → i < n → drop i (up_to f n) ≡ f i ∷ drop (suc i) (up_to f n)
+drop-up_to f n i h =
+    drop-cons (up_to f n) i 0 (omega (arith, length-up_to f n)) ∙ ap (λ (x : ℕ). x ∷ drop (suc i) (up_to f n)) (get_or-up_to f n i h)
 
 -- the list with its first n elements replaced
 abbrev pub filled : (ℕ → ℕ) → List ℕ → ℕ → List ℕ
@@ -33,11 +33,11 @@ filled_none f list = refl
 pub filled_more : (f : ℕ → ℕ) (list : List ℕ) (n : ℕ) → n < length list → set (filled f list n) n (f n) ≡ filled f list (n + 1)
 unfolding up_to
 filled_more f list n h =
-    rw (drop-cons list n 0 h, set_at (up_to f n) (get_or list n 0) (drop (suc n) list) (f n) n (length-upTo f n), add-one n)
+    rw (drop-cons list n 0 h, set_at (up_to f n) (get_or list n 0) (drop (suc n) list) (f n) n (length-up_to f n), add-one n)
     (sym (append_snoc (up_to f n) (f n) (drop (suc n) list)))
 
 pub length-filled : (f : ℕ → ℕ) (list : List ℕ) (n : ℕ) → n ≤ length list → length (filled f list n) ≡ length list
-length-filled f list n h = simp (length-append, length-upTo f n, length-drop) (omega arith)
+length-filled f list n h = simp (length-append, length-up_to f n, length-drop) (omega arith)
 
 pub filled-whole : (f : ℕ → ℕ) (list : List ℕ) (n : ℕ) → length list ≡ n → filled f list n ≡ up_to f n
 filled-whole f list n h = rw (drop_of_length-le list {i = n} (omega arith)) (append-nil (up_to f n))

@@ -1,38 +1,38 @@
 -- How many chunks were corrected in the pages that the check of an image needs, each page once (request 11 of document 02).
 use Rattle.std.specs.Prelude.{◌≡◌, ℕ, ◌+◌, List}
 use Rattle.page.specs.declared.Format.{Format}
-use Rattle.page.specs.Mended.{mendedChunks, wrapped}
+use Rattle.page.specs.Mended.{mended_chunks, wrapped}
 use Rattle.model.specs.Check.{Marks, Result, fault, ok}
-use Rattle.model.specs.Needed.{totalOver}
+use Rattle.model.specs.Needed.{total_over}
 use Rattle.model.specs.Tree.{Root}
 use Rattle.layout.specs.declared.Superblock.{Superblock}
 use Rattle.layout.specs.declared.Verdict.{Verdict}
 use Rattle.layout.specs.declared.Verdict.TheVariants as verdict
-use Rattle.layout.specs.Needed.{neededPages, openingPages}
-use Rattle.layout.specs.See.{checkImage}
+use Rattle.layout.specs.Needed.{needed_pages, opening_pages}
+use Rattle.layout.specs.See.{check_image}
 
 -- the corrected chunks of these pages
-abbrev pub mendedOver : Format → List ℕ → List ℕ → ℕ
-mendedOver format image pages = totalOver (mendedChunks format image) pages
+abbrev pub mended_over : Format → List ℕ → List ℕ → ℕ
+mended_over format image pages = total_over (mended_chunks format image) pages
 
 -- of a card by its superblock and its tree
-abbrev pub mendedIn : List ℕ → Superblock → Root → ℕ
-mendedIn image s root = mendedOver s.geometry.format image (neededPages image s root)
+abbrev pub mended_in : List ℕ → Superblock → Root → ℕ
+mended_in image s root = mended_over s.geometry.format image (needed_pages image s root)
 
 -- Of an image that the check accepts; a refused one has none.
-abbrev pub mendedBy : List ℕ → Result (Superblock × Root × Marks) → ℕ
-mendedBy image (fault n p) = 0
-mendedBy image (ok x) = mendedIn image x.0 x.1
+abbrev pub mended_by : List ℕ → Result (Superblock × Root × Marks) → ℕ
+mended_by image (fault n p) = 0
+mended_by image (ok x) = mended_in image x.0 x.1
 
-unfoldable pub mendedOf : Format → List ℕ → ℕ
-mendedOf format image = mendedBy image (checkImage format image)
+unfoldable pub mended_of : Format → List ℕ → ℕ
+mended_of format image = mended_by image (check_image format image)
 
 -- ---- as the code counts
 
 -- of the pages that opening a card needs
-abbrev pub openingMended : Format → List ℕ → Result Superblock → ℕ
-openingMended format image (fault n p) = 0
-openingMended format image (ok s) = mendedOver format image (openingPages image s)
+abbrev pub opening_mended : Format → List ℕ → Result Superblock → ℕ
+opening_mended format image (fault n p) = 0
+opening_mended format image (ok s) = mended_over format image (opening_pages image s)
 
 -- Where a part of a card is sound, the corrected chunks of its pages were added to the count.
 abbrev pub Adds : Verdict → ℕ → ℕ → ℕ → Type 0

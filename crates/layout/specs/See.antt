@@ -2,45 +2,45 @@
 use Rattle.std.specs.Prelude.{ℕ, ◌+◌, ◌*◌, cond, List, length, ◌==◌, nat_lt, slice_index}
 use Rattle.std.proofs.Math.Option.{Option, none}
 use Rattle.page.specs.declared.Format.{Format}
-use Rattle.page.specs.Page.{pageAt}
-use Rattle.model.specs.Check.{Result, fault, ok, and_then, checkTree, Marks}
+use Rattle.page.specs.Page.{page_at}
+use Rattle.model.specs.Check.{Result, fault, ok, and_then, check_tree, Marks}
 use Rattle.model.specs.Pages.{decoded}
 use Rattle.model.specs.Tree.{Root}
 use Rattle.model.specs.View.{View}
-use Rattle.model.specs.Writes.{linksOf}
+use Rattle.model.specs.Writes.{links_of}
 use Rattle.layout.specs.declared.Geometry.{Geometry}
 use Rattle.layout.specs.declared.Superblock.{Superblock}
-use Rattle.layout.specs.Table.{openCard, table_of}
+use Rattle.layout.specs.Table.{open_card, table_of}
 
 -- The image's page that is page `a` of the allocatable clusters: they begin at cluster alloc_offset, two pages to a cluster.
-abbrev pub imagePage : Geometry → ℕ → ℕ
-imagePage geometry a = 2 * geometry.offset + a
+abbrev pub image_page : Geometry → ℕ → ℕ
+image_page geometry a = 2 * geometry.offset + a
 
 -- a page of the allocatable clusters, which are `count` many
-unfoldable pub pageIn : Geometry → ℕ → List ℕ → ℕ → Option (List ℕ)
-pageIn geometry count image a = cond (nat_lt a (2 * count)) (pageAt geometry.format image (imagePage geometry a)) none
+unfoldable pub page_in : Geometry → ℕ → List ℕ → ℕ → Option (List ℕ)
+page_in geometry count image a = cond (nat_lt a (2 * count)) (page_at geometry.format image (image_page geometry a)) none
 
 -- The view by where the pages lie and the table's words: an entry is what its page says, a link what its word says.
-abbrev pub viewBy : Geometry → List ℕ → List ℕ → View
-viewBy geometry table image =
+abbrev pub view_by : Geometry → List ℕ → List ℕ → View
+view_by geometry table image =
     record {
-      page = pageIn geometry (length table) image;
-      entry = λ a. decoded (pageIn geometry (length table) image a);
-      link = linksOf (length table) (λ c. slice_index table c);
+      page = page_in geometry (length table) image;
+      entry = λ a. decoded (page_in geometry (length table) image a);
+      link = links_of (length table) (λ c. slice_index table c);
     }
 
 abbrev pub see : Superblock → List ℕ → View
-see s image = viewBy s.geometry (table_of image s) image
+see s image = view_by s.geometry (table_of image s) image
 
 module _ {A : Type 0} where
   -- a fault of the view, with the image's page number
-  abbrev pub onImage : Geometry → Result A → Result A
-  onImage geometry (fault n p) = fault n (cond (n == 2) (imagePage geometry p) p)
-  onImage geometry (ok a) = ok a
+  abbrev pub on_image : Geometry → Result A → Result A
+  on_image geometry (fault n p) = fault n (cond (n == 2) (image_page geometry p) p)
+  on_image geometry (ok a) = ok a
 
 -- The whole check of an image: refusals 1 to 7 in order; the superblock, the tree and what was reached.
-abbrev pub checkedBy : List ℕ → Superblock → Result (Superblock × Root × Marks)
-checkedBy image s = and_then (onImage s.geometry (checkTree (see s image))) (λ x. ok (s, x.0, x.1))
+abbrev pub checked_by : List ℕ → Superblock → Result (Superblock × Root × Marks)
+checked_by image s = and_then (on_image s.geometry (check_tree (see s image))) (λ x. ok (s, x.0, x.1))
 
-unfoldable pub checkImage : Format → List ℕ → Result (Superblock × Root × Marks)
-checkImage format image = and_then (openCard format image) (checkedBy image)
+unfoldable pub check_image : Format → List ℕ → Result (Superblock × Root × Marks)
+check_image format image = and_then (open_card format image) (checked_by image)

@@ -3,12 +3,12 @@ pub mod page0;
 pub mod table;
 
 ghost use Rattle.std.specs.Prelude.{◌≡◌, ◌%◌, ◌^◌};
-ghost use Rattle.layout.specs.Mended.{Adds, mendedOver, openingMended};
-ghost use Rattle.layout.specs.Needed.{openingPages};
+ghost use Rattle.layout.specs.Mended.{Adds, mended_over, opening_mended};
+ghost use Rattle.layout.specs.Needed.{opening_pages};
 ghost use Rattle.layout.specs.Refusal.{number_of, page_of};
-ghost use Rattle.layout.specs.See.{imagePage};
-ghost use Rattle.layout.specs.Superblock.{superblockOf};
-ghost use Rattle.layout.specs.Table.{openCard, told, toldOpened, tableAfter};
+ghost use Rattle.layout.specs.See.{image_page};
+ghost use Rattle.layout.specs.Superblock.{superblock_of};
+ghost use Rattle.layout.specs.Table.{open_card, told, told_opened, table_after};
 
 use model::{LIST_WORDS, MOST_CLUSTERS};
 use page::{Format, read_counted, settled};
@@ -130,15 +130,15 @@ pub struct Opened {
 
 // The image's page that is a page of the allocatable clusters, which are counted from 0. A sum past 64 bits wraps.
 pub fn image_page(geometry: Geometry, page: usize) -> usize
-    ensures { result ≡ imagePage geometry page % 2 ^ 64 }
+    ensures { result ≡ image_page geometry page % 2 ^ 64 }
 {
     std::num::wrapping_add_usize(2 * (geometry.offset as usize), page)
 }
 
 // The check up to the table: length, page 0, format text, the other superblock rules, the table. The lent page gets page 0.
 fn judge_card(format: Format, image: &[u8], page: &mut [u8; 512], mended: &mut usize) -> Verdict
-    ensures judged { told result (superblockOf format page.new) ≡ openCard format image.now }
-    ensures counted { Adds result mended.old (mendedOver format image.now (openingPages image.now (superblockOf format page.new))) mended.new }
+    ensures judged { told result (superblock_of format page.new) ≡ open_card format image.now }
+    ensures counted { Adds result mended.old (mended_over format image.now (opening_pages image.now (superblock_of format page.new))) mended.new }
 {
     if !good_length(format, image.len()) {
         return Verdict::Refused(Refusal::BadLength);
@@ -157,9 +157,9 @@ fn judge_card(format: Format, image: &[u8], page: &mut [u8; 512], mended: &mut u
 
 // Checks the card up to its table, and loads the table's words. A refusal leaves the lent table as it was.
 pub fn open_card(format: Format, image: &[u8], table: &mut [u32; MOST_CLUSTERS]) -> Opened
-    ensures opened { toldOpened result ≡ openCard format image.now }
-    ensures loaded { table.new ≡ tableAfter image.now (openCard format image.now) table.old }
-    ensures mended { result.mended ≡ openingMended format image.now (openCard format image.now) }
+    ensures opened { told_opened result ≡ open_card format image.now }
+    ensures loaded { table.new ≡ table_after image.now (open_card format image.now) table.old }
+    ensures mended { result.mended ≡ opening_mended format image.now (open_card format image.now) }
 {
     let mut page = [0u8; 512];
     let mut mended: usize = 0;

@@ -2,7 +2,7 @@
 ghost use Rattle.std.specs.Prelude.{◌≡◌, ◌+◌, ◌≤◌, length};
 ghost use Rattle.model.specs.Bytes.{slice};
 ghost use Rattle.model.specs.Names.{same_name};
-ghost use Rattle.layout.specs.Superblock.{badBlocksOf, clustersIn, goodLength, goodText, goodVersion, fixedNumbers, superblockOf, goodNumbers, goodBadBlock, goodBadBlocks, goodSuperblock};
+ghost use Rattle.layout.specs.Superblock.{bad_blocks_of, clusters_in, good_length, good_text, good_version, fixed_numbers, superblock_of, good_numbers, good_bad_block, good_bad_blocks, good_superblock};
 
 use crate::{Geometry, Superblock};
 use fields::numbers::{half_at, word_at};
@@ -13,13 +13,13 @@ const LEAST_CLUSTERS: usize = 32;
 
 // How many clusters that many bytes of an image hold whole.
 pub fn clusters_in(format: Format, bytes: usize) -> usize
-    ensures { result ≡ clustersIn format bytes }
+    ensures { result ≡ clusters_in format bytes }
 {
     bytes / cluster_bytes(format)
 }
 
 pub fn good_length(format: Format, bytes: usize) -> bool
-    ensures { result ≡ goodLength format bytes }
+    ensures { result ≡ good_length format bytes }
 {
     let clusters = clusters_in(format, bytes);
     (bytes % cluster_bytes(format) == 0)
@@ -36,19 +36,19 @@ fn text_stands(bytes: &[u8], at: usize, text: &[u8]) -> bool
 }
 
 pub fn good_text(page: &[u8; 512]) -> bool
-    ensures { result ≡ goodText page.now }
+    ensures { result ≡ good_text page.now }
 {
     text_stands(page, 0, b"Sony PS2 Memory Card Format ")
 }
 
 pub fn good_version(page: &[u8; 512]) -> bool
-    ensures { result ≡ goodVersion page.now }
+    ensures { result ≡ good_version page.now }
 {
     text_stands(page, 0x1C, b"1.1.0.0\0\0\0\0\0") | text_stands(page, 0x1C, b"1.2.0.0\0\0\0\0\0")
 }
 
 pub fn fixed_numbers(page: &[u8; 512]) -> bool
-    ensures { result ≡ fixedNumbers page.now }
+    ensures { result ≡ fixed_numbers page.now }
 {
     (half_at(page, 0x28) == 512)
         & ((half_at(page, 0x2A) == 2) & ((half_at(page, 0x2C) == 16) & (word_at(page, 0x3C) == 0)))
@@ -56,7 +56,7 @@ pub fn fixed_numbers(page: &[u8; 512]) -> bool
 
 // The words of the bad block list.
 fn bad_blocks(page: &[u8; 512]) -> [u32; LIST_WORDS]
-    ensures { result ≡ badBlocksOf page.now }
+    ensures { result ≡ bad_blocks_of page.now }
 {
     let mut bad = [0u32; LIST_WORDS];
     let mut i: usize = 0;
@@ -68,7 +68,7 @@ fn bad_blocks(page: &[u8; 512]) -> [u32; LIST_WORDS]
 }
 
 pub fn superblock_of(format: Format, page: &[u8; 512]) -> Superblock
-    ensures { result ≡ superblockOf format page.now }
+    ensures { result ≡ superblock_of format page.now }
 {
     let bad = bad_blocks(page);
     Superblock {
@@ -87,7 +87,7 @@ pub fn superblock_of(format: Format, page: &[u8; 512]) -> Superblock
 
 // The rules on the numbers, for an image of n clusters. The sums are whole: words fit a usize with room.
 pub fn good_numbers(n: usize, s: Superblock) -> bool
-    ensures { result ≡ goodNumbers n s }
+    ensures { result ≡ good_numbers n s }
 {
     let top = s.geometry.offset as usize + s.end as usize;
     (s.clusters as usize == n)
@@ -102,13 +102,13 @@ pub fn good_numbers(n: usize, s: Superblock) -> bool
 
 // The rule on a word of the bad block list, for an image of n clusters.
 fn good_bad_block(n: usize, word: u32) -> bool
-    ensures { result ≡ goodBadBlock n word }
+    ensures { result ≡ good_bad_block n word }
 {
     (word == NO_BLOCK) | ((1 <= word) & ((word as usize) < n / BLOCK_CLUSTERS))
 }
 
 fn good_bad_blocks(n: usize, bad: &[u32]) -> bool
-    ensures { result ≡ goodBadBlocks n bad.now }
+    ensures { result ≡ good_bad_blocks n bad.now }
 {
     let mut i: usize = 0;
     while i < bad.len() {
@@ -122,7 +122,7 @@ fn good_bad_blocks(n: usize, bad: &[u32]) -> bool
 
 // Every rule of page 0 but its text.
 pub fn good_superblock(format: Format, n: usize, page: &[u8; 512]) -> bool
-    ensures { result ≡ goodSuperblock format n page.now }
+    ensures { result ≡ good_superblock format n page.now }
 {
     let s = superblock_of(format, page);
     let bad = s.bad;

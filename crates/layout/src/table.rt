@@ -1,14 +1,14 @@
 // The allocation table: its clusters' names in the indirect cluster, their pages, and the words in them.
 ghost use Rattle.std.specs.Prelude.{◌≡◌, ℕ, ◌*◌, ◌<◌, ◌≤◌, true, [], ◌∷◌, ◌++◌, length, drop, ◌==◌};
-ghost use Rattle.page.specs.Page.{pageAt, is_some};
+ghost use Rattle.page.specs.Page.{page_at, is_some};
 ghost use Rattle.model.specs.Bytes.{word};
 ghost use Rattle.model.specs.Check.{ok};
 ghost use Rattle.model.specs.Tree.{times};
-ghost use Rattle.model.specs.View.{mostClusters, pagesOf};
+ghost use Rattle.model.specs.View.{most_clusters, pages_of};
 ghost use Rattle.layout.specs.declared.Superblock.{Superblock};
-ghost use Rattle.layout.specs.Mended.{Adds, mendedOver};
+ghost use Rattle.layout.specs.Mended.{Adds, mended_over};
 ghost use Rattle.layout.specs.Superblock.{up_to};
-ghost use Rattle.layout.specs.Table.{names_of, tableClusters, tableNames, in_range, goodName, goodTableNames, needPages, openTable, openCard, told, tablePage, tableWord, table_of};
+ghost use Rattle.layout.specs.Table.{names_of, table_clusters, table_names, in_range, good_name, good_table_names, need_pages, open_table, open_card, told, table_page, table_word, table_of};
 
 use crate::{Refusal, Superblock, Verdict};
 use fields::numbers::{word_at, word_in};
@@ -24,7 +24,7 @@ fn in_range(offset: u32, name: u32) -> bool
 
 // A name in that range whose erase block is not listed.
 fn good_name(offset: u32, bad: &[u32], name: u32) -> bool
-    ensures { result ≡ goodName offset bad.now name }
+    ensures { result ≡ good_name offset bad.now name }
 {
     in_range(offset, name) & !is_listed(bad, name as usize / BLOCK_CLUSTERS)
 }
@@ -53,7 +53,7 @@ fn name_at(first: &[u8; 512], second: &[u8; 512], i: usize) -> u32
 // Whether the name is neither the indirect cluster's nor one of the first `count`.
 fn is_new(first: &[u8; 512], second: &[u8; 512], indirect: u32, count: usize, name: u32) -> bool
     requires { count ≤ 256 }
-    ensures { result ≡ (times (indirect ∷ tableNames (first.now ++ second.now) count) name == 0) }
+    ensures { result ≡ (times (indirect ∷ table_names (first.now ++ second.now) count) name == 0) }
 {
     let mut left = count;
     while 0 < left {
@@ -75,7 +75,7 @@ fn good_names(
     count: usize,
 ) -> bool
     requires { count ≤ 256 }
-    ensures { result ≡ goodTableNames offset bad.now (indirect ∷ []) (tableNames (first.now ++ second.now) count) }
+    ensures { result ≡ good_table_names offset bad.now (indirect ∷ []) (table_names (first.now ++ second.now) count) }
 {
     let mut i = 0;
     while i < count {
@@ -90,7 +90,7 @@ fn good_names(
 
 // The image page that is page t of the table, by the first `count` names of the indirect cluster.
 pub fn table_page(first: &[u8; 512], second: &[u8; 512], count: usize, t: usize) -> usize
-    ensures { result ≡ tablePage (tableNames (first.now ++ second.now) count) t }
+    ensures { result ≡ table_page (table_names (first.now ++ second.now) count) t }
 {
     let i = t / 2;
     if count <= i {
@@ -109,8 +109,8 @@ fn judge_pages(
     mended: &mut usize,
 ) -> Verdict
     requires { count ≤ 256 }
-    ensures judged { (s : Superblock) → told result s ≡ needPages format image.now (pagesOf (tableNames (first.now ++ second.now) count)) (ok s) }
-    ensures counted { Adds result mended.old (mendedOver format image.now (pagesOf (tableNames (first.now ++ second.now) count))) mended.new }
+    ensures judged { (s : Superblock) → told result s ≡ need_pages format image.now (pages_of (table_names (first.now ++ second.now) count)) (ok s) }
+    ensures counted { Adds result mended.old (mended_over format image.now (pages_of (table_names (first.now ++ second.now) count))) mended.new }
 {
     let mut t = 0;
     while t < 2 * count {
@@ -125,9 +125,9 @@ fn judge_pages(
 
 // The check of the table. Its clusters' names are in the indirect cluster, whose own name is judged first.
 pub(crate) fn judge_table(image: &[u8], s: Superblock, mended: &mut usize) -> Verdict
-    requires { s.end ≤ mostClusters }
-    ensures judged { told result s ≡ openTable image.now s }
-    ensures counted { Adds result mended.old (mendedOver s.geometry.format image.now (pagesOf (s.indirect ∷ names_of image.now s))) mended.new }
+    requires { s.end ≤ most_clusters }
+    ensures judged { told result s ≡ open_table image.now s }
+    ensures counted { Adds result mended.old (mended_over s.geometry.format image.now (pages_of (s.indirect ∷ names_of image.now s))) mended.new }
 {
     let geometry = s.geometry;
     let format = geometry.format;
@@ -163,8 +163,8 @@ fn load_words(
     end: usize,
     table: &mut [u32],
 )
-    requires { (end ≤ mostClusters) × (end ≤ length table.old) × ((t : ℕ) → t < 2 * tableClusters end → is_some (pageAt format image.now (tablePage (tableNames (first.now ++ second.now) (tableClusters end)) t)) ≡ true) }
-    ensures { table.new ≡ up_to (tableWord format image.now (tableNames (first.now ++ second.now) (tableClusters end))) end ++ drop end table.old }
+    requires { (end ≤ most_clusters) × (end ≤ length table.old) × ((t : ℕ) → t < 2 * table_clusters end → is_some (page_at format image.now (table_page (table_names (first.now ++ second.now) (table_clusters end)) t)) ≡ true) }
+    ensures { table.new ≡ up_to (table_word format image.now (table_names (first.now ++ second.now) (table_clusters end))) end ++ drop end table.old }
 {
     let count = (end + 255) / 256;
     let mut page = [0u8; 512];
@@ -185,7 +185,7 @@ fn load_words(
 
 // Loads the table of a card that passed the check.
 pub(crate) fn load_table(image: &[u8], s: Superblock, table: &mut [u32])
-    requires { (openCard s.geometry.format image.now ≡ ok s) × (s.end ≤ length table.old) }
+    requires { (open_card s.geometry.format image.now ≡ ok s) × (s.end ≤ length table.old) }
     ensures { table.new ≡ table_of image.now s ++ drop s.end table.old }
 {
     let geometry = s.geometry;

@@ -11,7 +11,7 @@ use lib.Dec.{leb}
 use lib.ListN.{drop, get_or, length, length-append, set, take}
 use lib.Seq.{append_snoc, length-sets, length-take-le, set-append_seam, set_out, sets, sets-eq, take_at, take-length, take-nil, take-suc}
 use Rattle.listing.specs.Emit.{Wrote, most}
-use Rattle.listing.specs.Text.{decimalOf, digitsOf, fitted, pageText, space}
+use Rattle.listing.specs.Text.{decimal_of, digits_of, fitted, page_text, space}
 
 sets-append : (a b l : List ℕ) (i : ℕ) → sets l i (a ++ b) ≡ sets (sets l i a) (i + length a) b
 sets-append [] b l i = rw (add-zero i)
@@ -82,20 +82,20 @@ wrote-listing {o} {s} h w = (omega (arith, w.place), w.out ∙ sets-fitted [] o 
 -- ---- the digits of a number
 
 module _ (n : ℕ) where
-  pub digits-none : (k : ℕ) → k ≡ 0 → digitsOf k n ≡ []
-  digits-none k e = rw e (unfold digitsOf in refl)
+  pub digits-none : (k : ℕ) → k ≡ 0 → digits_of k n ≡ []
+  digits-none k e = rw e (unfold digits_of in refl)
 
-  pub digits-one : (k : ℕ) → 0 < k → n < 10 → digitsOf k n ≡ (0x30 + n) ∷ []
+  pub digits-one : (k : ℕ) → 0 < k → n < 10 → digits_of k n ≡ (0x30 + n) ∷ []
   digits-one zero h l = absurd (omega arith)
-  digits-one (suc k) h l = unfold digitsOf in rw (lt-ltb n 10 l)
+  digits-one (suc k) h l = unfold digits_of in rw (lt-ltb n 10 l)
 
-  pub digits_more : (k j : ℕ) → k ≡ suc j → 10 ≤ n → digitsOf k n ≡ digitsOf j (n / 10) ++ ((0x30 + n % 10) ∷ [])
-  digits_more k j e l = rw e (unfold digitsOf in rw (le-ltb n 10 l))
+  pub digits_more : (k j : ℕ) → k ≡ suc j → 10 ≤ n → digits_of k n ≡ digits_of j (n / 10) ++ ((0x30 + n % 10) ∷ [])
+  digits_more k j e l = rw e (unfold digits_of in rw (le-ltb n 10 l))
 
 -- ---- the page of a refusal
 
-pub page-two : (number page : ℕ) → number ≡ 2 → space ++ decimalOf page ≡ pageText number page
+pub page-two : (number page : ℕ) → number ≡ 2 → space ++ decimal_of page ≡ page_text number page
 page-two number page e = rw (eq-eqb number 2 e)
 
-pub page-other : (number page : ℕ) → (number ≡ 2 → ⊥) → [] ≡ pageText number page
+pub page-other : (number page : ℕ) → (number ≡ 2 → ⊥) → [] ≡ page_text number page
 page-other number page e = rw (ne_eqb number 2 e)

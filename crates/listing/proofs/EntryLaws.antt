@@ -9,20 +9,20 @@ use lib.IntN.{ℤ}
 use lib.ListN.{drop, length, length-take}
 use Rattle.fields.proofs.NameLaws.{name-short}
 use Rattle.tree.specs.Scan.{lives}
-use Rattle.fields.specs.Calendar.{shownAs}
+use Rattle.fields.specs.Calendar.{shown_as}
 use Rattle.fields.specs.declared.calendar.Shown.{Shown}
 use Rattle.model.specs.declared.Moment.{Moment}
 use Rattle.model.specs.Bytes.{slice}
 use Rattle.model.specs.Calendar.{shown}
-use Rattle.model.specs.Entry.{Entry, entryOf, isDirectory, isLive}
-use Rattle.tree.specs.Slots.{next_of, slotPages}
+use Rattle.model.specs.Entry.{Entry, entry_of, is_directory, is_live}
+use Rattle.tree.specs.Slots.{next_of, slot_pages}
 use Rattle.listing.specs.declared.path.Path.{Path}
-use Rattle.listing.specs.Paths.{nameRoom, pathBytes}
-use Rattle.listing.specs.Render.{Leads, Texts, insideAt, line_at}
-use Rattle.listing.specs.Stamps.{shownText}
-use Rattle.listing.specs.Text.{directoryLetter, entryLine, fileLetter, stampText, within}
+use Rattle.listing.specs.Paths.{name_room, path_bytes}
+use Rattle.listing.specs.Render.{Leads, Texts, inside_at, line_at}
+use Rattle.listing.specs.Stamps.{shown_text}
+use Rattle.listing.specs.Text.{directory_letter, entry_line, file_letter, stamp_text, within}
 
-pub name-fits : (page name : List ℕ) → name ≡ (entryOf page).name → length name ≤ 32
+pub name-fits : (page name : List ℕ) → name ≡ (entry_of page).name → length name ≤ 32
 name-fits page name e = omega (arith, ap length e, name-short (slice page 0x40 32), length-take 32 (drop 0x40 page))
 
 -- ---- an unreadable page and a dead entry
@@ -35,42 +35,42 @@ module _ (path : List ℕ) (o : Option Entry) (quiet : false ≡ lives o) where
       go none h = refl
       go (some e) h = rw (← h)
 
-  no-inside : (table : List ℕ) (deeper : Texts) → [] ≡ insideAt table deeper path o
+  no-inside : (table : List ℕ) (deeper : Texts) → [] ≡ inside_at table deeper path o
   no-inside table deeper = go o quiet
     where
-      go : (o : Option Entry) → false ≡ lives o → [] ≡ insideAt table deeper path o
+      go : (o : Option Entry) → false ≡ lives o → [] ≡ inside_at table deeper path o
       go none h = refl
       go (some e) h = rw (← h)
 
-no-slots : (table : List ℕ) (start : ℕ) → slotPages table start 0 0 ≡ []
-unfolding slotPages
+no-slots : (table : List ℕ) (start : ℕ) → slot_pages table start 0 0 ≡ []
+unfolding slot_pages
 no-slots table start = refl
 
 pub leads-nowhere : (table : List ℕ) (o : Option Entry) (at start : ℕ) (path : Path) → false ≡ lives o
-    → Leads table (pathBytes path) o path.len (record { at = at; path = path; start = start; count = 0 })
+    → Leads table (path_bytes path) o path.len (record { at = at; path = path; start = start; count = 0 })
 leads-nowhere table o at start path quiet =
     record {
       short = omega arith;
-      inside = λ deeper empty. rw (no-slots table start) (empty (pathBytes path) ∙ no-inside (pathBytes path) o quiet table deeper);
+      inside = λ deeper empty. rw (no-slots table start) (empty (path_bytes path) ∙ no-inside (path_bytes path) o quiet table deeper);
     }
 
 -- ---- a live entry
 
-shown-text : (o : Option Moment) → shownText (shownAs o) ≡ stampText o
+shown-text : (o : Option Moment) → shown_text (shown_as o) ≡ stamp_text o
 shown-text none = refl
 shown-text (some m) = refl
 
 -- its length, and its path with its name, as the code has them
 pub record Seen (path : List ℕ) (len : ℕ) (o : Option Entry) (e : Entry) (size : ℕ) (own : Path) : Type 0 where
   pub shown : o ≡ some e
-  pub live : true ≡ isLive e
+  pub live : true ≡ is_live e
   pub length-is : size ≡ e.length
-  pub path-is : pathBytes own ≡ within path e.name
-  pub longer : own.len ≤ len + nameRoom
+  pub path-is : path_bytes own ≡ within path e.name
+  pub longer : own.len ≤ len + name_room
 
-pub seen_by : (path : List ℕ) (len : ℕ) (o : Option Entry) (page name : List ℕ) (size : ℕ) (own : Path) → o ≡ some (entryOf page) → true ≡ isLive (entryOf page)
-    → size ≡ (entryOf page).length → name ≡ (entryOf page).name → (pathBytes own ≡ within path name) × (own.len ≡ len + length name + 1)
-    → Seen path len o (entryOf page) size own
+pub seen_by : (path : List ℕ) (len : ℕ) (o : Option Entry) (page name : List ℕ) (size : ℕ) (own : Path) → o ≡ some (entry_of page) → true ≡ is_live (entry_of page)
+    → size ≡ (entry_of page).length → name ≡ (entry_of page).name → (path_bytes own ≡ within path name) × (own.len ≡ len + length name + 1)
+    → Seen path len o (entry_of page) size own
 seen_by path len o page name size own shown live long named grown =
     record {
       shown = shown;
@@ -81,21 +81,21 @@ seen_by path len o page name size own shown live long named grown =
     }
 
 module _ {path : List ℕ} {len : ℕ} {o : Option Entry} {e : Entry} {size : ℕ} {own : Path} (seen : Seen path len o e size own) where
-  module _ (minutes : ℤ) (changed : Shown) (stamp : changed ≡ shownAs (shown minutes e.modified)) where
-    pub file-line : false ≡ isDirectory e → entryLine fileLetter size (pathBytes own) (shownText changed) ≡ line_at minutes path o
+  module _ (minutes : ℤ) (changed : Shown) (stamp : changed ≡ shown_as (shown minutes e.modified)) where
+    pub file-line : false ≡ is_directory e → entry_line file_letter size (path_bytes own) (shown_text changed) ≡ line_at minutes path o
     file-line kind = rw (seen.shown, ← kind, ← seen.live, seen.length-is, seen.path-is, stamp, shown-text (shown minutes e.modified))
 
-    pub directory-line : true ≡ isDirectory e → entryLine directoryLetter size (pathBytes own) (shownText changed) ≡ line_at minutes path o
+    pub directory-line : true ≡ is_directory e → entry_line directory_letter size (path_bytes own) (shown_text changed) ≡ line_at minutes path o
     directory-line kind = rw (seen.shown, ← kind, ← seen.live, seen.length-is, seen.path-is, stamp, shown-text (shown minutes e.modified))
 
-  pub file-leads : (table : List ℕ) (at start : ℕ) → false ≡ isDirectory e → Leads table path o len (record { at = at; path = own; start = start; count = 0 })
+  pub file-leads : (table : List ℕ) (at start : ℕ) → false ≡ is_directory e → Leads table path o len (record { at = at; path = own; start = start; count = 0 })
   file-leads table at start kind =
       record {
         short = seen.longer;
-        inside = λ deeper empty. rw (no-slots table start, seen.shown, ← kind) (empty (pathBytes own));
+        inside = λ deeper empty. rw (no-slots table start, seen.shown, ← kind) (empty (path_bytes own));
       }
 
-  pub directory-leads : (table : List ℕ) (at first start count : ℕ) → true ≡ isDirectory e → first ≡ e.firstCluster → start ≡ next_of table first → count ≡ size - 2
+  pub directory-leads : (table : List ℕ) (at first start count : ℕ) → true ≡ is_directory e → first ≡ e.first_cluster → start ≡ next_of table first → count ≡ size - 2
       → Leads table path o len (record { at = at; path = own; start = start; count = count })
   directory-leads table at first start count kind f s c =
       record {

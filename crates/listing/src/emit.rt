@@ -1,7 +1,7 @@
 // Text into a lent buffer: bytes that do not fit are dropped, and the place after them is counted all the same.
 ghost use Rattle.std.specs.Prelude.{◌≡◌, ◌∷◌, [], ◌+◌, min};
 ghost use Rattle.listing.specs.Emit.{Wrote, most};
-ghost use Rattle.listing.specs.Text.{decimalOf, digitsOf};
+ghost use Rattle.listing.specs.Text.{decimal_of, digits_of};
 
 // The greatest place, which stands for all beyond it.
 const MOST: usize = 0xFFFF_FFFF_FFFF_FFFF;
@@ -42,7 +42,7 @@ pub(crate) fn put(out: &mut [u8], at: usize, bytes: &[u8]) -> usize
 
 // The last `count` digits of a number, without zeros in front.
 fn put_digits(out: &mut [u8], at: usize, number: u64, count: u32) -> usize
-    ensures { Wrote out.old at (digitsOf count number) out.new result }
+    ensures { Wrote out.old at (digits_of count number) out.new result }
 {
     if count == 0 {
         return at;
@@ -56,7 +56,7 @@ fn put_digits(out: &mut [u8], at: usize, number: u64, count: u32) -> usize
 
 // A number in decimal.
 pub(crate) fn put_number(out: &mut [u8], at: usize, number: u64) -> usize
-    ensures { Wrote out.old at (decimalOf number) out.new result }
+    ensures { Wrote out.old at (decimal_of number) out.new result }
 {
     put_digits(out, at, number, 20)
 }

@@ -1,10 +1,10 @@
 // The lines of a card's entries: slot order, a directory before its inside.
 ghost use Rattle.std.specs.Prelude.{◌+◌, ◌*◌, ◌<◌, ◌≤◌};
-ghost use Rattle.layout.specs.See.{viewBy};
-ghost use Rattle.tree.specs.Slots.{slotPages};
+ghost use Rattle.layout.specs.See.{view_by};
+ghost use Rattle.tree.specs.Slots.{slot_pages};
 ghost use Rattle.listing.specs.Emit.{Wrote};
-ghost use Rattle.listing.specs.Paths.{nameRoom, pathBytes, pathRoom};
-ghost use Rattle.listing.specs.Render.{Leads, WroteTree, line_at, slotsText};
+ghost use Rattle.listing.specs.Paths.{name_room, path_bytes, path_room};
+ghost use Rattle.listing.specs.Render.{Leads, WroteTree, line_at, slots_text};
 
 use crate::lines::put_entry;
 use crate::path::{Path, root_path, with_name};
@@ -36,9 +36,9 @@ fn list_entry(
     path: Path,
     page: usize,
 ) -> Listed
-    requires { path.len + nameRoom ≤ pathRoom }
-    ensures line { Wrote out.old at (line_at minutes (pathBytes path) ((viewBy geometry table.now image.now).entry page)) out.new result.at }
-    ensures leads { Leads table.now (pathBytes path) ((viewBy geometry table.now image.now).entry page) path.len result }
+    requires { path.len + name_room ≤ path_room }
+    ensures line { Wrote out.old at (line_at minutes (path_bytes path) ((view_by geometry table.now image.now).entry page)) out.new result.at }
+    ensures leads { Leads table.now (path_bytes path) ((view_by geometry table.now image.now).entry page) path.len result }
 {
     let mut d = [0u8; 512];
     if !read_slot(image, geometry, table.len(), page, &mut d) {
@@ -89,8 +89,8 @@ fn list_slots(
     count: u32,
     below: u32,
 ) -> usize
-    requires { path.len + nameRoom * (below + 1) ≤ pathRoom }
-    ensures { Wrote out.old at (slotsText minutes (viewBy geometry table.now image.now) table.now below (pathBytes path) (slotPages table.now start 0 count)) out.new result }
+    requires { path.len + name_room * (below + 1) ≤ path_room }
+    ensures { Wrote out.old at (slots_text minutes (view_by geometry table.now image.now) table.now below (path_bytes path) (slot_pages table.now start 0 count)) out.new result }
 {
     let mut next = at;
     let mut c = start;
@@ -139,7 +139,7 @@ pub(crate) fn list_tree(
     out: &mut [u8],
     at: usize,
 ) -> usize
-    ensures { WroteTree minutes (viewBy geometry table.now image.now) out.old at out.new result }
+    ensures { WroteTree minutes (view_by geometry table.now image.now) out.old at out.new result }
 {
     let mut d = [0u8; 512];
     if !read_slot(image, geometry, table.len(), 0, &mut d) {

@@ -6,14 +6,14 @@ mod path;
 mod stamps;
 
 ghost use Rattle.std.specs.Prelude.{◌≡◌, ◌≤◌, length, take, true};
-ghost use Rattle.layout.specs.See.{viewBy};
-ghost use Rattle.model.specs.Calendar.{isShift};
+ghost use Rattle.layout.specs.See.{view_by};
+ghost use Rattle.model.specs.Calendar.{is_shift};
 ghost use Rattle.model.specs.Check.{ok};
-ghost use Rattle.tree.specs.Counted.{checkOf};
+ghost use Rattle.tree.specs.Counted.{check_of};
 ghost use Rattle.listing.specs.Emit.{Wrote};
 ghost use Rattle.listing.specs.Render.{WroteTree};
 ghost use Rattle.listing.specs.Room.{Fits};
-ghost use Rattle.listing.specs.Text.{fitted, listingOf};
+ghost use Rattle.listing.specs.Text.{fitted, listing_of};
 
 use entries::list_tree;
 use fields::calendar::is_shift;
@@ -45,7 +45,7 @@ fn list_words(
     at: usize,
 ) -> usize
     requires { end ≤ length table.now }
-    ensures { WroteTree minutes (viewBy geometry (take end table.now) image.now) out.old at out.new result }
+    ensures { WroteTree minutes (view_by geometry (take end table.now) image.now) out.old at out.new result }
 {
     list_tree(image, &table[..end], geometry, minutes, out, at)
 }
@@ -59,8 +59,8 @@ fn list_card(
     counts: Counts,
     out: &mut [u8],
 ) -> usize
-    requires { (ok counts ≡ checkOf format image.now) × (isShift minutes ≡ true) }
-    ensures { Wrote out.old 0 (listingOf format image.now minutes) out.new result }
+    requires { (ok counts ≡ check_of format image.now) × (is_shift minutes ≡ true) }
+    ensures { Wrote out.old 0 (listing_of format image.now minutes) out.new result }
 {
     let at = put_counts(out, 0, counts);
     let opened = open_card(format, image, table);
@@ -76,8 +76,8 @@ fn list_card(
 
 // Writes as much of the listing as fits, with times so many minutes ahead of Japan's, and tells how long the whole of it is.
 pub fn list(format: Format, image: &[u8], minutes: i32, out: &mut [u8]) -> usize
-    ensures length { result ≡ length (listingOf format image.now minutes) }
-    ensures text { out.new ≡ fitted out.old (listingOf format image.now minutes) }
+    ensures length { result ≡ length (listing_of format image.now minutes) }
+    ensures text { out.new ≡ fitted out.old (listing_of format image.now minutes) }
 {
     if !is_shift(minutes) {
         return put_refusal(out, Refusal::BadShift);

@@ -2,9 +2,9 @@
 ghost use Rattle.std.specs.Prelude.{◌≤◌};
 ghost use Rattle.layout.specs.Refusal.{number_of, page_of};
 ghost use Rattle.listing.specs.Emit.{Wrote};
-ghost use Rattle.listing.specs.Paths.{pathBytes, pathRoom};
-ghost use Rattle.listing.specs.Stamps.{shownText};
-ghost use Rattle.listing.specs.Text.{countLine, countsText, entryLine, pageText, refusalText};
+ghost use Rattle.listing.specs.Paths.{path_bytes, path_room};
+ghost use Rattle.listing.specs.Stamps.{shown_text};
+ghost use Rattle.listing.specs.Text.{count_line, counts_text, entry_line, page_text, refusal_text};
 
 use crate::emit::{put, put_byte, put_number};
 use crate::path::{Path, put_path};
@@ -15,7 +15,7 @@ use tree::Counts;
 
 // A word and a number.
 fn put_count(out: &mut [u8], at: usize, word: &[u8], number: u64) -> usize
-    ensures { Wrote out.old at (countLine word.now number) out.new result }
+    ensures { Wrote out.old at (count_line word.now number) out.new result }
 {
     let a = put(out, at, word);
     let b = put_number(out, a, number);
@@ -24,7 +24,7 @@ fn put_count(out: &mut [u8], at: usize, word: &[u8], number: u64) -> usize
 
 // N, free, reached, orphaned, held back, and the corrected chunks.
 pub(crate) fn put_counts(out: &mut [u8], at: usize, counts: Counts) -> usize
-    ensures { Wrote out.old at (countsText counts) out.new result }
+    ensures { Wrote out.old at (counts_text counts) out.new result }
 {
     let a = put_count(out, at, b"card ", counts.clusters as u64);
     let b = put_count(out, a, b"free ", counts.free as u64);
@@ -43,8 +43,8 @@ pub(crate) fn put_entry(
     path: Path,
     changed: Shown,
 ) -> usize
-    requires { path.len ≤ pathRoom }
-    ensures { Wrote out.old at (entryLine letter length (pathBytes path) (shownText changed)) out.new result }
+    requires { path.len ≤ path_room }
+    ensures { Wrote out.old at (entry_line letter length (path_bytes path) (shown_text changed)) out.new result }
 {
     let a = put_byte(out, at, letter);
     let b = put_byte(out, a, b' ');
@@ -58,7 +58,7 @@ pub(crate) fn put_entry(
 
 // The page after the number 2.
 fn put_page(out: &mut [u8], at: usize, number: u64, page: u64) -> usize
-    ensures { Wrote out.old at (pageText number page) out.new result }
+    ensures { Wrote out.old at (page_text number page) out.new result }
 {
     if number == 2 {
         let a = put_byte(out, at, b' ');
@@ -69,7 +69,7 @@ fn put_page(out: &mut [u8], at: usize, number: u64, page: u64) -> usize
 
 // The one line of a refusal.
 pub(crate) fn put_refusal(out: &mut [u8], refusal: Refusal) -> usize
-    ensures { Wrote out.old 0 (refusalText (number_of refusal) (page_of refusal)) out.new result }
+    ensures { Wrote out.old 0 (refusal_text (number_of refusal) (page_of refusal)) out.new result }
 {
     let number = refusal.number() as u64;
     let page = refusal.page() as u64;

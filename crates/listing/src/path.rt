@@ -1,7 +1,7 @@
 // The path of an entry, which grows by a name from one directory to the next.
 ghost use Rattle.std.specs.Prelude.{◌≡◌, [], ◌+◌, ◌≤◌, length};
 ghost use Rattle.listing.specs.Emit.{Wrote};
-ghost use Rattle.listing.specs.Paths.{pathBytes, pathRoom};
+ghost use Rattle.listing.specs.Paths.{path_bytes, path_room};
 ghost use Rattle.listing.specs.Text.{within};
 
 use crate::emit::{put, put_byte};
@@ -20,7 +20,7 @@ pub(crate) struct Path {
 
 // The root's path as the beginning of every other: no bytes.
 pub(crate) fn root_path() -> Path
-    ensures { (pathBytes result ≡ []) × (result.len ≡ 0) }
+    ensures { (path_bytes result ≡ []) × (result.len ≡ 0) }
 {
     Path {
         bytes: [0u8; PATH_ROOM],
@@ -30,8 +30,8 @@ pub(crate) fn root_path() -> Path
 
 // One name further.
 pub(crate) fn with_name(path: Path, name: &[u8]) -> Path
-    requires { path.len + length name.now + 1 ≤ pathRoom }
-    ensures { (pathBytes result ≡ within (pathBytes path) name.now) × (result.len ≡ path.len + length name.now + 1) }
+    requires { path.len + length name.now + 1 ≤ path_room }
+    ensures { (path_bytes result ≡ within (path_bytes path) name.now) × (result.len ≡ path.len + length name.now + 1) }
 {
     let mut bytes = path.bytes;
     let at = put_byte(&mut bytes, path.len, b'/');
@@ -44,8 +44,8 @@ pub(crate) fn with_name(path: Path, name: &[u8]) -> Path
 
 // The path's bytes into a buffer.
 pub(crate) fn put_path(out: &mut [u8], at: usize, path: Path) -> usize
-    requires { path.len ≤ pathRoom }
-    ensures { Wrote out.old at (pathBytes path) out.new result }
+    requires { path.len ≤ path_room }
+    ensures { Wrote out.old at (path_bytes path) out.new result }
 {
     let bytes = path.bytes;
     let len = path.len;

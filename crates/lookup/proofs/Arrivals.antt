@@ -3,8 +3,8 @@ use Prim.Native.Nat.{ℕ}
 use mathlib.Core.List.{List, [], ◌∷◌}
 use mathlib.Core.Path.{◌≡◌, ap, ap₂}
 use Rattle.model.specs.Check.{Result, fault, ok}
-use Rattle.model.specs.Entry.{entryOf}
-use Rattle.model.specs.Lookup.{found, lookIn, tell}
+use Rattle.model.specs.Entry.{entry_of}
+use Rattle.model.specs.Lookup.{found, look_in, tell}
 use Rattle.model.specs.Names.{Path}
 use Rattle.model.specs.Tree.{Slot, Tree}
 use Rattle.model.specs.View.{View}
@@ -18,14 +18,14 @@ abbrev pub arrive : Slot → Tree → Path → Result (Slot × Tree)
 arrive h s [] = ok (h, s)
 arrive Slot.dead s (n ∷ path) = fault 9 0
 arrive (Slot.file e chain pages) s (n ∷ path) = fault 10 0
-arrive (Slot.directory e chain) s (n ∷ path) = tell (λ h t. arrive h t path) (fault 9 0) (lookIn s (n ∷ []))
+arrive (Slot.directory e chain) s (n ∷ path) = tell (λ h t. arrive h t path) (fault 9 0) (look_in s (n ∷ []))
 
 -- what an arrival says, with the page of the entry there
 abbrev pub Arrives : View → Result (Slot × Tree) → Arrival → List ℕ → Type 0
 Arrives v (fault n p) (arrival.At first) page = ⊥
 Arrives v (fault n p) arrival.Absent page = (n ≡ 9) × (p ≡ 0)
 Arrives v (fault n p) arrival.WrongKind page = (n ≡ 10) × (p ≡ 0)
-Arrives v (ok x) (arrival.At first) page = Stands v first (entryOf page) x.0 x.1
+Arrives v (ok x) (arrival.At first) page = Stands v first (entry_of page) x.0 x.1
 Arrives v (ok x) arrival.Absent page = ⊥
 Arrives v (ok x) arrival.WrongKind page = ⊥
 

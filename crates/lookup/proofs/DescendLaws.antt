@@ -7,21 +7,21 @@ use mathlib.Core.Path.{◌∙◌, ◌≡◌, ap, ap₂, refl, sym}
 use native.Mathlib.Omega.{arith}
 use lib.ListN.{get_or, length}
 use Rattle.fields.proofs.PathLaws.{name-of-path}
-use Rattle.fields.specs.PathBytes.{name_at, pathOf}
-use Rattle.layout.specs.See.{viewBy}
+use Rattle.fields.specs.PathBytes.{name_at, path_of}
+use Rattle.layout.specs.See.{view_by}
 use Rattle.model.specs.Check.{Result, and_then, fault, ok}
-use Rattle.model.specs.Entry.{Entry, entryOf}
+use Rattle.model.specs.Entry.{Entry, entry_of}
 use Rattle.model.specs.Holds.{HoldsCard}
-use Rattle.model.specs.Lookup.{Found, absent, found, lookIn, tell}
+use Rattle.model.specs.Lookup.{Found, absent, found, look_in, tell}
 use Rattle.model.specs.Names.{Name, Path}
 use Rattle.model.specs.Pages.{decoded}
-use Rattle.model.specs.Tree.{Root, Slot, Tree, rootSlot}
+use Rattle.model.specs.Tree.{Root, Slot, Tree, root_slot}
 use Rattle.model.specs.View.{View}
-use Rattle.reached.specs.Table.{tableLinks}
+use Rattle.reached.specs.Table.{table_links}
 use Rattle.lookup.specs.declared.way.Arrival.{Arrival}
 use Rattle.lookup.specs.declared.way.Arrival.TheVariants as arrival
 use Rattle.lookup.specs.declared.way.Arrived.{Arrived}
-use Rattle.lookup.specs.Descend.{Stands, atRoot, descended, entered, namesFrom, onward}
+use Rattle.lookup.specs.Descend.{Stands, at_root, descended, entered, names_from, onward}
 use Rattle.lookup.proofs.Arrivals.{Arrives, ArrivesBy, arrive}
 use Rattle.lookup.proofs.DescendSteps.{onward-absent, onward-kind, standing}
 use Rattle.lookup.proofs.EnterLaws.{enters, root_stands, some_same}
@@ -31,7 +31,7 @@ arrive-more : (h : Slot) (s : Tree) (n : Name) (q : Path) → arrive h s (n ∷ 
 unfolding and_then
 arrive-more Slot.dead s n q = refl
 arrive-more (Slot.file e cs ds) s n q = refl
-arrive-more (Slot.directory e cs) s n q = go (lookIn s (n ∷ []))
+arrive-more (Slot.directory e cs) s n q = go (look_in s (n ∷ []))
   where
     go : (f : Found) → tell (λ h t. arrive h t q) (fault 9 0) f ≡ and_then (tell (λ h t. arrive h t []) (fault 9 0) f) (λ x. arrive x.0 x.1 q)
     go absent = refl
@@ -40,7 +40,7 @@ arrive-more (Slot.directory e cs) s n q = go (lookIn s (n ∷ []))
 module _ (v : View) (t : List ℕ) (names : Path) where
   -- the other names, from where the first one leads
   abbrev pub Others : Type 0
-  Others = (first p : ℕ) (page : List ℕ) (h : Slot) (s : Tree) → Stands v first (entryOf page) h s → ArrivesBy v (arrive h s names) (onward v t (standing first p page) names)
+  Others = (first p : ℕ) (page : List ℕ) (h : Slot) (s : Tree) → Stands v first (entry_of page) h s → ArrivesBy v (arrive h s names) (onward v t (standing first p page) names)
 
   ended : (a : Arrived) (r : Result (Slot × Tree)) → ((x : Slot × Tree) → ArrivesBy v (ok x) a → ⊥) → ArrivesBy v r a → ArrivesBy v (and_then r (λ x. arrive x.0 x.1 names)) a
   unfolding and_then
@@ -63,16 +63,16 @@ module _ (v : View) (t : List ℕ) (names : Path) where
 
 -- the root stands where page 0 was read
 pub root-read : (v : View) → ((p : ℕ) → v.entry p ≡ decoded (v.page p)) → (root : Root) → HoldsCard v root → (page : List ℕ) → v.page 0 ≡ some page
-    → Stands v 0 (entryOf page) (rootSlot root) root.slots
+    → Stands v 0 (entry_of page) (root_slot root) root.slots
 root-read v reads root card page e =
-    stands_same root.rootEntry (entryOf page) (some_same _ _ (sym card.rootPage ∙ (reads 0 ∙ ap decoded e))) (root_stands v root card)
+    stands_same root.root_entry (entry_of page) (some_same _ _ (sym card.root_page ∙ (reads 0 ∙ ap decoded e))) (root_stands v root card)
   where
-    stands_same : (d e : Entry) → d ≡ e → Stands v 0 d (rootSlot root) root.slots → Stands v 0 e (rootSlot root) root.slots
+    stands_same : (d e : Entry) → d ≡ e → Stands v 0 d (root_slot root) root.slots → Stands v 0 e (root_slot root) root.slots
     stands_same d e q x = rw (← q) x
 
-module _ (v : View) (t : List ℕ) (links : (c : ℕ) → v.link c ≡ tableLinks t c) (reads : (p : ℕ) → v.entry p ≡ decoded (v.page p)) where
+module _ (v : View) (t : List ℕ) (links : (c : ℕ) → v.link c ≡ table_links t c) (reads : (p : ℕ) → v.entry p ≡ decoded (v.page p)) where
   -- from an entry that stands in the tree on
-  pub onward-arrives : (names : Path) (first p : ℕ) (page : List ℕ) (h : Slot) (s : Tree) → Stands v first (entryOf page) h s
+  pub onward-arrives : (names : Path) (first p : ℕ) (page : List ℕ) (h : Slot) (s : Tree) → Stands v first (entry_of page) h s
       → ArrivesBy v (arrive h s names) (onward v t (standing first p page) names)
   unfolding onward and_then
   onward-arrives [] first p page h s x = x
@@ -80,17 +80,17 @@ module _ (v : View) (t : List ℕ) (links : (c : ℕ) → v.link c ≡ tableLink
       rw (arrive-more h s n names) (next-arrives v t names (λ first p page h s. onward-arrives names first p page h s) (entered v t first page n) (arrive h s (n ∷ [])) (enters v t links reads first page n h s x))
 
   pub descended-arrives : (root : Root) → HoldsCard v root → (names : Path)
-      → ArrivesBy v (arrive (rootSlot root) root.slots names) (descended v t names)
+      → ArrivesBy v (arrive (root_slot root) root.slots names) (descended v t names)
   unfolding descended
   descended-arrives root card names = go (v.page 0) refl
     where
-      go : (o : Option (List ℕ)) → v.page 0 ≡ o → ArrivesBy v (arrive (rootSlot root) root.slots names) (onward v t (atRoot o) names)
-      go none e = absurd (let z : none ≡ some root.rootEntry = sym (reads 0 ∙ ap decoded e) ∙ card.rootPage in let w : ◌≡◌ {A = ℕ} 0 1 = cc in omega arith)
-      go (some page) e = onward-arrives names 0 0 page (rootSlot root) root.slots (root-read v reads root card page e)
+      go : (o : Option (List ℕ)) → v.page 0 ≡ o → ArrivesBy v (arrive (root_slot root) root.slots names) (onward v t (at_root o) names)
+      go none e = absurd (let z : none ≡ some root.root_entry = sym (reads 0 ∙ ap decoded e) ∙ card.root_page in let w : ◌≡◌ {A = ℕ} 0 1 = cc in omega arith)
+      go (some page) e = onward-arrives names 0 0 page (root_slot root) root.slots (root-read v reads root card page e)
 
 -- ---- the names of a path's bytes
 
-names-get : (q : Path) (bytes : List ℕ) (i : ℕ) → ((j : ℕ) → j < length q → name_at bytes (i + j) ≡ get_or q j []) → namesFrom bytes i (length q) ≡ q
+names-get : (q : Path) (bytes : List ℕ) (i : ℕ) → ((j : ℕ) → j < length q → name_at bytes (i + j) ≡ get_or q j []) → names_from bytes i (length q) ≡ q
 names-get [] bytes i h = refl
 names-get (n ∷ q) bytes i h =
     let z : i + 0 ≡ i = omega arith in
@@ -98,17 +98,17 @@ names-get (n ∷ q) bytes i h =
     (names-get q bytes (suc i) (λ j l. let y : suc i + j ≡ i + suc j = omega arith in ap (name_at bytes) y ∙ h (suc j) (omega arith)))
 
 -- of a path they are its own
-pub names-of-path : (bytes : List ℕ) (names : Path) → pathOf bytes ≡ some names → namesFrom bytes 0 (length names) ≡ names
+pub names-of-path : (bytes : List ℕ) (names : Path) → path_of bytes ≡ some names → names_from bytes 0 (length names) ≡ names
 names-of-path bytes names e =
     names-get names bytes 0 (λ j l. let z : 0 + j ≡ j = omega arith in ap (name_at bytes) z ∙ name-of-path bytes names j e l)
 
 -- for every card that the view holds and every path that the bytes are
 abbrev pub Leads : View → List ℕ → ℕ → Arrival → List ℕ → Type 0
 Leads v path count a page =
-    (root : Root) → HoldsCard v root → (names : Path) → pathOf path ≡ some names → length names ≡ count → Arrives v (arrive (rootSlot root) root.slots names) a page
+    (root : Root) → HoldsCard v root → (names : Path) → path_of path ≡ some names → length names ≡ count → Arrives v (arrive (root_slot root) root.slots names) a page
 
-pub leads : (geometry : Geometry) (table image path : List ℕ) (count : ℕ) (r : Arrived) → r ≡ descended (viewBy geometry table image) table (namesFrom path 0 count)
-    → Leads (viewBy geometry table image) path count r.arrival r.page
+pub leads : (geometry : Geometry) (table image path : List ℕ) (count : ℕ) (r : Arrived) → r ≡ descended (view_by geometry table image) table (names_from path 0 count)
+    → Leads (view_by geometry table image) path count r.arrival r.page
 leads geometry table image path count r e root card names p l =
-    let same : namesFrom path 0 count ≡ names = ap (namesFrom path 0) (sym l) ∙ names-of-path path names p in
-    rw (e, same) (descended-arrives (viewBy geometry table image) table (λ c. refl) (λ a. refl) root card names)
+    let same : names_from path 0 count ≡ names = ap (names_from path 0) (sym l) ∙ names-of-path path names p in
+    rw (e, same) (descended-arrives (view_by geometry table image) table (λ c. refl) (λ a. refl) root card names)

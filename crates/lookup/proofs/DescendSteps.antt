@@ -10,7 +10,7 @@ use Rattle.model.specs.Names.{Name, Path}
 use Rattle.model.specs.View.{View}
 use Rattle.lookup.specs.declared.way.Arrival.TheVariants as arrival
 use Rattle.lookup.specs.declared.way.Arrived.{Arrived}
-use Rattle.lookup.specs.Descend.{descended, entered, namesFrom, nowhere, onward}
+use Rattle.lookup.specs.Descend.{descended, entered, names_from, nowhere, onward}
 
 -- the entry in page p, whose chain begins with cluster `first`
 abbrev pub standing : ℕ → ℕ → List ℕ → Arrived
@@ -30,11 +30,11 @@ module _ (v : View) (t : List ℕ) where
   module _ (path : List ℕ) (count : ℕ) where
     -- where the whole path leads
     abbrev pub led : Arrived
-    led = descended v t (namesFrom path 0 count)
+    led = descended v t (names_from path 0 count)
 
     -- the names left from place i on lead there from the entry in page p
     abbrev pub OnWay : ℕ → ℕ → ℕ → List ℕ → Type 0
-    OnWay i first p page = onward v t (standing first p page) (namesFrom path i (count - i)) ≡ led
+    OnWay i first p page = onward v t (standing first p page) (names_from path i (count - i)) ≡ led
 
     pub way-start : (page : List ℕ) → v.page 0 ≡ some page → OnWay 0 0 0 page
     unfolding descended
@@ -42,7 +42,7 @@ module _ (v : View) (t : List ℕ) where
 
     pub way-none : v.page 0 ≡ none → nowhere arrival.Absent ≡ led
     unfolding descended
-    way-none e = rw e (sym (onward-absent (nowhere arrival.Absent) (namesFrom path 0 count) refl))
+    way-none e = rw e (sym (onward-absent (nowhere arrival.Absent) (names_from path 0 count) refl))
 
     module _ (i first p : ℕ) (page : List ℕ) (w : OnWay i first p page) where
       -- at the end of the names
@@ -51,17 +51,17 @@ module _ (v : View) (t : List ℕ) where
       way_end h = let z : count - i ≡ 0 = omega arith in rw z at w
 
       module _ (h : i < count) (n : Name) (named : n ≡ name_at path i) (a : Arrived) (step : a ≡ entered v t first page n) where
-        more : onward v t a (namesFrom path (i + 1) (count - (i + 1))) ≡ led
+        more : onward v t a (names_from path (i + 1) (count - (i + 1))) ≡ led
         unfolding onward
         more =
             let z : count - i ≡ suc (count - (i + 1)) = omega arith in
             rw (step, named, add-one i) (rw (z, add-one i) at w)
 
         pub way-absent : a.arrival ≡ arrival.Absent → a ≡ led
-        way-absent e = sym (onward-absent a (namesFrom path (i + 1) (count - (i + 1))) e) ∙ more
+        way-absent e = sym (onward-absent a (names_from path (i + 1) (count - (i + 1))) e) ∙ more
 
         pub way-kind : a.arrival ≡ arrival.WrongKind → a ≡ led
-        way-kind e = sym (onward-kind a (namesFrom path (i + 1) (count - (i + 1))) e) ∙ more
+        way-kind e = sym (onward-kind a (names_from path (i + 1) (count - (i + 1))) e) ∙ more
 
         pub way_on : (next : ℕ) → a.arrival ≡ arrival.At next → OnWay (i + 1) next a.at a.page
         way_on next e = rw (← e) more

@@ -9,21 +9,21 @@ use lib.Dec.{leb→le}
 use Rattle.model.proofs.Equality.{and_l, and_r, tf, to-T}
 use Rattle.model.specs.Bytes.{word}
 use Rattle.model.specs.Check.{ok}
-use Rattle.model.specs.Entry.{Entry, entryOf, hasBit, isDirectory, isFile, isLive}
+use Rattle.model.specs.Entry.{Entry, entry_of, has_bit, is_directory, is_file, is_live}
 use Rattle.model.specs.Holds.{HoldsCard, HoldsSlot, HoldsSlots, deepest}
-use Rattle.model.specs.Lookup.{absent, lookIn}
-use Rattle.model.specs.Names.{Name, goodName, same_name}
+use Rattle.model.specs.Lookup.{absent, look_in}
+use Rattle.model.specs.Names.{Name, good_name, same_name}
 use Rattle.model.specs.Pages.{decoded}
-use Rattle.model.specs.Tree.{Root, Slot, Tree, entryPages, rootSlot}
+use Rattle.model.specs.Tree.{Root, Slot, Tree, entry_pages, root_slot}
 use Rattle.model.specs.View.{View}
-use Rattle.reached.specs.Table.{tableLinks}
+use Rattle.reached.specs.Table.{table_links}
 use Rattle.lookup.specs.declared.way.Arrival.TheVariants as arrival
 use Rattle.tree.specs.declared.along.Place.{Place}
 use Rattle.tree.specs.declared.along.Place.TheVariants as place
-use Rattle.lookup.specs.Descend.{Stands, entered, landed, landedAt, nowhere, pickArrived}
+use Rattle.lookup.specs.Descend.{Stands, entered, landed, landed_at, nowhere, pick_arrived}
 use Rattle.tree.specs.Scan.{bearing, scan}
 use Rattle.lookup.proofs.Arrivals.{Arrives, ArrivesBy, arrive}
-use Rattle.tree.specs.Slots.{next_of, slotPages}
+use Rattle.tree.specs.Slots.{next_of, slot_pages}
 use Rattle.tree.proofs.ChainPages.{directory-pages}
 use Rattle.lookup.proofs.FindLaws.{Finds, scan-finds}
 
@@ -32,57 +32,57 @@ and-not true b e = ap not e
 and-not false b e = refl
 
 -- a file is no directory
-pub file-kind : (e : Entry) → isFile e ≡ true → isDirectory e ≡ false
-file-kind e h = and-not (isLive e && hasBit e.mode 0x20) (hasBit e.mode 0x10) (and_r (isLive e) _ (and_l _ _ (and_l _ _ (and_l _ _ h))))
+pub file-kind : (e : Entry) → is_file e ≡ true → is_directory e ≡ false
+file-kind e h = and-not (is_live e && has_bit e.mode 0x20) (has_bit e.mode 0x10) (and_r (is_live e) _ (and_l _ _ (and_l _ _ (and_l _ _ h))))
 
 -- a slot that a page holds stands there, with its inside
-pub held-stands : (v : View) (below below' p : ℕ) (h : Slot) (s : Tree) (n : Name) → HoldsSlot v below p h → HoldsSlots v below' (entryPages h) s → (h ≡ Slot.dead → ⊥)
-    → (e : Entry) × (v.entry p ≡ some e) × Stands v e.firstCluster e h s
+pub held-stands : (v : View) (below below' p : ℕ) (h : Slot) (s : Tree) (n : Name) → HoldsSlot v below p h → HoldsSlots v below' (entry_pages h) s → (h ≡ Slot.dead → ⊥)
+    → (e : Entry) × (v.entry p ≡ some e) × Stands v e.first_cluster e h s
 held-stands v below below' p Slot.dead s n x y d = absurd (d refl)
 held-stands v below below' p (Slot.file e cs ds) s n x y d = (e, x.0, (refl, file-kind e x.1, x.2, x.3, x.4))
 held-stands v below below' p (Slot.directory e cs) s n x y d =
-    (e, x.0, (refl, and_l _ _ (and_l _ _ x.1), leb→le 2 _ (to-T (and_r (isDirectory e && goodName e.name) _ x.1)), x.3, x.4, (below', y)))
+    (e, x.0, (refl, and_l _ _ (and_l _ _ x.1), leb→le 2 _ (to-T (and_r (is_directory e && good_name e.name) _ x.1)), x.3, x.4, (below', y)))
 
 -- the root stands in page 0; its slots begin behind cluster 0
-pub root_stands : (v : View) (r : Root) → HoldsCard v r → Stands v 0 r.rootEntry (rootSlot r) r.slots
+pub root_stands : (v : View) (r : Root) → HoldsCard v r → Stands v 0 r.root_entry (root_slot r) r.slots
 root_stands v r x =
-    (refl, and_l _ _ (and_l _ _ x.good), leb→le 2 _ (to-T (and_r (isDirectory r.rootEntry && same_name r.rootEntry.name (0x2E ∷ [])) _ x.good)), x.long, x.links, (deepest, x.rep))
+    (refl, and_l _ _ (and_l _ _ x.good), leb→le 2 _ (to-T (and_r (is_directory r.root_entry && same_name r.root_entry.name (0x2E ∷ [])) _ x.good)), x.long, x.links, (deepest, x.rep))
 
 pub some_same : (a b : Entry) → some a ≡ some b → a ≡ b
 some_same a b e = cc
 
 -- the slots of a directory that stands: their pages are those that the code steps through, and they hold the tree's
-module _ (v : View) (t : List ℕ) (links : (c : ℕ) → v.link c ≡ tableLinks t c) (first : ℕ) (e d : Entry) (cs : List ℕ) (s : Tree) (x : Stands v first e (Slot.directory d cs) s) where
-  pub stands-chain : (ds : List ℕ) × (cs ≡ first ∷ ds) × (entryPages (Slot.directory d cs) ≡ slotPages t (next_of t first) 0 (e.length - 2))
+module _ (v : View) (t : List ℕ) (links : (c : ℕ) → v.link c ≡ table_links t c) (first : ℕ) (e d : Entry) (cs : List ℕ) (s : Tree) (x : Stands v first e (Slot.directory d cs) s) where
+  pub stands-chain : (ds : List ℕ) × (cs ≡ first ∷ ds) × (entry_pages (Slot.directory d cs) ≡ slot_pages t (next_of t first) 0 (e.length - 2))
   stands-chain = let a = directory-pages v t links first cs x.4 e.length x.2 x.3 in (a.0, a.1, rw x.0 a.2)
 
-  pub stands-held : HoldsSlots v x.5.0 (slotPages t (next_of t first) 0 (e.length - 2)) s
+  pub stands-held : HoldsSlots v x.5.0 (slot_pages t (next_of t first) 0 (e.length - 2)) s
   stands-held = rw stands-chain.2 at x.5.1
 
-module _ (v : View) (t : List ℕ) (links : (c : ℕ) → v.link c ≡ tableLinks t c) (first : ℕ) (e : Entry) (n : Name) where
+module _ (v : View) (t : List ℕ) (links : (c : ℕ) → v.link c ≡ table_links t c) (first : ℕ) (e : Entry) (n : Name) where
   -- the place of a name in a directory of this entry
   abbrev placed : Place
-  placed = scan (bearing v n) (slotPages t (next_of t first) 0 (e.length - 2)) 0
+  placed = scan (bearing v n) (slot_pages t (next_of t first) 0 (e.length - 2)) 0
 
-  enter-file : (h : Slot) (s : Tree) (page : List ℕ) → Stands v first e h s → isDirectory e ≡ false → Arrives v (arrive h s (n ∷ [])) arrival.WrongKind page
+  enter-file : (h : Slot) (s : Tree) (page : List ℕ) → Stands v first e h s → is_directory e ≡ false → Arrives v (arrive h s (n ∷ [])) arrival.WrongKind page
   enter-file Slot.dead s page x f = absurd x
   enter-file (Slot.file d cs ds) s page x f = (refl, refl)
   enter-file (Slot.directory d cs) s page x f = tf x.1 f
 
   -- a directory's place of a name says what is found
   directory-finds : (d : Entry) (cs : List ℕ) (s : Tree) → (x : Stands v first e (Slot.directory d cs) s) → Finds v x.5.0 s n placed
-  directory-finds d cs s x = scan-finds v x.5.0 n (slotPages t (next_of t first) 0 (e.length - 2)) s 0 (stands-held v t links first e d cs s x)
+  directory-finds d cs s x = scan-finds v x.5.0 n (slot_pages t (next_of t first) 0 (e.length - 2)) s 0 (stands-held v t links first e d cs s x)
 
-  enter-absent : (h : Slot) (s : Tree) (page : List ℕ) → Stands v first e h s → isDirectory e ≡ true → placed ≡ place.Nowhere → Arrives v (arrive h s (n ∷ [])) arrival.Absent page
+  enter-absent : (h : Slot) (s : Tree) (page : List ℕ) → Stands v first e h s → is_directory e ≡ true → placed ≡ place.Nowhere → Arrives v (arrive h s (n ∷ [])) arrival.Absent page
   enter-absent Slot.dead s page x f q = absurd x
   enter-absent (Slot.file d cs ds) s page x f q = tf f x.1
   enter-absent (Slot.directory d cs) s page x f q =
-      let y : lookIn s (n ∷ []) ≡ absent = rw q at (directory-finds d cs s x) in
+      let y : look_in s (n ∷ []) ≡ absent = rw q at (directory-finds d cs s x) in
       rw y (refl, refl)
 
   -- the page of a name that is found holds an entry, which stands there
-  enter-found : (h : Slot) (s : Tree) → Stands v first e h s → isDirectory e ≡ true → (k p : ℕ) → placed ≡ place.At k p
-      → (g : Slot) × (u : Tree) × (d : Entry) × (v.entry p ≡ some d) × Stands v d.firstCluster d g u × (arrive h s (n ∷ []) ≡ ok (g, u))
+  enter-found : (h : Slot) (s : Tree) → Stands v first e h s → is_directory e ≡ true → (k p : ℕ) → placed ≡ place.At k p
+      → (g : Slot) × (u : Tree) × (d : Entry) × (v.entry p ≡ some d) × Stands v d.first_cluster d g u × (arrive h s (n ∷ []) ≡ ok (g, u))
   enter-found Slot.dead s x f k p q = absurd x
   enter-found (Slot.file d cs ds) s x f k p q = tf f x.1
   enter-found (Slot.directory d cs) s x f k p q =
@@ -90,33 +90,33 @@ module _ (v : View) (t : List ℕ) (links : (c : ℕ) → v.link c ≡ tableLink
       let z = held-stands v _ _ p y.0 y.1 n y.3 y.4 (λ w. tf (rw w at y.5) refl) in
       (y.0, y.1, z.0, z.1, z.2, rw y.2)
 
-  stands-as : (g : Slot) (u : Tree) (d d' : Entry) (next : ℕ) → Stands v d.firstCluster d g u → d ≡ d' → next ≡ d'.firstCluster → Stands v next d' g u
+  stands-as : (g : Slot) (u : Tree) (d d' : Entry) (next : ℕ) → Stands v d.first_cluster d g u → d ≡ d' → next ≡ d'.first_cluster → Stands v next d' g u
   stands-as g u d d' next x z eq = rw (eq, ← z) x
 
   -- the entry that was read stands where the name leads
-  enter-there : (h : Slot) (s : Tree) → Stands v first e h s → isDirectory e ≡ true → (k p : ℕ) → placed ≡ place.At k p
-      → (page : List ℕ) (next : ℕ) → v.entry p ≡ some (entryOf page) → next ≡ (entryOf page).firstCluster → Arrives v (arrive h s (n ∷ [])) (arrival.At next) page
+  enter-there : (h : Slot) (s : Tree) → Stands v first e h s → is_directory e ≡ true → (k p : ℕ) → placed ≡ place.At k p
+      → (page : List ℕ) (next : ℕ) → v.entry p ≡ some (entry_of page) → next ≡ (entry_of page).first_cluster → Arrives v (arrive h s (n ∷ [])) (arrival.At next) page
   enter-there h s x f k p q page next read eq =
       let y = enter-found h s x f k p q in
-      let z : y.2 ≡ entryOf page = some_same _ _ (sym y.3 ∙ read) in
-      rw y.5 (stands-as y.0 y.1 y.2 (entryOf page) next y.4 z eq)
+      let z : y.2 ≡ entry_of page = some_same _ _ (sym y.3 ∙ read) in
+      rw y.5 (stands-as y.0 y.1 y.2 (entry_of page) next y.4 z eq)
 
 -- One name further the code arrives where the tree's name leads; the view's entries are those of its pages.
-pub enters : (v : View) (t : List ℕ) → ((c : ℕ) → v.link c ≡ tableLinks t c) → ((p : ℕ) → v.entry p ≡ decoded (v.page p)) → (first : ℕ) (page : List ℕ) (n : Name) (h : Slot) (s : Tree)
-    → Stands v first (entryOf page) h s → ArrivesBy v (arrive h s (n ∷ [])) (entered v t first page n)
+pub enters : (v : View) (t : List ℕ) → ((c : ℕ) → v.link c ≡ table_links t c) → ((p : ℕ) → v.entry p ≡ decoded (v.page p)) → (first : ℕ) (page : List ℕ) (n : Name) (h : Slot) (s : Tree)
+    → Stands v first (entry_of page) h s → ArrivesBy v (arrive h s (n ∷ [])) (entered v t first page n)
 unfolding entered
-enters v t links reads first page n h s x = kind (isDirectory (entryOf page)) refl
+enters v t links reads first page n h s x = kind (is_directory (entry_of page)) refl
   where
-    read : isDirectory (entryOf page) ≡ true → (k p : ℕ) → placed v t links first (entryOf page) n ≡ place.At k p → (o : Option (List ℕ)) → v.page p ≡ o → ArrivesBy v (arrive h s (n ∷ [])) (landed p o)
+    read : is_directory (entry_of page) ≡ true → (k p : ℕ) → placed v t links first (entry_of page) n ≡ place.At k p → (o : Option (List ℕ)) → v.page p ≡ o → ArrivesBy v (arrive h s (n ∷ [])) (landed p o)
     read d k p q none r =
-        let y = enter-found v t links first (entryOf page) n h s x d k p q in
+        let y = enter-found v t links first (entry_of page) n h s x d k p q in
         absurd (let z : none ≡ some y.2 = sym (reads p ∙ ap decoded r) ∙ y.3 in let w : ◌≡◌ {A = ℕ} 0 1 = cc in omega arith)
-    read d k p q (some bytes) r = enter-there v t links first (entryOf page) n h s x d k p q bytes (word bytes 0x10) (reads p ∙ ap decoded r) refl
+    read d k p q (some bytes) r = enter-there v t links first (entry_of page) n h s x d k p q bytes (word bytes 0x10) (reads p ∙ ap decoded r) refl
 
-    found : isDirectory (entryOf page) ≡ true → (r : Place) → placed v t links first (entryOf page) n ≡ r → ArrivesBy v (arrive h s (n ∷ [])) (landedAt v r)
-    found d place.Nowhere q = enter-absent v t links first (entryOf page) n h s _ x d q
+    found : is_directory (entry_of page) ≡ true → (r : Place) → placed v t links first (entry_of page) n ≡ r → ArrivesBy v (arrive h s (n ∷ [])) (landed_at v r)
+    found d place.Nowhere q = enter-absent v t links first (entry_of page) n h s _ x d q
     found d (place.At k p) q = read d k p q (v.page p) refl
 
-    kind : (b : Bool) → isDirectory (entryOf page) ≡ b → ArrivesBy v (arrive h s (n ∷ [])) (pickArrived b (landedAt v (placed v t links first (entryOf page) n)) (nowhere arrival.WrongKind))
-    kind true d = found d (placed v t links first (entryOf page) n) refl
-    kind false d = enter-file v t links first (entryOf page) n h s _ x d
+    kind : (b : Bool) → is_directory (entry_of page) ≡ b → ArrivesBy v (arrive h s (n ∷ [])) (pick_arrived b (landed_at v (placed v t links first (entry_of page) n)) (nowhere arrival.WrongKind))
+    kind true d = found d (placed v t links first (entry_of page) n) refl
+    kind false d = enter-file v t links first (entry_of page) n h s _ x d

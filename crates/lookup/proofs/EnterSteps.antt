@@ -6,12 +6,12 @@ use mathlib.Core.Option.{Option, none}
 use mathlib.Core.Path.{◌∙◌, ◌≡◌, ap}
 use lib.ListN.{replicate}
 use Rattle.model.specs.Bytes.{word}
-use Rattle.model.specs.Entry.{entryOf, isDirectory}
+use Rattle.model.specs.Entry.{entry_of, is_directory}
 use Rattle.model.specs.Names.{Name}
 use Rattle.model.specs.View.{View}
 use Rattle.page.proofs.Puts.{read_none, read_some}
-use Rattle.page.specs.Page.{Read, orKept}
-use Rattle.tree.specs.Slots.{next_of, slotPages}
+use Rattle.page.specs.Page.{Read, or_kept}
+use Rattle.tree.specs.Slots.{next_of, slot_pages}
 use Rattle.tree.specs.declared.along.Place.{Place}
 use Rattle.tree.specs.declared.along.Place.TheVariants as place
 use Rattle.lookup.specs.declared.way.Arrival.TheVariants as arrival
@@ -24,19 +24,19 @@ pub stays-zero : (o : Option (List ℕ)) (after : List ℕ) (r : Bool) → Read 
     → record { arrival = arrival.Absent; at = 0; page = after } ≡ nowhere arrival.Absent
 stays-zero o after r k e =
     let none_read : o ≡ none = read_none o k e in
-    let same : after ≡ replicate 512 0 = k.buffer ∙ ap (λ (o : Option (List ℕ)). orKept o (replicate 512 0)) none_read in
+    let same : after ≡ replicate 512 0 = k.buffer ∙ ap (λ (o : Option (List ℕ)). or_kept o (replicate 512 0)) none_read in
     rw same
 
 module _ (v : View) (t : List ℕ) (n : Name) (first : ℕ) (page : List ℕ) where
-  pub entered-kind : isDirectory (entryOf page) ≡ false → nowhere arrival.WrongKind ≡ entered v t first page n
+  pub entered-kind : is_directory (entry_of page) ≡ false → nowhere arrival.WrongKind ≡ entered v t first page n
   unfolding entered
   entered-kind d = rw d
 
-  module _ (d : isDirectory (entryOf page) ≡ true) (start count len : ℕ) (found : Place) (a : start ≡ next_of t first) (b : count ≡ len - 2) (c : len ≡ (entryOf page).length)
-      (scanned : found ≡ scan (bearing v n) (slotPages t start 0 count) 0) where
+  module _ (d : is_directory (entry_of page) ≡ true) (start count len : ℕ) (found : Place) (a : start ≡ next_of t first) (b : count ≡ len - 2) (c : len ≡ (entry_of page).length)
+      (scanned : found ≡ scan (bearing v n) (slot_pages t start 0 count) 0) where
     -- the code's place of the name is the definition's
-    placed : (r : Place) → found ≡ r → scan (bearing v n) (slotPages t (next_of t first) 0 ((entryOf page).length - 2)) 0 ≡ r
-    placed r e = scan-as (bearing v n) t first (entryOf page).length start count len found a b c scanned ∙ e
+    placed : (r : Place) → found ≡ r → scan (bearing v n) (slot_pages t (next_of t first) 0 ((entry_of page).length - 2)) 0 ≡ r
+    placed r e = scan-as (bearing v n) t first (entry_of page).length start count len found a b c scanned ∙ e
 
     pub entered-absent : found ≡ place.Nowhere → nowhere arrival.Absent ≡ entered v t first page n
     unfolding entered

@@ -8,22 +8,22 @@ use mathlib.Core.Path.{◌∙◌, ◌≡◌, ap, refl, sym}
 use native.Mathlib.Omega.{arith}
 use borrow.Author.Tests.{le-leb, leb-false, leb-true, lt-leb}
 use lib.Dec.{leb}
-use Rattle.fields.specs.Entries.{fieldsOfEntry}
+use Rattle.fields.specs.Entries.{fields_of_entry}
 use Rattle.fields.specs.declared.entries.Entry as fields
 use Rattle.layout.specs.Refusal.{number_of, page_of}
 use Rattle.layout.specs.declared.Refusal.{Refusal}
 use Rattle.model.proofs.Equality.{bool, tf}
 use Rattle.model.specs.Check.{Result, and_then, fault, ok}
-use Rattle.model.specs.Entry.{Entry, isDirectory}
+use Rattle.model.specs.Entry.{Entry, is_directory}
 use Rattle.model.specs.Holds.{HoldsSlots}
 use Rattle.model.specs.Tree.{Slot, Tree, end, node}
 use Rattle.model.specs.View.{View}
-use Rattle.reached.specs.Table.{tableLinks}
-use Rattle.lookup.specs.Answers.{TellsStep, blankEntry}
+use Rattle.reached.specs.Table.{table_links}
+use Rattle.lookup.specs.Answers.{TellsStep, blank_entry}
 use Rattle.lookup.specs.Descend.{Stands}
-use Rattle.tree.specs.Scan.{livingFrom, scan}
-use Rattle.tree.specs.Slots.{next_of, slotPages}
-use Rattle.lookup.specs.Step.{liveFrom, stepFrom}
+use Rattle.tree.specs.Scan.{living_from, scan}
+use Rattle.tree.specs.Slots.{next_of, slot_pages}
+use Rattle.lookup.specs.Step.{live_from, step_from}
 use Rattle.tree.specs.declared.along.Place.{Place}
 use Rattle.tree.specs.declared.along.Place.TheVariants as place
 use Rattle.lookup.specs.declared.stepping.Stepped.TheVariants as stepped
@@ -45,7 +45,7 @@ Shows v (place.At k p) o = (e : Entry) × (v.entry p ≡ some e) × (o ≡ some 
 
 module _ (v : View) (slot : ℕ) where
   abbrev test : ℕ → ℕ → Bool
-  test = livingFrom v (slot - 2)
+  test = living_from v (slot - 2)
 
   and-true : (b : Bool) → (b && true) ≡ b
   and-true true = refl
@@ -55,7 +55,7 @@ module _ (v : View) (slot : ℕ) where
   and-false true = refl
   and-false false = refl
 
-  scan-lives : (below : ℕ) (ps : List ℕ) (t : Tree) (k at : ℕ) → at ≡ k + 2 → HoldsSlots v below ps t → Shows v (scan test ps k) (liveFrom slot at t)
+  scan-lives : (below : ℕ) (ps : List ℕ) (t : Tree) (k at : ℕ) → at ≡ k + 2 → HoldsSlots v below ps t → Shows v (scan test ps k) (live_from slot at t)
   unfolding scan
   scan-lives below [] end k at e x = refl
   scan-lives below [] (node h s t) k at e x = absurd x
@@ -74,36 +74,36 @@ module _ (v : View) (slot : ℕ) where
 
 -- ---- the answers
 
-pub step-refused : (x : Result (Option (ℕ × Entry))) (f : Refusal) (e : fields.Entry) → x ≡ fault (number_of f) (page_of f) → e ≡ blankEntry
+pub step-refused : (x : Result (Option (ℕ × Entry))) (f : Refusal) (e : fields.Entry) → x ≡ fault (number_of f) (page_of f) → e ≡ blank_entry
     → TellsStep x (record { place = stepped.Refused f; entry = e })
 unfolding and_then
 step-refused x f e a b = rw a (record { slot = refl; entry = b })
 
-module _ (v : View) (t : List ℕ) (links : (c : ℕ) → v.link c ≡ tableLinks t c) (first slot : ℕ) (e : Entry) where
+module _ (v : View) (t : List ℕ) (links : (c : ℕ) → v.link c ≡ table_links t c) (first slot : ℕ) (e : Entry) where
   abbrev pub next-live : Place
-  next-live = scan (livingFrom v (slot - 2)) (slotPages t (next_of t first) 0 (e.length - 2)) 0
+  next-live = scan (living_from v (slot - 2)) (slot_pages t (next_of t first) 0 (e.length - 2)) 0
 
-  pub step-file : (h : Slot) (s : Tree) → Stands v first e h s → isDirectory e ≡ false → stepFrom slot h s ≡ fault 10 0
+  pub step-file : (h : Slot) (s : Tree) → Stands v first e h s → is_directory e ≡ false → step_from slot h s ≡ fault 10 0
   step-file Slot.dead s x f = absurd x
   step-file (Slot.file d cs ds) s x f = refl
   step-file (Slot.directory d cs) s x f = tf x.1 f
 
   -- what the step asks, and where the code's scan says it is
-  lived : (h : Slot) (s : Tree) → Stands v first e h s → isDirectory e ≡ true → (o : Option (ℕ × Entry)) × (stepFrom slot h s ≡ ok o) × Shows v next-live o
+  lived : (h : Slot) (s : Tree) → Stands v first e h s → is_directory e ≡ true → (o : Option (ℕ × Entry)) × (step_from slot h s ≡ ok o) × Shows v next-live o
   lived Slot.dead s x f = absurd x
   lived (Slot.file d cs ds) s x f = tf f x.1
   lived (Slot.directory d cs) s x f =
-      (liveFrom slot 2 s, refl, scan-lives v slot x.5.0 (slotPages t (next_of t first) 0 (e.length - 2)) s 0 2 refl (stands-held v t links first e d cs s x))
+      (live_from slot 2 s, refl, scan-lives v slot x.5.0 (slot_pages t (next_of t first) 0 (e.length - 2)) s 0 2 refl (stands-held v t links first e d cs s x))
 
-  module _ (h : Slot) (s : Tree) (x : Stands v first e h s) (f : isDirectory e ≡ true) where
-    pub step_end : (d : fields.Entry) → next-live ≡ place.Nowhere → d ≡ blankEntry → TellsStep (stepFrom slot h s) (record { place = stepped.End; entry = d })
+  module _ (h : Slot) (s : Tree) (x : Stands v first e h s) (f : is_directory e ≡ true) where
+    pub step_end : (d : fields.Entry) → next-live ≡ place.Nowhere → d ≡ blank_entry → TellsStep (step_from slot h s) (record { place = stepped.End; entry = d })
     unfolding and_then
     step_end d q b =
         let y = lived h s x f in
         let z : y.0 ≡ none = rw q at y.2 in
         rw (y.1, z) (record { slot = refl; entry = b })
 
-    shown : (k p : ℕ) → next-live ≡ place.At k p → (d : Entry) × (v.entry p ≡ some d) × (stepFrom slot h s ≡ ok (some (k + 2, d)))
+    shown : (k p : ℕ) → next-live ≡ place.At k p → (d : Entry) × (v.entry p ≡ some d) × (step_from slot h s ≡ ok (some (k + 2, d)))
     shown k p q =
         let y = lived h s x f in
         let z : Shows v (place.At k p) y.0 = rw q at y.2 in
@@ -112,20 +112,20 @@ module _ (v : View) (t : List ℕ) (links : (c : ℕ) → v.link c ≡ tableLink
     pub step-readable : (k p : ℕ) → next-live ≡ place.At k p → (d : Entry) × (v.entry p ≡ some d)
     step-readable k p q = let y = shown k p q in (y.0, y.1)
 
-    pub step-slot : (k p : ℕ) → next-live ≡ place.At k p → (read : Entry) (d : fields.Entry) → v.entry p ≡ some read → d ≡ fieldsOfEntry read
-        → TellsStep (stepFrom slot h s) (record { place = stepped.Slot (k + 2); entry = d })
+    pub step-slot : (k p : ℕ) → next-live ≡ place.At k p → (read : Entry) (d : fields.Entry) → v.entry p ≡ some read → d ≡ fields_of_entry read
+        → TellsStep (step_from slot h s) (record { place = stepped.Slot (k + 2); entry = d })
     unfolding and_then
     step-slot k p q read d i b = let y = shown k p q in told y.0 read y.2 (some_same _ _ (sym y.1 ∙ i)) b
       where
-        told : (a a' : Entry) → stepFrom slot h s ≡ ok (some (k + 2, a)) → a ≡ a' → d ≡ fieldsOfEntry a' → TellsStep (stepFrom slot h s) (record { place = stepped.Slot (k + 2); entry = d })
-        told a a' i z b = rw i (record { slot = refl; entry = b ∙ ap fieldsOfEntry (sym z) })
+        told : (a a' : Entry) → step_from slot h s ≡ ok (some (k + 2, a)) → a ≡ a' → d ≡ fields_of_entry a' → TellsStep (step_from slot h s) (record { place = stepped.Slot (k + 2); entry = d })
+        told a a' i z b = rw i (record { slot = refl; entry = b ∙ ap fields_of_entry (sym z) })
 
 -- the code's scan is the one asked for
 pub live-as : (v : View) (t : List ℕ) (first slot length start count len from : ℕ) {r : Place} → start ≡ next_of t first → count ≡ len - 2 → len ≡ length → from ≡ slot - 2
-    → r ≡ scan (livingFrom v from) (slotPages t start 0 count) 0 → scan (livingFrom v (slot - 2)) (slotPages t (next_of t first) 0 (length - 2)) 0 ≡ r
-live-as v t first slot length start count len from {r} a b c d e = scan-as (livingFrom v (slot - 2)) t first length start count len r a b c (rw d at e)
+    → r ≡ scan (living_from v from) (slot_pages t start 0 count) 0 → scan (living_from v (slot - 2)) (slot_pages t (next_of t first) 0 (length - 2)) 0 ≡ r
+live-as v t first slot length start count len from {r} a b c d e = scan-as (living_from v (slot - 2)) t first length start count len r a b c (rw d at e)
 
 -- the step at a path is the one from the slot there
 pub step-at : (slot : ℕ) (x : Result (Option (ℕ × Entry))) (v : View) (first : ℕ) (e : Entry) (r : SteppedEntry)
-    → ((h : Slot) × (s : Tree) × Stands v first e h s × (x ≡ stepFrom slot h s)) → ((h : Slot) (s : Tree) → Stands v first e h s → TellsStep (stepFrom slot h s) r) → TellsStep x r
+    → ((h : Slot) × (s : Tree) × Stands v first e h s × (x ≡ step_from slot h s)) → ((h : Slot) (s : Tree) → Stands v first e h s → TellsStep (step_from slot h s) r) → TellsStep x r
 step-at slot x v first e r y f = rw y.3 (f y.0 y.1 y.2)

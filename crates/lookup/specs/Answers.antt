@@ -1,7 +1,7 @@
 -- What the answers of the calls say: the paper's number, or the value. A refusal yields no other value: the entry is then blank.
 use Rattle.std.specs.Prelude.{ℕ, List, ◌++◌, ◌≡◌, drop, length, replicate}
 use Rattle.std.proofs.Math.Option.{Option, none, some}
-use Rattle.fields.specs.Entries.{fieldsOfEntry}
+use Rattle.fields.specs.Entries.{fields_of_entry}
 use Rattle.fields.specs.declared.entries.Entry.{Entry}
 use Rattle.layout.specs.Refusal.{number_of, page_of}
 use Rattle.model.specs.Check.{Result, and_then, fault, ok}
@@ -15,8 +15,8 @@ use Rattle.lookup.specs.declared.stepping.Stepped.TheVariants as stepped
 use Rattle.lookup.specs.declared.stepping.SteppedEntry.{SteppedEntry}
 use Rattle.lookup.specs.declared.finding.Outcome.TheVariants as outcome
 
-abbrev pub blankEntry : Entry
-blankEntry =
+abbrev pub blank_entry : Entry
+blank_entry =
     record {
       mode = 0;
       length = 0;
@@ -30,52 +30,52 @@ blankEntry =
 
 -- ---- find
 
-abbrev pub toldOutcome : Outcome → Result (Unit {0})
-toldOutcome outcome.Found = ok tt
-toldOutcome (outcome.Refused f) = fault (number_of f) (page_of f)
+abbrev pub told_outcome : Outcome → Result (Unit {0})
+told_outcome outcome.Found = ok tt
+told_outcome (outcome.Refused f) = fault (number_of f) (page_of f)
 
-abbrev pub entryOr : Result model.Entry → Entry
-entryOr (fault n p) = blankEntry
-entryOr (ok e) = fieldsOfEntry e
+abbrev pub entry_or : Result model.Entry → Entry
+entry_or (fault n p) = blank_entry
+entry_or (ok e) = fields_of_entry e
 
 pub record TellsEntry (found : Result model.Entry) (answer : FoundEntry) : Type 0 where
-  pub refusal : toldOutcome answer.outcome ≡ and_then found (λ e. ok tt)
-  pub entry : answer.entry ≡ entryOr found
+  pub refusal : told_outcome answer.outcome ≡ and_then found (λ e. ok tt)
+  pub entry : answer.entry ≡ entry_or found
 
 -- ---- a directory step
 
-abbrev pub toldStep : Stepped → Result (Option ℕ)
-toldStep (stepped.Slot k) = ok (some k)
-toldStep stepped.End = ok none
-toldStep (stepped.Refused f) = fault (number_of f) (page_of f)
+abbrev pub told_step : Stepped → Result (Option ℕ)
+told_step (stepped.Slot k) = ok (some k)
+told_step stepped.End = ok none
+told_step (stepped.Refused f) = fault (number_of f) (page_of f)
 
-abbrev pub slotIn : Option (ℕ × model.Entry) → Option ℕ
-slotIn none = none
-slotIn (some x) = some x.0
+abbrev pub slot_in : Option (ℕ × model.Entry) → Option ℕ
+slot_in none = none
+slot_in (some x) = some x.0
 
-abbrev pub entryIn : Option (ℕ × model.Entry) → Entry
-entryIn none = blankEntry
-entryIn (some x) = fieldsOfEntry x.1
+abbrev pub entry_in : Option (ℕ × model.Entry) → Entry
+entry_in none = blank_entry
+entry_in (some x) = fields_of_entry x.1
 
-abbrev pub steppedEntry : Result (Option (ℕ × model.Entry)) → Entry
-steppedEntry (fault n p) = blankEntry
-steppedEntry (ok o) = entryIn o
+abbrev pub stepped_entry : Result (Option (ℕ × model.Entry)) → Entry
+stepped_entry (fault n p) = blank_entry
+stepped_entry (ok o) = entry_in o
 
 pub record TellsStep (step : Result (Option (ℕ × model.Entry))) (answer : SteppedEntry) : Type 0 where
-  pub slot : toldStep answer.place ≡ and_then step (λ o. ok (slotIn o))
-  pub entry : answer.entry ≡ steppedEntry step
+  pub slot : told_step answer.place ≡ and_then step (λ o. ok (slot_in o))
+  pub entry : answer.entry ≡ stepped_entry step
 
 -- ---- a read
 
-abbrev pub toldRead : ReadOutcome → Result ℕ
-toldRead (reading.Bytes n) = ok n
-toldRead (reading.Refused f) = fault (number_of f) (page_of f)
+abbrev pub told_read : ReadOutcome → Result ℕ
+told_read (reading.Bytes n) = ok n
+told_read (reading.Refused f) = fault (number_of f) (page_of f)
 
 -- the rest of the buffer stays; on a refusal all of it
-abbrev pub bufferAfter : Result (List ℕ) → List ℕ → List ℕ
-bufferAfter (fault n p) before = before
-bufferAfter (ok bytes) before = bytes ++ drop (length bytes) before
+abbrev pub buffer_after : Result (List ℕ) → List ℕ → List ℕ
+buffer_after (fault n p) before = before
+buffer_after (ok bytes) before = bytes ++ drop (length bytes) before
 
 pub record TellsRead (bytes : Result (List ℕ)) (answer : ReadOutcome) (before after : List ℕ) : Type 0 where
-  pub count : toldRead answer ≡ and_then bytes (λ b. ok (length b))
-  pub buffer : after ≡ bufferAfter bytes before
+  pub count : told_read answer ≡ and_then bytes (λ b. ok (length b))
+  pub buffer : after ≡ buffer_after bytes before

@@ -3,15 +3,15 @@ use Rattle.std.specs.Prelude.{ℕ, suc, zero, ◌+◌, ◌-◌, ◌/◌, ◌<◌
 use Rattle.std.proofs.Math.Option.{Option, none, some}
 use Rattle.fields.specs.PathBytes.{name_at}
 use Rattle.layout.specs.Table.{data_of}
-use Rattle.model.specs.Bytes.{word, wordLimit}
-use Rattle.model.specs.Entry.{Entry, directoryClusters, entryOf, fileClusters, isDirectory}
+use Rattle.model.specs.Bytes.{word, word_limit}
+use Rattle.model.specs.Entry.{Entry, directory_clusters, entry_of, file_clusters, is_directory}
 use Rattle.model.specs.Holds.{Chain, HoldsSlots}
 use Rattle.model.specs.Names.{Name, Path}
-use Rattle.model.specs.Tree.{Slot, Tree, entryPages}
-use Rattle.model.specs.View.{View, pagesOf}
-use Rattle.reached.specs.Table.{firstLinkOf}
+use Rattle.model.specs.Tree.{Slot, Tree, entry_pages}
+use Rattle.model.specs.View.{View, pages_of}
+use Rattle.reached.specs.Table.{first_link_of}
 use Rattle.tree.specs.Scan.{bearing, scan, unread}
-use Rattle.tree.specs.Slots.{next_of, slotPages}
+use Rattle.tree.specs.Slots.{next_of, slot_pages}
 use Rattle.lookup.specs.declared.way.Arrived.{Arrived}
 use Rattle.lookup.specs.declared.way.Arrival.{Arrival}
 use Rattle.lookup.specs.declared.way.Arrival.TheVariants as arrival
@@ -21,22 +21,22 @@ use Rattle.tree.specs.declared.along.Place.TheVariants as place
 -- ---- the pages of a file
 
 -- the data of pages, one after the other
-unfoldable pub dataAlong : View → List ℕ → List ℕ
-dataAlong v [] = []
-dataAlong v (p ∷ ps) = data_of (v.page p) ++ dataAlong v ps
+unfoldable pub data_along : View → List ℕ → List ℕ
+data_along v [] = []
+data_along v (p ∷ ps) = data_of (v.page p) ++ data_along v ps
 
 -- how many pages hold `count` bytes that begin at byte `skip` of the first
-abbrev pub pagesFor : ℕ → ℕ → ℕ
-pagesFor skip count = (skip + count + 511) / 512
+abbrev pub pages_for : ℕ → ℕ → ℕ
+pages_for skip count = (skip + count + 511) / 512
 
 -- the pages of `count` bytes of a file from byte `skip` of its page `low` on, which lies in cluster `start`
-abbrev pub pagesFrom : List ℕ → ℕ → ℕ → ℕ → ℕ → List ℕ
-pagesFrom table start low skip count = slotPages table start low (pagesFor skip count)
+abbrev pub pages_from : List ℕ → ℕ → ℕ → ℕ → ℕ → List ℕ
+pages_from table start low skip count = slot_pages table start low (pages_for skip count)
 
 -- what a copy of them knows: they are readable, words can count them, the buffer has room, and there is a byte to copy
 abbrev pub CanCopy : View → List ℕ → ℕ → ℕ → ℕ → ℕ → ℕ → Type 0
 CanCopy v table start low skip count room =
-    (skip < 512) × (count ≤ room) × (low + pagesFor skip count < wordLimit) × (scan (unread v) (pagesFrom table start low skip count) low ≡ place.Nowhere)
+    (skip < 512) × (count ≤ room) × (low + pages_for skip count < word_limit) × (scan (unread v) (pages_from table start low skip count) low ≡ place.Nowhere)
     × (0 < count)
 
 -- a piece of a page from byte `skip` on: all that is left, or all that the page has
@@ -52,10 +52,10 @@ pub record Piece (skip left n : ℕ) : Type 0 where
 abbrev pub Stands : View → ℕ → Entry → Slot → Tree → Type 0
 Stands v first e Slot.dead s = ⊥
 Stands v first e (Slot.file d chain pages) s =
-    (d ≡ e) × (isDirectory e ≡ false) × (length chain ≡ fileClusters e) × Chain v (firstLinkOf first) chain × (pages ≡ map v.page (pagesOf chain))
+    (d ≡ e) × (is_directory e ≡ false) × (length chain ≡ file_clusters e) × Chain v (first_link_of first) chain × (pages ≡ map v.page (pages_of chain))
 Stands v first e (Slot.directory d chain) s =
-    (d ≡ e) × (isDirectory e ≡ true) × (2 ≤ e.length) × (length chain ≡ directoryClusters e) × Chain v (firstLinkOf first) chain
-    × ((below : ℕ) × HoldsSlots v below (entryPages (Slot.directory d chain)) s)
+    (d ≡ e) × (is_directory e ≡ true) × (2 ≤ e.length) × (length chain ≡ directory_clusters e) × Chain v (first_link_of first) chain
+    × ((below : ℕ) × HoldsSlots v below (entry_pages (Slot.directory d chain)) s)
 
 -- a way that leads nowhere: no page
 abbrev pub nowhere : Arrival → Arrived
@@ -66,19 +66,19 @@ abbrev pub landed : ℕ → Option (List ℕ) → Arrived
 landed p none = nowhere arrival.Absent
 landed p (some page) = record { arrival = arrival.At (word page 0x10); at = p; page = page }
 
-abbrev pub landedAt : View → Place → Arrived
-landedAt v place.Nowhere = nowhere arrival.Absent
-landedAt v (place.At k p) = landed p (v.page p)
+abbrev pub landed_at : View → Place → Arrived
+landed_at v place.Nowhere = nowhere arrival.Absent
+landed_at v (place.At k p) = landed p (v.page p)
 
-abbrev pub pickArrived : Bool → Arrived → Arrived → Arrived
-pickArrived true a b = a
-pickArrived false a b = b
+abbrev pub pick_arrived : Bool → Arrived → Arrived → Arrived
+pick_arrived true a b = a
+pick_arrived false a b = b
 
 -- one name further: from the entry in a page, whose chain begins with cluster `first`, to the entry with this name in it
 unfoldable pub entered : View → List ℕ → ℕ → List ℕ → Name → Arrived
 entered v table first page n =
-    pickArrived (isDirectory (entryOf page))
-    (landedAt v (scan (bearing v n) (slotPages table (next_of table first) 0 ((entryOf page).length - 2)) 0))
+    pick_arrived (is_directory (entry_of page))
+    (landed_at v (scan (bearing v n) (slot_pages table (next_of table first) 0 ((entry_of page).length - 2)) 0))
     (nowhere arrival.WrongKind)
 
 -- an arrival that is no entry ends the way
@@ -92,14 +92,14 @@ onward v table here [] = here
 onward v table here (n ∷ names) = further here.arrival here (λ first. onward v table (entered v table first here.page n) names)
 
 -- The root's own first entry is in page 0, its chain begins with cluster 0.
-abbrev pub atRoot : Option (List ℕ) → Arrived
-atRoot none = nowhere arrival.Absent
-atRoot (some page) = record { arrival = arrival.At 0; at = 0; page = page }
+abbrev pub at_root : Option (List ℕ) → Arrived
+at_root none = nowhere arrival.Absent
+at_root (some page) = record { arrival = arrival.At 0; at = 0; page = page }
 
 unfoldable pub descended : View → List ℕ → Path → Arrived
-descended v table names = onward v table (atRoot (v.page 0)) names
+descended v table names = onward v table (at_root (v.page 0)) names
 
 -- `count` names of a path's bytes, from place i on
-abbrev pub namesFrom : List ℕ → ℕ → ℕ → Path
-namesFrom bytes i zero = []
-namesFrom bytes i (suc count) = name_at bytes i ∷ namesFrom bytes (suc i) count
+abbrev pub names_from : List ℕ → ℕ → ℕ → Path
+names_from bytes i zero = []
+names_from bytes i (suc count) = name_at bytes i ∷ names_from bytes (suc i) count

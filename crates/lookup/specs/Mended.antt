@@ -2,13 +2,13 @@
 use Rattle.std.specs.Prelude.{ℕ, ◌+◌, ◌<◌, ◌^◌, List, [], map, ◌≡◌}
 use Rattle.page.specs.declared.Format.{Format}
 use Rattle.page.specs.Mended.{wrapped}
-use Rattle.layout.specs.Mended.{mendedOf, mendedOver}
-use Rattle.layout.specs.See.{imagePage}
+use Rattle.layout.specs.Mended.{mended_of, mended_over}
+use Rattle.layout.specs.See.{image_page}
 use Rattle.model.specs.Check.{Result, fault, ok}
 use Rattle.model.specs.Tree.{Slot, Tree}
-use Rattle.model.specs.View.{pagesOf}
-use Rattle.lookup.specs.Paths.{atPath, onCard}
-use Rattle.lookup.specs.Read.{bytesToCopy, pagesWith}
+use Rattle.model.specs.View.{pages_of}
+use Rattle.lookup.specs.Paths.{at_path, on_card}
+use Rattle.lookup.specs.Read.{bytes_to_copy, pages_with}
 use Rattle.lookup.specs.declared.reading.ReadOutcome.{ReadOutcome}
 use Rattle.lookup.specs.declared.reading.ReadOutcome.TheVariants as reading
 
@@ -20,24 +20,24 @@ module _ {A : Type 0} where
 
 -- ---- a read adds the data pages that it copies from: those with a byte to copy
 
-abbrev pub readPages : ℕ → ℕ → Slot → Tree → List ℕ
-readPages offset count Slot.dead inside = []
-readPages offset count (Slot.file e chain pages) inside = pagesWith offset (bytesToCopy e.length offset count) (pagesOf chain)
-readPages offset count (Slot.directory e chain) inside = []
+abbrev pub read_pages : ℕ → ℕ → Slot → Tree → List ℕ
+read_pages offset count Slot.dead inside = []
+read_pages offset count (Slot.file e chain pages) inside = pages_with offset (bytes_to_copy e.length offset count) (pages_of chain)
+read_pages offset count (Slot.directory e chain) inside = []
 
 -- the corrected chunks of the image's pages that these are
-abbrev pub readDataOf : Format → List ℕ → List ℕ → ℕ → ℕ → Result ℕ
-readDataOf format image bytes offset count =
-    onCard format image bytes (λ s root path. atPath root path (λ h inside.
-    ok (mendedOver s.geometry.format image (map (imagePage s.geometry) (readPages offset count h inside)))))
+abbrev pub read_data_of : Format → List ℕ → List ℕ → ℕ → ℕ → Result ℕ
+read_data_of format image bytes offset count =
+    on_card format image bytes (λ s root path. at_path root path (λ h inside.
+    ok (mended_over s.geometry.format image (map (image_page s.geometry) (read_pages offset count h inside)))))
 
-abbrev pub orNone : Result ℕ → ℕ
-orNone (fault n p) = 0
-orNone (ok chunks) = chunks
+abbrev pub or_none : Result ℕ → ℕ
+or_none (fault n p) = 0
+or_none (ok chunks) = chunks
 
 -- of the pages that the check needs, and of these
-unfoldable pub readMended : Format → List ℕ → List ℕ → ℕ → ℕ → ℕ
-readMended format image bytes offset count = mendedOf format image + orNone (readDataOf format image bytes offset count)
+unfoldable pub read_mended : Format → List ℕ → List ℕ → ℕ → ℕ → ℕ
+read_mended format image bytes offset count = mended_of format image + or_none (read_data_of format image bytes offset count)
 
 -- ---- as the code counts
 

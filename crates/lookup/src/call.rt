@@ -1,9 +1,9 @@
 // The way of a call: the check, the path, then along its names to the entry there.
 ghost use Rattle.std.specs.Prelude.{◌≡◌, ◌<◌, ◌≤◌, ◌^◌, length, take};
-ghost use Rattle.layout.specs.Mended.{mendedOf};
-ghost use Rattle.layout.specs.See.{viewBy};
-ghost use Rattle.layout.specs.Table.{openCard, tableAfter};
-ghost use Rattle.lookup.specs.Called.{Fits, TellsStood, TellsWay, refusedAs};
+ghost use Rattle.layout.specs.Mended.{mended_of};
+ghost use Rattle.layout.specs.See.{view_by};
+ghost use Rattle.layout.specs.Table.{open_card, table_after};
+ghost use Rattle.lookup.specs.Called.{Fits, TellsStood, TellsWay, refused_as};
 
 use crate::way::{Arrival, descend};
 use fields::paths::{Parsed, parse_path};
@@ -32,7 +32,7 @@ pub(crate) struct Stood {
 }
 
 fn refused(refusal: Refusal) -> Stood
-    ensures { result ≡ refusedAs refusal }
+    ensures { result ≡ refused_as refusal }
 {
     let page = [0u8; 512];
     Stood {
@@ -43,7 +43,7 @@ fn refused(refusal: Refusal) -> Stood
 
 // The way on a card that the check accepts, by its table.
 fn stand_card(image: &[u8], table: &[u32], card: Superblock, path: &[u8]) -> Stood
-    ensures { TellsWay (viewBy card.geometry table.now image.now) card path.now result }
+    ensures { TellsWay (view_by card.geometry table.now image.now) card path.now result }
 {
     let parsed = parse_path(path);
     match parsed {
@@ -75,7 +75,7 @@ fn stand_card(image: &[u8], table: &[u32], card: Superblock, path: &[u8]) -> Sto
 // The same by the first words of a table.
 fn stand_words(image: &[u8], table: &[u32], card: Superblock, path: &[u8]) -> Stood
     requires { card.end ≤ length table.now }
-    ensures { TellsWay (viewBy card.geometry (take card.end table.now) image.now) card path.now result }
+    ensures { TellsWay (view_by card.geometry (take card.end table.now) image.now) card path.now result }
 {
     let end = card.end as usize;
     stand_card(image, &table[..end], card, path)
@@ -91,9 +91,9 @@ pub(crate) fn stand(
     mended: &mut usize,
 ) -> Stood
     ensures told { TellsStood format room.new image.now path.now result }
-    ensures working_room { room.new ≡ tableAfter image.now (openCard format image.now) room.old }
+    ensures working_room { room.new ≡ table_after image.now (open_card format image.now) room.old }
     ensures fits { Fits result.standing }
-    ensures counted { (mended.new ≡ mendedOf format image.now) × (mended.new < 2 ^ 32) }
+    ensures counted { (mended.new ≡ mended_of format image.now) × (mended.new < 2 ^ 32) }
 {
     let opened = open_checked(format, image, room);
     *mended = opened.mended;

@@ -1,8 +1,8 @@
 // The entry at a path.
 ghost use Rattle.std.specs.Prelude.{◌≡◌};
-ghost use Rattle.lookup.specs.Answers.{TellsEntry, blankEntry};
-ghost use Rattle.layout.specs.Mended.{mendedOf};
-ghost use Rattle.lookup.specs.Find.{findOf};
+ghost use Rattle.lookup.specs.Answers.{TellsEntry, blank_entry};
+ghost use Rattle.layout.specs.Mended.{mended_of};
+ghost use Rattle.lookup.specs.Find.{find_of};
 ghost use Rattle.lookup.specs.Mended.{reported};
 
 use crate::call::{Standing, stand};
@@ -27,7 +27,7 @@ pub struct FoundEntry {
 
 // The entry of a refusal.
 pub(crate) fn no_entry() -> Entry
-    ensures { result ≡ blankEntry }
+    ensures { result ≡ blank_entry }
 {
     let created = [0u8; 8];
     let modified = [0u8; 8];
@@ -47,8 +47,8 @@ pub(crate) fn no_entry() -> Entry
 // The entry at a path, for `/` the root's first one: the check first, then 8, 9 and 10. The lent count becomes that of the
 // corrected chunks; a refusal leaves it.
 pub fn find(format: Format, image: &[u8], path: &[u8], mended: &mut usize) -> FoundEntry
-    ensures told { TellsEntry (findOf format image.now path.now) result }
-    ensures counted { mended.new ≡ reported (findOf format image.now path.now) (mendedOf format image.now) mended.old }
+    ensures told { TellsEntry (find_of format image.now path.now) result }
+    ensures counted { mended.new ≡ reported (find_of format image.now path.now) (mended_of format image.now) mended.old }
 {
     let mut room = [0u32; MOST_CLUSTERS];
     let mut total: usize = 0;

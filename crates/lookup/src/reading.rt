@@ -3,15 +3,15 @@ ghost use Rattle.std.specs.Prelude.{◌≡◌, ◌+◌, ◌-◌, ◌<◌, ◌≤
 ghost use Rattle.std.proofs.lemmas.List.Edits.{sets};
 ghost use Rattle.page.specs.Mended.{wrapped};
 ghost use Rattle.model.specs.Bytes.{slice};
-ghost use Rattle.model.specs.Needed.{totalOver};
-ghost use Rattle.tree.specs.Mended.{mendedPage};
+ghost use Rattle.model.specs.Needed.{total_over};
+ghost use Rattle.tree.specs.Mended.{mended_page};
 ghost use Rattle.tree.specs.declared.along.Place.TheVariants.{Nowhere};
-ghost use Rattle.layout.specs.See.{viewBy};
-ghost use Rattle.lookup.specs.Answers.{TellsRead, toldRead};
+ghost use Rattle.layout.specs.See.{view_by};
+ghost use Rattle.lookup.specs.Answers.{TellsRead, told_read};
 ghost use Rattle.lookup.specs.Called.{CountsAt, ReadsAt};
-ghost use Rattle.lookup.specs.Mended.{readMended, reported};
+ghost use Rattle.lookup.specs.Mended.{read_mended, reported};
 ghost use Rattle.lookup.specs.Read.{read_of};
-ghost use Rattle.lookup.specs.Descend.{CanCopy, Piece, dataAlong, pagesFrom};
+ghost use Rattle.lookup.specs.Descend.{CanCopy, Piece, data_along, pages_from};
 
 use crate::call::{Standing, stand};
 use fields::kinds::is_directory;
@@ -73,9 +73,9 @@ fn copy_pages(
     out: &mut [u8],
     mended: &mut usize,
 )
-    requires { CanCopy (viewBy geometry table.now image.now) table.now start low skip count (length out.old) }
-    ensures copied { out.new ≡ sets out.old 0 (slice (dataAlong (viewBy geometry table.now image.now) (pagesFrom table.now start low skip count)) skip count) }
-    ensures counted { wrapped mended.new ≡ wrapped (mended.old + totalOver (mendedPage geometry image.now) (pagesFrom table.now start low skip count)) }
+    requires { CanCopy (view_by geometry table.now image.now) table.now start low skip count (length out.old) }
+    ensures copied { out.new ≡ sets out.old 0 (slice (data_along (view_by geometry table.now image.now) (pages_from table.now start low skip count)) skip count) }
+    ensures counted { wrapped mended.new ≡ wrapped (mended.old + total_over (mended_page geometry image.now) (pages_from table.now start low skip count)) }
 {
     let mut c = start;
     let mut k = low;
@@ -122,8 +122,8 @@ fn read_in(
     out: &mut [u8],
     mended: &mut usize,
 ) -> ReadOutcome
-    ensures told { ReadsAt (viewBy geometry table.now image.now) geometry first page.now from result out.old out.new }
-    ensures counted { CountsAt (viewBy geometry table.now image.now) (mendedPage geometry image.now) first page.now from result (length out.old) mended.old mended.new }
+    ensures told { ReadsAt (view_by geometry table.now image.now) geometry first page.now from result out.old out.new }
+    ensures counted { CountsAt (view_by geometry table.now image.now) (mended_page geometry image.now) first page.now from result (length out.old) mended.old mended.new }
 {
     if is_directory(page) {
         return ReadOutcome::Refused(Refusal::WrongKind);
@@ -174,8 +174,8 @@ fn read_words(
     mended: &mut usize,
 ) -> ReadOutcome
     requires { end ≤ length table.now }
-    ensures told { ReadsAt (viewBy geometry (take end table.now) image.now) geometry first page.now from result out.old out.new }
-    ensures counted { CountsAt (viewBy geometry (take end table.now) image.now) (mendedPage geometry image.now) first page.now from result (length out.old) mended.old mended.new }
+    ensures told { ReadsAt (view_by geometry (take end table.now) image.now) geometry first page.now from result out.old out.new }
+    ensures counted { CountsAt (view_by geometry (take end table.now) image.now) (mended_page geometry image.now) first page.now from result (length out.old) mended.old mended.new }
 {
     read_in(
         image,
@@ -191,7 +191,7 @@ fn read_words(
 
 // The lent count becomes the total where the read is no refusal.
 fn report_read(outcome: ReadOutcome, total: usize, mended: &mut usize)
-    ensures { mended.new ≡ reported (toldRead outcome) total mended.old }
+    ensures { mended.new ≡ reported (told_read outcome) total mended.old }
 {
     match outcome {
         ReadOutcome::Bytes(_) => {
@@ -212,7 +212,7 @@ pub fn read(
     mended: &mut usize,
 ) -> ReadOutcome
     ensures told { TellsRead (read_of format image.now path.now from (length out.old)) result out.old out.new }
-    ensures counted { mended.new ≡ reported (read_of format image.now path.now from (length out.old)) (readMended format image.now path.now from (length out.old)) mended.old }
+    ensures counted { mended.new ≡ reported (read_of format image.now path.now from (length out.old)) (read_mended format image.now path.now from (length out.old)) mended.old }
 {
     let mut room = [0u32; MOST_CLUSTERS];
     let mut total: usize = 0;

@@ -1,8 +1,8 @@
 // The next live entry of a directory.
 ghost use Rattle.std.specs.Prelude.{◌≡◌, ◌+◌, ◌≤◌, length, take};
-ghost use Rattle.layout.specs.See.{viewBy};
-ghost use Rattle.lookup.specs.Answers.{TellsStep, toldStep};
-ghost use Rattle.layout.specs.Mended.{mendedOf};
+ghost use Rattle.layout.specs.See.{view_by};
+ghost use Rattle.lookup.specs.Answers.{TellsStep, told_step};
+ghost use Rattle.layout.specs.Mended.{mended_of};
 ghost use Rattle.lookup.specs.Mended.{reported};
 ghost use Rattle.lookup.specs.Step.{step_of};
 ghost use Rattle.lookup.specs.Called.{StepsAt};
@@ -42,7 +42,7 @@ fn step_in(
     page: &[u8; 512],
     slot: u32,
 ) -> SteppedEntry
-    ensures { StepsAt (viewBy geometry table.now image.now) first page.now slot result }
+    ensures { StepsAt (view_by geometry table.now image.now) first page.now slot result }
 {
     if !is_directory(page) {
         return SteppedEntry {
@@ -90,14 +90,14 @@ fn step_words(
     slot: u32,
 ) -> SteppedEntry
     requires { end ≤ length table.now }
-    ensures { StepsAt (viewBy geometry (take end table.now) image.now) first page.now slot result }
+    ensures { StepsAt (view_by geometry (take end table.now) image.now) first page.now slot result }
 {
     step_in(image, &table[..end], geometry, first, page, slot)
 }
 
 // The lent count becomes the total where the step is no refusal.
 fn report_step(place: Stepped, total: usize, mended: &mut usize)
-    ensures { mended.new ≡ reported (toldStep place) total mended.old }
+    ensures { mended.new ≡ reported (told_step place) total mended.old }
 {
     match place {
         Stepped::Slot(_) => {
@@ -120,7 +120,7 @@ pub fn step(
     mended: &mut usize,
 ) -> SteppedEntry
     ensures told { TellsStep (step_of format image.now path.now slot) result }
-    ensures counted { mended.new ≡ reported (step_of format image.now path.now slot) (mendedOf format image.now) mended.old }
+    ensures counted { mended.new ≡ reported (step_of format image.now path.now slot) (mended_of format image.now) mended.old }
 {
     let mut room = [0u32; MOST_CLUSTERS];
     let mut total: usize = 0;

@@ -1,7 +1,7 @@
 // From the root along the names of a path, from the left.
 ghost use Rattle.std.specs.Prelude.{◌≡◌};
-ghost use Rattle.layout.specs.See.{viewBy};
-ghost use Rattle.lookup.specs.Descend.{descended, entered, namesFrom};
+ghost use Rattle.layout.specs.See.{view_by};
+ghost use Rattle.lookup.specs.Descend.{descended, entered, names_from};
 
 use fields::kinds::is_directory;
 use fields::numbers::word_at;
@@ -36,7 +36,7 @@ pub fn enter(
     page: &[u8; 512],
     name: &[u8],
 ) -> Arrived
-    ensures { result ≡ entered (viewBy geometry table.now image.now) table.now first page.now name.now }
+    ensures { result ≡ entered (view_by geometry table.now image.now) table.now first page.now name.now }
 {
     let mut d = [0u8; 512];
     if !is_directory(page) {
@@ -86,7 +86,7 @@ pub fn descend(
     path: &[u8],
     count: usize,
 ) -> Arrived
-    ensures { result ≡ descended (viewBy geometry table.now image.now) table.now (namesFrom path.now 0 count) }
+    ensures { result ≡ descended (view_by geometry table.now image.now) table.now (names_from path.now 0 count) }
 {
     let mut page = [0u8; 512];
     if !read_slot(image, geometry, table.len(), 0, &mut page) {

@@ -9,7 +9,7 @@ use native.Mathlib.Decide.{dec_lt}
 use native.Mathlib.Omega.{arith}
 use lib.Dec.{eqb}
 use lib.ListN.{length}
-use Rattle.model.specs.Check.{Marks, SoundChain, followChain, mark, prepend}
+use Rattle.model.specs.Check.{Marks, SoundChain, follow_chain, mark, prepend}
 use Rattle.model.specs.Claims.{ChainsAreSound}
 use Rattle.model.specs.Holds.{Chain}
 use Rattle.model.specs.Tree.{hit, times}
@@ -36,7 +36,7 @@ links-used v l (x ∷ cs) c f h = omega (arith, links-used v (v.link x) cs c f h
 
 module _ (v : View) where
   -- what is followed is a chain of that length, and each of its clusters is reached for the first time
-  follow-new : (k : ℕ) (l : Link) (m : Marks) (cs : List ℕ) → followChain v k l m ≡ some cs
+  follow-new : (k : ℕ) (l : Link) (m : Marks) (cs : List ℕ) → follow_chain v k l m ≡ some cs
       → (length cs ≡ k) × Chain v l cs × ((c : ℕ) → 1 ≤ times cs c → m c + times cs c ≤ 1)
   follow-new zero Link.free m cs h = absurd (let z : ◌≡◌ {A = ℕ} 0 1 = cc in omega arith)
   follow-new zero Link.last m cs h = let e : [] ≡ cs = cc in rw (← e) (refl, refl, λ c o. absurd (omega arith))
@@ -55,14 +55,14 @@ module _ (v : View) where
           here : times ds c ≡ 0 → eqb a c ≡ true → m c + times (a ∷ ds) c ≤ 1
           here z e = let n : hit a c ≡ 1 = rw e in let q : m c ≡ 0 = rw (← Eq-number.sound a c e) new in omega arith
 
-  pub follow-of : (l : Link) (m : Marks) (cs : List ℕ) → Chain v l cs → ((c : ℕ) → 1 ≤ times cs c → m c + times cs c ≤ 1) → followChain v (length cs) l m ≡ some cs
+  pub follow-of : (l : Link) (m : Marks) (cs : List ℕ) → Chain v l cs → ((c : ℕ) → 1 ≤ times cs c → m c + times cs c ≤ 1) → follow_chain v (length cs) l m ≡ some cs
   follow-of l m [] h u = rw h
   follow-of l m (c ∷ cs) h u =
       let z : m c ≡ 0 = omega (arith, u c (omega (arith, hit-self c)), hit-self c) in
       rw (h.0, z, follow-of (v.link c) (mark c m) cs h.1 (λ d o. omega (arith, u d (omega arith))))
 
   -- behind clusters of which none was reached twice
-  pub follow-ok : (k : ℕ) (l : Link) (m : Marks) (cs : List ℕ) → ((c : ℕ) → m c ≤ 1) → followChain v k l m ≡ some cs
+  pub follow-ok : (k : ℕ) (l : Link) (m : Marks) (cs : List ℕ) → ((c : ℕ) → m c ≤ 1) → follow_chain v k l m ≡ some cs
       → (length cs ≡ k) × Chain v l cs × ((c : ℕ) → m c + times cs c ≤ 1)
   follow-ok k l m cs u h =
       let z = follow-new k l m cs h in (z.0, z.1, λ c. ⊎_elim (λ (o : times cs c ≡ 0). omega (arith, u c)) (λ o. z.2 c o) (zero? (times cs c)))
@@ -70,13 +70,13 @@ module _ (v : View) where
 pub chains-are-sound : ChainsAreSound
 chains-are-sound end v high reached start k cs = (sound, follows)
   where
-    sound : followChain v k start reached ≡ some cs → SoundChain end v reached start k cs
+    sound : follow_chain v k start reached ≡ some cs → SoundChain end v reached start k cs
     sound h =
         let z = follow-new v k start reached cs h in
         record {
           below = λ c o. low c (dec_lt c end) o z.1;
-          notFree = λ c o f. omega (arith, links-used v start cs c f z.1);
-          notReached = λ c o. let n = z.2 c o in (omega arith, omega arith);
+          not_free = λ c o f. omega (arith, links-used v start cs c f z.1);
+          not_reached = λ c o. let n = z.2 c o in (omega arith, omega arith);
           links = z.1;
           long = z.0;
         }
@@ -85,5 +85,5 @@ chains-are-sound end v high reached start k cs = (sound, follows)
         low c (yes b) o z = b
         low c (no b) o z = absurd (omega (arith, links-used v start cs c (high c (omega arith)) z))
 
-    follows : SoundChain end v reached start k cs → followChain v k start reached ≡ some cs
-    follows s = rw (← s.long) (follow-of v start reached cs s.links (λ c o. let n = s.notReached c o in omega arith))
+    follows : SoundChain end v reached start k cs → follow_chain v k start reached ≡ some cs
+    follows s = rw (← s.long) (follow-of v start reached cs s.links (λ c o. let n = s.not_reached c o in omega arith))

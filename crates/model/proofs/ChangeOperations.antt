@@ -6,59 +6,59 @@ use mathlib.Core.Logic.{◌↔◌, ◌⊎◌, inl, inr}
 use mathlib.Core.Option.{Option, none, some}
 use mathlib.Core.Path.{◌∙◌, ◌≡◌, ap, ap₂, refl, sym}
 use lib.Dec.{eqb}
-use Rattle.model.specs.Change.{Change, Crossed, Rules, create, creates, delete, makeDirectory, path, removeDirectory, removes, replace, size, standingAfter}
-use Rattle.model.specs.Names.{Path, beginning, parent, samePath}
-use Rattle.model.specs.Refusal.{first, lockRefusal, static}
+use Rattle.model.specs.Change.{Change, Crossed, Rules, create, creates, delete, make_directory, path, remove_directory, removes, replace, size, standing_after}
+use Rattle.model.specs.Names.{Path, beginning, parent, same_path}
+use Rattle.model.specs.Refusal.{first, lock_refusal, static}
 use Rattle.model.specs.Standing.{Standing}
 use Rattle.model.proofs.Equality.{Eq-name, Eq-path, beginning-parent, beginning-self, tf}
 use Rattle.model.proofs.Operations.{AbstractCard, Accepts, Agree, Apart, Creation, Local, NoClash, Operation, Room, effect, free-comm, look-comm, ok-comm}
 
 -- what stands on the way must be a directory
-abbrev pub standingOnWay : Option Standing → ℕ
-standingOnWay none = 9
-standingOnWay (some (Standing.file m c)) = 10
-standingOnWay (some (Standing.directory m)) = 0
+abbrev pub standing_on_way : Option Standing → ℕ
+standing_on_way none = 9
+standing_on_way (some (Standing.file m c)) = 10
+standing_on_way (some (Standing.directory m)) = 0
 
-abbrev pub standingWay : (Path → Option Standing) → Path → ℕ
-standingWay f [] = 0
-standingWay f (n ∷ []) = 0
-standingWay f (n ∷ m ∷ p) = first (standingOnWay (f (n ∷ []))) (standingWay (λ r. f (n ∷ r)) (m ∷ p))
+abbrev pub standing_way : (Path → Option Standing) → Path → ℕ
+standing_way f [] = 0
+standing_way f (n ∷ []) = 0
+standing_way f (n ∷ m ∷ p) = first (standing_on_way (f (n ∷ []))) (standing_way (λ r. f (n ∷ r)) (m ∷ p))
 
-abbrev pub standingFile : Option Standing → ℕ
-standingFile none = 9
-standingFile (some (Standing.file m c)) = 0
-standingFile (some (Standing.directory m)) = 10
+abbrev pub standing_file : Option Standing → ℕ
+standing_file none = 9
+standing_file (some (Standing.file m c)) = 0
+standing_file (some (Standing.directory m)) = 10
 
-abbrev pub standingEmpty : Room → Option Standing → ℕ
-standingEmpty r none = 9
-standingEmpty r (some (Standing.file m c)) = 10
-standingEmpty r (some (Standing.directory m)) = cond (eqb r.length (2 + r.dead)) 0 13
+abbrev pub standing_empty : Room → Option Standing → ℕ
+standing_empty r none = 9
+standing_empty r (some (Standing.file m c)) = 10
+standing_empty r (some (Standing.directory m)) = cond (eqb r.length (2 + r.dead)) 0 13
 
-abbrev pub standingLack : Option Standing → ℕ
-standingLack none = 0
-standingLack (some f) = 11
+abbrev pub standing_lack : Option Standing → ℕ
+standing_lack none = 0
+standing_lack (some f) = 11
 
 not-both : (c : Change) → creates c ≡ true → removes c ≡ false
 not-both (create p t b) e = refl
-not-both (makeDirectory p t) e = refl
+not-both (make_directory p t) e = refl
 not-both (replace p t b) e = refl
 not-both (delete p) e = tf e refl
-not-both (removeDirectory p) e = tf e refl
+not-both (remove_directory p) e = tf e refl
 
 module _ (y : Rules) where
-  abbrev pub standingOwn : Change → Option Standing → Room → ℕ
-  standingOwn (create p t b) f r = standingLack f
-  standingOwn (makeDirectory p t) f r = standingLack f
-  standingOwn (replace p t b) f r = standingFile f
-  standingOwn (delete p) f r = standingFile f
-  standingOwn (removeDirectory p) f r = standingEmpty r f
+  abbrev pub standing_own : Change → Option Standing → Room → ℕ
+  standing_own (create p t b) f r = standing_lack f
+  standing_own (make_directory p t) f r = standing_lack f
+  standing_own (replace p t b) f r = standing_file f
+  standing_own (delete p) f r = standing_file f
+  standing_own (remove_directory p) f r = standing_empty r f
 
   abbrev pub freed : Change → Option Standing → Room → ℕ
   freed (create p t b) f r = 0
-  freed (makeDirectory p t) f r = 0
+  freed (make_directory p t) f r = 0
   freed (replace p t b) f r = r.back
   freed (delete p) f r = r.back
-  freed (removeDirectory p) f r = r.back
+  freed (remove_directory p) f r = r.back
 
   abbrev pub adds : Change → ℕ
   adds c = cond (creates c) 1 0
@@ -66,36 +66,36 @@ module _ (y : Rules) where
   abbrev pub kills : Change → ℕ
   kills c = cond (removes c) 1 0
 
-  abbrev pub roomOf : Change → Room
-  roomOf (create p t b) = record { dead = 0; length = 0; back = size (create p t b) }
-  roomOf (makeDirectory p t) = record { dead = 0; length = 2; back = 1 }
-  roomOf (replace p t b) = record { dead = 0; length = 0; back = size (replace p t b) }
-  roomOf (delete p) = record { dead = 0; length = 0; back = 0 }
-  roomOf (removeDirectory p) = record { dead = 0; length = 0; back = 0 }
+  abbrev pub room_of : Change → Room
+  room_of (create p t b) = record { dead = 0; length = 0; back = size (create p t b) }
+  room_of (make_directory p t) = record { dead = 0; length = 2; back = 1 }
+  room_of (replace p t b) = record { dead = 0; length = 0; back = size (replace p t b) }
+  room_of (delete p) = record { dead = 0; length = 0; back = 0 }
+  room_of (remove_directory p) = record { dead = 0; length = 0; back = 0 }
 
   -- A change writes its own path, reads the beginnings of it, and works in its directory.
   abbrev pub op : Change → Operation
   op c =
       record {
-        writes = λ r. samePath r (path c);
+        writes = λ r. same_path r (path c);
         reads = λ r. beginning r (path c);
         directory = parent (path c);
         adds = adds c;
         kills = kills c;
         size = λ σ. size c;
-        test = λ σ. first (static c) (first (standingWay σ.look (path c)) (first (standingOwn c (σ.look (path c)) (σ.room (path c))) (lockRefusal (σ.look (path c)) (σ.look (parent (path c))))));
+        test = λ σ. first (static c) (first (standing_way σ.look (path c)) (first (standing_own c (σ.look (path c)) (σ.room (path c))) (lock_refusal (σ.look (path c)) (σ.look (parent (path c))))));
         freed = λ σ. freed c (σ.look (path c)) (σ.room (path c));
-        puts = λ σ r. standingAfter c (σ.look (path c));
-        rooms = λ σ r. roomOf c;
+        puts = λ σ r. standing_after c (σ.look (path c));
+        rooms = λ σ r. room_of c;
       }
 
-  way-local : (p : Path) (f g : Path → Option Standing) → ((r : Path) → beginning r p ≡ true → f r ≡ g r) → standingWay f p ≡ standingWay g p
+  way-local : (p : Path) (f g : Path → Option Standing) → ((r : Path) → beginning r p ≡ true → f r ≡ g r) → standing_way f p ≡ standing_way g p
   way-local [] f g h = refl
   way-local (n ∷ []) f g h = refl
   way-local (n ∷ m ∷ p) f g h =
-      let ih : standingWay (λ r. f (n ∷ r)) (m ∷ p) ≡ standingWay (λ r. g (n ∷ r)) (m ∷ p) = way-local (m ∷ p) (λ r. f (n ∷ r)) (λ r. g (n ∷ r)) (λ r k. h (n ∷ r) (rw (Eq-name.self n) k)) in
+      let ih : standing_way (λ r. f (n ∷ r)) (m ∷ p) ≡ standing_way (λ r. g (n ∷ r)) (m ∷ p) = way-local (m ∷ p) (λ r. f (n ∷ r)) (λ r. g (n ∷ r)) (λ r k. h (n ∷ r) (rw (Eq-name.self n) k)) in
       let e : f (n ∷ []) ≡ g (n ∷ []) = h (n ∷ []) (rw (Eq-name.self n)) in
-      ap₂ (λ x y. first (standingOnWay x) y) e ih
+      ap₂ (λ x y. first (standing_on_way x) y) e ih
 
   pub op-local : (c : Change) → Local (op c)
   op-local c =
@@ -144,10 +144,10 @@ module _ (y : Rules) where
 
   pub creation : (c : Change) → creates c ≡ true → Creation (op c)
   creation (create p t b) e = (refl, λ σ. refl)
-  creation (makeDirectory p t) e = (refl, λ σ. refl)
+  creation (make_directory p t) e = (refl, λ σ. refl)
   creation (replace p t b) e = tf e refl
   creation (delete p) e = tf e refl
-  creation (removeDirectory p) e = tf e refl
+  creation (remove_directory p) e = tf e refl
 
   -- Any machine that the operations describe.
   pub record Machine : Type 1 where

@@ -6,27 +6,27 @@ use mathlib.Core.Logic.{◌⊎◌, inl, inr}
 use mathlib.Core.Option.{some}
 use mathlib.Core.Path.{◌∙◌, ◌≡◌, ap, fun_ext, refl, sym}
 use native.Mathlib.Omega.{arith}
-use Rattle.model.specs.Change.{Change, Rules, create, delete, makeDirectory, path, removeDirectory, replace, standingAfter}
-use Rattle.model.specs.Claims.{Accepted, AcceptedExactly, ViewChangeKeeps, CheckIsHolding, ViewCommute, ViewCountsAddUp, ViewDemand3, ViewKept, ViewOrder, chainBack, chainIn}
-use Rattle.model.specs.Counts.{totalBelow}
-use Rattle.model.specs.Lookup.{Found, absent, found, lookUp, tell}
-use Rattle.model.specs.Names.{Path, beginning, parent, samePath}
-use Rattle.model.specs.Perform.{Answer, decide, done, perform, performOn, refused, write}
-use Rattle.model.specs.Plan.{after, freeOf, held_of, plan_of, returned, withheld}
-use Rattle.model.specs.Refusal.{lockRefusal, locked, needed, refusal, static}
-use Rattle.model.specs.Standing.{standingsOf, tree_of}
+use Rattle.model.specs.Change.{Change, Rules, create, delete, make_directory, path, remove_directory, replace, standing_after}
+use Rattle.model.specs.Claims.{Accepted, AcceptedExactly, ViewChangeKeeps, CheckIsHolding, ViewCommute, ViewCountsAddUp, ViewDemand3, ViewKept, ViewOrder, chain_back, chain_in}
+use Rattle.model.specs.Counts.{total_below}
+use Rattle.model.specs.Lookup.{Found, absent, found, look_up, tell}
+use Rattle.model.specs.Names.{Path, beginning, parent, same_path}
+use Rattle.model.specs.Perform.{Answer, decide, done, perform, perform_on, refused, write}
+use Rattle.model.specs.Plan.{after, free_of, held_of, plan_of, returned, withheld}
+use Rattle.model.specs.Refusal.{lock_refusal, locked, needed, refusal, static}
+use Rattle.model.specs.Standing.{standings_of, tree_of}
 use Rattle.model.specs.Tree.{Slot, reached}
 use Rattle.model.specs.View.{Link, View}
-use Rattle.model.proofs.AbstractCards.{abstractOf, noRoom, roomOfSlot}
+use Rattle.model.proofs.AbstractCards.{abstract_of, no_room, room_of_slot}
 use Rattle.model.proofs.Allocation.{four-counts}
 use Rattle.model.proofs.ChangeActs.{acts}
-use Rattle.model.proofs.ChangeOperations.{Both, demand-3, op, standingOwn, standingWay}
+use Rattle.model.proofs.ChangeOperations.{Both, demand-3, op, standing_own, standing_way}
 use Rattle.model.proofs.CheckHolds.{check-holds, holds-check}
 use Rattle.model.proofs.Directories.{first-0}
 use Rattle.model.proofs.Equality.{Eq-path, bool, tf}
 use Rattle.model.proofs.Operations.{AbstractCard, Accepts, effect, need}
 use Rattle.model.proofs.Outcome.{Outcome}
-use Rattle.model.proofs.PerformLaws.{Sound, abs_is, absR, abstract, machine, performs, ran, view_of}
+use Rattle.model.proofs.PerformLaws.{Sound, abs_is, abs_r, abstract, machine, performs, ran, view_of}
 use Rattle.model.proofs.PlanActs.{held-law, untaken-law}
 use Rattle.model.proofs.Refusals.{needed-is, refusal-accepts}
 
@@ -38,22 +38,22 @@ check-is-holding =
     }
 
 pub counts-add-up : ViewCountsAddUp
-counts-add-up mayTake allocEnd v r m e = four-counts mayTake v r (check-holds v r m e).0 allocEnd
+counts-add-up may_take alloc_end v r m e = four-counts may_take v r (check-holds v r m e).0 alloc_end
 
 module _ (y : Rules) (v : View) (a : Accepted y v) where
   abbrev pub sound-of : Sound y v
-  sound-of = (a.root, (check-holds v a.root a.marks a.checked).0, a.noWords)
+  sound-of = (a.root, (check-holds v a.root a.marks a.checked).0, a.no_words)
 
   pub tree_is : (q : Path) → tree_of v q ≡ (abstract y v).look q
   unfolding tree_of abstract
-  tree_is q = ap (λ x. standingsOf x q) a.checked ∙ ap (λ x. (absR y v x).look q) (sym a.checked)
+  tree_is q = ap (λ x. standings_of x q) a.checked ∙ ap (λ x. (abs_r y v x).look q) (sym a.checked)
 
-  pub free-is : (abstract y v).free ≡ freeOf y v
+  pub free-is : (abstract y v).free ≡ free_of y v
   unfolding abstract
-  free-is = ap (λ x. (absR y v x).free) a.checked
+  free-is = ap (λ x. (abs_r y v x).free) a.checked
 
 accepted-of : (y : Rules) (v : View) → Sound y v → Accepted y v
-accepted-of y v s = record { root = s.0; marks = reached s.0; checked = holds-check v s.0 s.1; noWords = s.2 }
+accepted-of y v s = record { root = s.0; marks = reached s.0; checked = holds-check v s.0 s.1; no_words = s.2 }
 
 view-done : (x : Answer) (w : View) → x ≡ done w → view_of x ≡ some w
 view-done x w e = ap view_of e
@@ -71,51 +71,51 @@ module _ (y : Rules) (v : View) (a : Accepted y v) (c : Change) (w : View) (e : 
   again : Accepted y w
   again = accepted-of y w ran-so.0
 
-  passed : Accepts (op y c) (abstractOf y v a.root)
+  passed : Accepts (op y c) (abstract_of y v a.root)
   passed = rw (abs_is y v (sound-of y v a)) at ran-so.1
 
   need-is : need (op y c) (abstract y v) ≡ needed c a.root
   need-is = ap (need (op y c)) (abs_is y v (sound-of y v a)) ∙ sym (needed-is y v a.root (sound-of y v a).1 c passed.0)
 
-  paths : (q : Path) → tree_of w q ≡ cond (samePath q (path c)) (standingAfter c (tree_of v q)) (tree_of v q)
+  paths : (q : Path) → tree_of w q ≡ cond (same_path q (path c)) (standing_after c (tree_of v q)) (tree_of v q)
   unfolding effect
   paths q =
       tree_is y w again q ∙ ap (λ (s : AbstractCard). s.look q) ran-so.2
-      ∙ own-path (bool (samePath q (path c)))
-      ∙ ap (λ o. cond (samePath q (path c)) (standingAfter c o) o) (sym (tree_is y v a q))
+      ∙ own-path (bool (same_path q (path c)))
+      ∙ ap (λ o. cond (same_path q (path c)) (standing_after c o) o) (sym (tree_is y v a q))
     where
-      own-path : (samePath q (path c) ≡ true) ⊎ (samePath q (path c) ≡ false)
-          → cond (samePath q (path c)) (standingAfter c ((abstract y v).look (path c))) ((abstract y v).look q)
-          ≡ cond (samePath q (path c)) (standingAfter c ((abstract y v).look q)) ((abstract y v).look q)
-      own-path (inl i) = rw i (ap (λ z. standingAfter c ((abstract y v).look z)) (sym (Eq-path.sound q (path c) i)))
+      own-path : (same_path q (path c) ≡ true) ⊎ (same_path q (path c) ≡ false)
+          → cond (same_path q (path c)) (standing_after c ((abstract y v).look (path c))) ((abstract y v).look q)
+          ≡ cond (same_path q (path c)) (standing_after c ((abstract y v).look q)) ((abstract y v).look q)
+      own-path (inl i) = rw i (ap (λ z. standing_after c ((abstract y v).look z)) (sym (Eq-path.sound q (path c) i)))
       own-path (inr i) = rw i
 
   nothing-back : returned y [] ≡ 0
-  nothing-back = go y.allocEnd
+  nothing-back = go y.alloc_end
     where
       none_of : (b : Bool) → ◌≡◌ {A = ℕ} (cond b 0 0) 0
       none_of true = refl
       none_of false = refl
 
-      go : (k : ℕ) → totalBelow (λ d. cond (y.mayTake d) 0 0) k ≡ 0
+      go : (k : ℕ) → total_below (λ d. cond (y.may_take d) 0 0) k ≡ 0
       go zero = refl
-      go (suc k) = omega (arith, go k, none_of (y.mayTake k))
+      go (suc k) = omega (arith, go k, none_of (y.may_take k))
 
-  back_is : (op y c).freed (abstract y v) ≡ returned y (chainBack c a.root)
+  back_is : (op y c).freed (abstract y v) ≡ returned y (chain_back c a.root)
   back_is = ap (op y c).freed (abs_is y v (sound-of y v a)) ∙ go c
     where
-      at : (g : Found) → (tell (roomOfSlot y) noRoom g).back ≡ returned y (tell chainIn [] g)
+      at : (g : Found) → (tell (room_of_slot y) no_room g).back ≡ returned y (tell chain_in [] g)
       at absent = sym nothing-back
       at (found Slot.dead s) = sym nothing-back
       at (found (Slot.file e cs ds) s) = refl
       at (found (Slot.directory e cs) s) = refl
 
-      go : (c : Change) → (op y c).freed (abstractOf y v a.root) ≡ returned y (chainBack c a.root)
+      go : (c : Change) → (op y c).freed (abstract_of y v a.root) ≡ returned y (chain_back c a.root)
       go (create p t b) = sym nothing-back
-      go (makeDirectory p t) = sym nothing-back
-      go (replace p t b) = at (lookUp a.root p)
-      go (delete p) = at (lookUp a.root p)
-      go (removeDirectory p) = at (lookUp a.root p)
+      go (make_directory p t) = sym nothing-back
+      go (replace p t b) = at (look_up a.root p)
+      go (delete p) = at (look_up a.root p)
+      go (remove_directory p) = at (look_up a.root p)
 
   -- the change's plan, and the view that it leaves
   outcome : Outcome y v a.root c
@@ -125,22 +125,22 @@ module _ (y : Rules) (v : View) (a : Accepted y v) (c : Change) (w : View) (e : 
   unfolding outcome
   left = let z : done (after v outcome.plan) ≡ done w = sym (performs y c v (sound-of y v a) passed) ∙ e in cc
 
-  held : held_of y w ≡ held_of y v + withheld y (chainBack c a.root)
+  held : held_of y w ≡ held_of y v + withheld y (chain_back c a.root)
   held =
       ap (held_of y) (sym left) ∙ held-law y v a.root outcome.plan (sound-of y v a).1 outcome.deed.fit outcome.pool
       ∙ ap (λ cs. held_of y v + withheld y cs) outcome.back
 
-  untaken : (d : ℕ) → y.mayTake d ≡ false → v.link d ≡ Link.free → w.link d ≡ Link.free
+  untaken : (d : ℕ) → y.may_take d ≡ false → v.link d ≡ Link.free → w.link d ≡ Link.free
   untaken d n f =
       ap (λ (u : View). u.link d) (sym left) ∙ untaken-law y v a.root outcome.plan (sound-of y v a).1 outcome.deed.fit outcome.pool d n f
 
   -- where the change was accepted, neither its path nor its directory is locked
   unlocked : (locked (tree_of v (path c)) || locked (tree_of v (parent (path c)))) ≡ false
-  unfolding lockRefusal
+  unfolding lock_refusal
   unlocked =
       let passed-static = first-0 (static c) _ ran-so.1.0 in
-      let passed-way = first-0 (standingWay (abstract y v).look (path c)) _ passed-static.1 in
-      let passed-own = first-0 (standingOwn y c ((abstract y v).look (path c)) ((abstract y v).room (path c))) _ passed-way.1 in
+      let passed-way = first-0 (standing_way (abstract y v).look (path c)) _ passed-static.1 in
+      let passed-own = first-0 (standing_own y c ((abstract y v).look (path c)) ((abstract y v).room (path c))) _ passed-way.1 in
       rw (tree_is y v a (path c), tree_is y v a (parent (path c))) (none_of _ passed-own.1)
     where
       none_of : (b : Bool) → ◌≡◌ {A = ℕ} (cond b 16 0) 0 → b ≡ false
@@ -148,9 +148,9 @@ module _ (y : Rules) (v : View) (a : Accepted y v) (c : Change) (w : View) (e : 
       none_of false e = refl
 
   locks : (q : Path) → (locked (tree_of v q) || locked (tree_of v (parent q))) ≡ true → tree_of w q ≡ tree_of v q
-  locks q l = paths q ∙ go (bool (samePath q (path c)))
+  locks q l = paths q ∙ go (bool (same_path q (path c)))
     where
-      go : (samePath q (path c) ≡ true) ⊎ (samePath q (path c) ≡ false) → cond (samePath q (path c)) (standingAfter c (tree_of v q)) (tree_of v q) ≡ tree_of v q
+      go : (same_path q (path c) ≡ true) ⊎ (same_path q (path c) ≡ false) → cond (same_path q (path c)) (standing_after c (tree_of v q)) (tree_of v q) ≡ tree_of v q
       go (inl i) = tf l (ap (λ p. locked (tree_of v p) || locked (tree_of v (parent p))) (Eq-path.sound q (path c) i) ∙ unlocked)
       go (inr i) = rw i
 
@@ -180,16 +180,16 @@ accepted-exactly y v a c = (
 )
   where
     refuses : (n : ℕ) → refusal y c v a.root ≡ suc n → perform y c v ≡ refused (suc n) 0
-    refuses n z = ap (performOn y c v) a.checked ∙ ap (λ m. decide m (write v (plan_of y c v a.root))) z
+    refuses n z = ap (perform_on y c v) a.checked ∙ ap (λ m. decide m (write v (plan_of y c v a.root))) z
 
 -- ---- demand 3
 
 module _ (y : Rules) (v : View) where
   abbrev to_both : (a b : Change) → ViewOrder y v a b → Both y (machine y) v a b
-  to_both a b o = (o.between, o.final, view-done (perform y a v) o.between o.firstDone, view-done (perform y b o.between) o.final o.thenDone)
+  to_both a b o = (o.between, o.final, view-done (perform y a v) o.between o.first_done, view-done (perform y b o.between) o.final o.then_done)
 
   abbrev of-both : (a b : Change) → Both y (machine y) v a b → ViewOrder y v a b
-  of-both a b o = record { between = o.0; final = o.1; firstDone = done-view (perform y a v) o.0 o.2; thenDone = done-view (perform y b o.0) o.1 o.3 }
+  of-both a b o = record { between = o.0; final = o.1; first_done = done-view (perform y a v) o.0 o.2; then_done = done-view (perform y b o.0) o.1 o.3 }
 
   module _ (s : Sound y v) (a b : Change) (h : beginning (path a) (path b) ≡ false) (k : beginning (path b) (path a) ≡ false) where
     end-sound : (x z : Change) (o : ViewOrder y v x z) → Accepted y o.final

@@ -7,9 +7,9 @@ use mathlib.Core.Option.{none}
 use mathlib.Core.Path.{◌∙◌, ◌≡◌, ap, ap₂, fun_ext, refl, sym}
 use native.Mathlib.Nat.{suc-add, zero-add}
 use native.Mathlib.Omega.{arith}
-use Rattle.model.specs.Names.{Path, samePath}
-use Rattle.model.specs.Pages.{dataPages}
-use Rattle.model.specs.Plan.{freeBelow, growthClusters}
+use Rattle.model.specs.Names.{Path, same_path}
+use Rattle.model.specs.Pages.{data_pages}
+use Rattle.model.specs.Plan.{free_below, growth_clusters}
 use Rattle.model.specs.Refusal.{first}
 use Rattle.model.specs.Standing.{directory}
 use Rattle.model.proofs.Equality.{Eq-path, bool, tf}
@@ -71,7 +71,7 @@ module _ (W R : Path → Bool) (directory : Path) where
         rooms = λ σ r. cond (W r) ((runs ops σ).room r) (record { dead = 0; length = 0; back = 0 });
       }
 
-  module _ (WR : (r : Path) → W r ≡ true → R r ≡ true) (dR : R directory ≡ true) (dW : W directory ≡ false) where
+  module _ (WR : (r : Path) → W r ≡ true → R r ≡ true) (d_r : R directory ≡ true) (d_w : W directory ≡ false) where
     narrow : (o : Operation) (σ τ : AbstractCard) → Inside o → Agree R W σ τ → Agree o.reads o.writes σ τ
     narrow o σ τ i a = ((λ r h. a.0 r (i.r-in r h)), (λ r h. a.1 r (i.w-in r h)))
 
@@ -79,7 +79,7 @@ module _ (W R : Path → Bool) (directory : Path) where
     unfolding effect
     step-agree o σ τ i a = (
       (λ r h. ap₂ (λ x y. cond (o.writes r) x y) (i.loc.puts-local σ τ (narrow o σ τ i a) r) (a.0 r h)),
-      (λ r h. ap₂ (λ x y. cond (o.writes r) x (cond (samePath r o.directory) (worked o y) y)) (i.loc.rooms-local σ τ (narrow o σ τ i a) r) (a.1 r h)),
+      (λ r h. ap₂ (λ x y. cond (o.writes r) x (cond (same_path r o.directory) (worked o y) y)) (i.loc.rooms-local σ τ (narrow o σ τ i a) r) (a.1 r h)),
     )
 
     runs-agree : (ops : List Operation) (σ τ : AbstractCard) → Insides ops → Agree R W σ τ → Agree R W (runs ops σ) (runs ops τ)
@@ -89,10 +89,10 @@ module _ (W R : Path → Bool) (directory : Path) where
     costs-local : (ops : List Operation) (σ τ : AbstractCard) → Insides ops → Agree R W σ τ → costs ops σ ≡ costs ops τ
     costs-local [] σ τ i a = refl
     costs-local (o ∷ os) σ τ i a =
-        ap₂ (λ x y. x + y) (ap₂ (λ x y. x + y) (i.0.loc.size-local σ τ (narrow o σ τ i.0 a)) growthClusters) (costs-local os (effect o σ) (effect o τ) i.1 (step-agree o σ τ i.0 a))
+        ap₂ (λ x y. x + y) (ap₂ (λ x y. x + y) (i.0.loc.size-local σ τ (narrow o σ τ i.0 a)) growth_clusters) (costs-local os (effect o σ) (effect o τ) i.1 (step-agree o σ τ i.0 a))
       where
-        growthClusters : cond (W o.directory) (grown o.adds (σ.room o.directory)) 0 ≡ cond (W o.directory) (grown o.adds (τ.room o.directory)) 0
-        growthClusters = ⊎_elim (λ (h : W o.directory ≡ true). rw (h, a.1 o.directory h)) (λ (h : W o.directory ≡ false). rw h) (bool (W o.directory))
+        growth_clusters : cond (W o.directory) (grown o.adds (σ.room o.directory)) 0 ≡ cond (W o.directory) (grown o.adds (τ.room o.directory)) 0
+        growth_clusters = ⊎_elim (λ (h : W o.directory ≡ true). rw (h, a.1 o.directory h)) (λ (h : W o.directory ≡ false). rw h) (bool (W o.directory))
 
     tests-local : (ops : List Operation) (σ τ : AbstractCard) → Insides ops → Agree R W σ τ → tests ops σ ≡ tests ops τ
     tests-local [] σ τ i a = refl
@@ -104,7 +104,7 @@ module _ (W R : Path → Bool) (directory : Path) where
     comp-local ops i =
         record {
           sub = WR;
-          dir-R = dR;
+          dir-R = d_r;
           test-local = λ σ τ a. tests-local ops σ τ i a;
           size-local = λ σ τ a. costs-local ops σ τ i a;
           freed-local = λ σ τ a. refl;
@@ -124,13 +124,13 @@ module _ (W R : Path → Bool) (directory : Path) where
     out-look [] σ r i h = refl
     out-look (o ∷ os) σ r i h = out-look os (effect o σ) r i.1 h ∙ rw (off o r i.0 h)
 
-    not-dir : (o : Operation) (r : Path) → Inside o → W r ≡ false → samePath r directory ≡ false → samePath r o.directory ≡ false
+    not-dir : (o : Operation) (r : Path) → Inside o → W r ≡ false → same_path r directory ≡ false → same_path r o.directory ≡ false
     not-dir o r i h n =
         ⊎_elim
-        (λ (e : samePath r o.directory ≡ true). let z = Eq-path.sound r o.directory e in ⊎_elim (λ (p : W o.directory ≡ true). tf p (rw z at h)) (λ (p : o.directory ≡ directory). tf (rw p at e) n) i.place)
-        (λ e. e) (bool (samePath r o.directory))
+        (λ (e : same_path r o.directory ≡ true). let z = Eq-path.sound r o.directory e in ⊎_elim (λ (p : W o.directory ≡ true). tf p (rw z at h)) (λ (p : o.directory ≡ directory). tf (rw p at e) n) i.place)
+        (λ e. e) (bool (same_path r o.directory))
 
-    out-room : (ops : List Operation) (σ : AbstractCard) (r : Path) → Insides ops → W r ≡ false → samePath r directory ≡ false → (runs ops σ).room r ≡ σ.room r
+    out-room : (ops : List Operation) (σ : AbstractCard) (r : Path) → Insides ops → W r ≡ false → same_path r directory ≡ false → (runs ops σ).room r ≡ σ.room r
     unfolding effect
     out-room [] σ r i h n = refl
     out-room (o ∷ os) σ r i h n = out-room os (effect o σ) r i.1 h n ∙ rw (off o r i.0 h, not-dir o r i.0 h n)
@@ -139,14 +139,14 @@ module _ (W R : Path → Bool) (directory : Path) where
     step-dir : (o : Operation) (σ : AbstractCard) → Inside o → (effect o σ).room directory ≡ taken (cond (W o.directory) 0 o.adds) (σ.room directory)
     unfolding effect taken
     step-dir o σ i =
-        rw (off o directory i dW)
+        rw (off o directory i d_w)
         (⊎_elim
-        (λ (p : W o.directory ≡ true). let n : samePath directory o.directory ≡ false = other p in rw (p, n))
-        (λ (p : o.directory ≡ directory). let n : samePath directory o.directory ≡ true = rw p (Eq-path.self directory) in let w : W o.directory ≡ false = rw p dW in rw (n, w) (worked-adds o (σ.room directory) i.cre.0))
+        (λ (p : W o.directory ≡ true). let n : same_path directory o.directory ≡ false = other p in rw (p, n))
+        (λ (p : o.directory ≡ directory). let n : same_path directory o.directory ≡ true = rw p (Eq-path.self directory) in let w : W o.directory ≡ false = rw p d_w in rw (n, w) (worked-adds o (σ.room directory) i.cre.0))
         i.place)
       where
-        other : W o.directory ≡ true → samePath directory o.directory ≡ false
-        other p = ⊎_elim (λ (e : samePath directory o.directory ≡ true). tf p (rw (Eq-path.sound directory o.directory e) at dW)) (λ e. e) (bool (samePath directory o.directory))
+        other : W o.directory ≡ true → same_path directory o.directory ≡ false
+        other p = ⊎_elim (λ (e : same_path directory o.directory ≡ true). tf p (rw (Eq-path.sound directory o.directory e) at d_w)) (λ e. e) (bool (same_path directory o.directory))
 
     at-dir : (ops : List Operation) (σ : AbstractCard) → Insides ops → (runs ops σ).room directory ≡ taken (outs ops) (σ.room directory)
     unfolding taken
@@ -165,13 +165,13 @@ module _ (W R : Path → Bool) (directory : Path) where
         let ih : costs os (effect o σ) + grown (outs os) ((effect o σ).room directory) ≡ parts os (effect o σ) = need-comp os (effect o σ) i.1 in
         let sd = ap (grown (outs os)) (step-dir o σ i.0) in
         let gs = grown-sum (cond (W o.directory) 0 o.adds) (outs os) (σ.room directory) in
-        let one : cond (W o.directory) (grown o.adds (σ.room o.directory)) 0 + grown (cond (W o.directory) 0 o.adds) (σ.room directory) ≡ grown o.adds (σ.room o.directory) = dataPages o σ i.0 in
+        let one : cond (W o.directory) (grown o.adds (σ.room o.directory)) 0 + grown (cond (W o.directory) 0 o.adds) (σ.room directory) ≡ grown o.adds (σ.room o.directory) = data_pages o σ i.0 in
         omega arith
       where
-        dataPages : (o : Operation) (σ : AbstractCard) → Inside o
+        data_pages : (o : Operation) (σ : AbstractCard) → Inside o
             → cond (W o.directory) (grown o.adds (σ.room o.directory)) 0 + grown (cond (W o.directory) 0 o.adds) (σ.room directory) ≡ grown o.adds (σ.room o.directory)
-        dataPages o σ i =
-            ⊎_elim (λ (p : W o.directory ≡ true). rw p (omega arith)) (λ (p : o.directory ≡ directory). let w : W o.directory ≡ false = rw p dW in rw (w, p) (omega arith)) i.place
+        data_pages o σ i =
+            ⊎_elim (λ (p : W o.directory ≡ true). rw p (omega arith)) (λ (p : o.directory ≡ directory). let w : W o.directory ≡ false = rw p d_w in rw (w, p) (omega arith)) i.place
 
     free-runs : (ops : List Operation) (σ : AbstractCard) → Insides ops → Oks ops σ → (parts ops σ ≤ σ.free) × ((runs ops σ).free ≡ σ.free - parts ops σ)
     unfolding effect parts
@@ -184,7 +184,7 @@ module _ (W R : Path → Bool) (directory : Path) where
     -- It does what its parts do, one after another.
     pub eff-comp : (ops : List Operation) (σ : AbstractCard) → Insides ops → Oks ops σ → effect (comp ops) σ ≡ runs ops σ
     unfolding effect
-    eff-comp ops σ i o = λ j. record { look = looks j; room = rooms j; free = freeBelow j }
+    eff-comp ops σ i o = λ j. record { look = looks j; room = rooms j; free = free_below j }
       where
         looks : (effect (comp ops) σ).look ≡ (runs ops σ).look
         looks = fun_ext (λ r. ⊎_elim (λ (h : W r ≡ true). rw h) (λ (h : W r ≡ false). rw h (sym (out-look ops σ r i h))) (bool (W r)))
@@ -192,11 +192,11 @@ module _ (W R : Path → Bool) (directory : Path) where
         rooms : (effect (comp ops) σ).room ≡ (runs ops σ).room
         rooms =
             fun_ext (λ r. ⊎_elim (λ (h : W r ≡ true). rw h) (λ (h : W r ≡ false). rw h
-            (⊎_elim (λ (e : samePath r directory ≡ true). let z = Eq-path.sound r directory e in rw (e, z) (worked-adds (comp ops) (σ.room directory) refl ∙ sym (at-dir ops σ i)))
-            (λ (e : samePath r directory ≡ false). rw e (sym (out-room ops σ r i h e))) (bool (samePath r directory)))) (bool (W r)))
+            (⊎_elim (λ (e : same_path r directory ≡ true). let z = Eq-path.sound r directory e in rw (e, z) (worked-adds (comp ops) (σ.room directory) refl ∙ sym (at-dir ops σ i)))
+            (λ (e : same_path r directory ≡ false). rw e (sym (out-room ops σ r i h e))) (bool (same_path r directory)))) (bool (W r)))
 
-        freeBelow : (effect (comp ops) σ).free ≡ (runs ops σ).free
-        freeBelow = let f = free-runs ops σ i o in omega (arith, f.1, need-comp ops σ i)
+        free_below : (effect (comp ops) σ).free ≡ (runs ops σ).free
+        free_below = let f = free-runs ops σ i o in omega (arith, f.1, need-comp ops σ i)
 
     -- It is accepted exactly when each part is in its turn.
     pub ok-comp : (ops : List Operation) (σ : AbstractCard) → Insides ops → Accepts (comp ops) σ ↔ Oks ops σ

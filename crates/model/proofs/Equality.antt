@@ -45,18 +45,18 @@ pub record Eq (A : Type 0) : Type 0 where
   pub self : (a : A) → same a a ≡ true
 
 module _ {A : Type 0} (q : Eq A) where
-  pub soundL : (a b : List A) → same_list q.same a b ≡ true → a ≡ b
-  soundL [] [] h = refl
-  soundL [] (b ∷ bs) h = tf h refl
-  soundL (a ∷ u) [] h = tf h refl
-  soundL (a ∷ u) (b ∷ bs) h = ap₂ (λ x xs. x ∷ xs) (q.sound a b (and_l _ _ h)) (soundL u bs (and_r (q.same a b) _ h))
+  pub sound_l : (a b : List A) → same_list q.same a b ≡ true → a ≡ b
+  sound_l [] [] h = refl
+  sound_l [] (b ∷ bs) h = tf h refl
+  sound_l (a ∷ u) [] h = tf h refl
+  sound_l (a ∷ u) (b ∷ bs) h = ap₂ (λ x xs. x ∷ xs) (q.sound a b (and_l _ _ h)) (sound_l u bs (and_r (q.same a b) _ h))
 
-  pub selfL : (a : List A) → same_list q.same a a ≡ true
-  selfL [] = refl
-  selfL (a ∷ u) = rw (q.self a) (selfL u)
+  pub self_l : (a : List A) → same_list q.same a a ≡ true
+  self_l [] = refl
+  self_l (a ∷ u) = rw (q.self a) (self_l u)
 
   abbrev pub Eq-list : Eq (List A)
-  Eq-list = record { same = same_list q.same; sound = soundL; self = selfL }
+  Eq-list = record { same = same_list q.same; sound = sound_l; self = self_l }
 
   pub comm : (a b : A) → q.same a b ≡ q.same b a
   comm a b = go (q.same a b) (q.same b a) refl refl

@@ -8,8 +8,8 @@ use lib.Dec.{eqb}
 use lib.ListN.{drop, take}
 use Rattle.model.specs.Holds.{Chain, DotEntries, DotEntry, HoldsSlot, HoldsSlots}
 use Rattle.model.specs.Names.{Name}
-use Rattle.model.specs.Tree.{Slot, Tree, chainOf, clusterUses, end, entryPages, hit, node, times}
-use Rattle.model.specs.View.{Link, View, pagesOf}
+use Rattle.model.specs.Tree.{Slot, Tree, chain_of, cluster_uses, end, entry_pages, hit, node, times}
+use Rattle.model.specs.View.{Link, View, pages_of}
 use Rattle.model.proofs.Equality.{Eq-number, tf}
 
 -- counting
@@ -53,7 +53,7 @@ two c p = go (eqb (2 * c) p) (eqb (2 * c + 1) p) refl refl
     go false true x y = let e = Eq-number.sound (2 * c + 1) p y in let g : c ≡ p / 2 = omega arith in sym (rw (← g) (hit-self c))
     go false false x y = sym (hit-0 c (p / 2) (λ g. let a = ne (2 * c) p x in let b = ne (2 * c + 1) p y in omega arith))
 
-pub times-pages : (cs : List ℕ) (p : ℕ) → times (pagesOf cs) p ≡ times cs (p / 2)
+pub times-pages : (cs : List ℕ) (p : ℕ) → times (pages_of cs) p ≡ times cs (p / 2)
 times-pages [] p = refl
 times-pages (c ∷ cs) p = omega (arith, times-pages cs p, two c p)
 
@@ -71,13 +71,13 @@ cnt-drop-take (suc k) (suc n) (y ∷ ys) x = cnt-drop-take k n ys x
 -- the pages that a head itself needs: a file's data, a directory's first two entries
 abbrev pub needs : Slot → List ℕ
 needs Slot.dead = []
-needs (Slot.file e cs ds) = pagesOf cs
-needs (Slot.directory e cs) = take 2 (pagesOf cs)
+needs (Slot.file e cs ds) = pages_of cs
+needs (Slot.directory e cs) = take 2 (pages_of cs)
 
-pub parts-le : (h : Slot) (p : ℕ) → times (needs h) p + times (entryPages h) p ≤ times (chainOf h) (p / 2)
+pub parts-le : (h : Slot) (p : ℕ) → times (needs h) p + times (entry_pages h) p ≤ times (chain_of h) (p / 2)
 parts-le Slot.dead p = omega arith
 parts-le (Slot.file e cs ds) p = omega (arith, times-pages cs p)
-parts-le (Slot.directory e cs) p = omega (arith, times-pages cs p, times-split 2 (pagesOf cs) p, cnt-drop-take 2 e.length (pagesOf cs) p)
+parts-le (Slot.directory e cs) p = omega (arith, times-pages cs p, times-split 2 (pages_of cs) p, cnt-drop-take 2 e.length (pages_of cs) p)
 
 -- The view w agrees with v on a page, and on a cluster.
 abbrev pub SameP : View → View → ℕ → Type 0
@@ -95,21 +95,21 @@ module _ (v w : View) where
   pub dot-frame : (n : Name) (p : ℕ) → w.entry p ≡ v.entry p → DotEntry v n p → DotEntry w n p
   dot-frame n p e h = (h.0, e ∙ h.1, h.2)
 
-  pub dots-frame : (cs : List ℕ) → ((p : ℕ) → 1 ≤ times (take 2 (pagesOf cs)) p → w.entry p ≡ v.entry p) → DotEntries v cs → DotEntries w cs
+  pub dots-frame : (cs : List ℕ) → ((p : ℕ) → 1 ≤ times (take 2 (pages_of cs)) p → w.entry p ≡ v.entry p) → DotEntries v cs → DotEntries w cs
   dots-frame [] k h = h
   dots-frame (c ∷ cs) k h = (
     dot-frame _ (2 * c) (k (2 * c) (omega (arith, hit-self (2 * c)))) h.0,
     dot-frame _ (2 * c + 1) (k (2 * c + 1) (omega (arith, hit-self (2 * c + 1)))) h.1,
   )
 
-  pub held-frame : (d p : ℕ) (h : Slot) → w.entry p ≡ v.entry p → ((c : ℕ) → 1 ≤ times (chainOf h) c → w.link c ≡ v.link c)
+  pub held-frame : (d p : ℕ) (h : Slot) → w.entry p ≡ v.entry p → ((c : ℕ) → 1 ≤ times (chain_of h) c → w.link c ≡ v.link c)
       → ((q : ℕ) → 1 ≤ times (needs h) q → SameP v w q) → HoldsSlot v d p h → HoldsSlot w d p h
   held-frame d p Slot.dead e k m x = (x.0, e ∙ x.1, x.2)
-  held-frame d p (Slot.file en cs ds) e k m x = (e ∙ x.0, x.1, x.2, links-frame _ cs k x.3, x.4 ∙ sym (pages-frame (pagesOf cs) m))
+  held-frame d p (Slot.file en cs ds) e k m x = (e ∙ x.0, x.1, x.2, links-frame _ cs k x.3, x.4 ∙ sym (pages-frame (pages_of cs) m))
   held-frame d p (Slot.directory en cs) e k m x = (e ∙ x.0, x.1, x.2, x.3, links-frame _ cs k x.4, dots-frame cs (λ q y. (m q y).0) x.5)
 
   -- A tree is held where its entries' pages and its clusters agree.
-  pub frame : (d : ℕ) (ps : List ℕ) (t : Tree) → ((p : ℕ) → 1 ≤ times ps p + clusterUses t (p / 2) → SameP v w p) → ((c : ℕ) → 1 ≤ clusterUses t c → w.link c ≡ v.link c)
+  pub frame : (d : ℕ) (ps : List ℕ) (t : Tree) → ((p : ℕ) → 1 ≤ times ps p + cluster_uses t (p / 2) → SameP v w p) → ((c : ℕ) → 1 ≤ cluster_uses t c → w.link c ≡ v.link c)
       → HoldsSlots v d ps t → HoldsSlots w d ps t
   frame d [] end k m h = h
   frame d (p ∷ ps) end k m h = h
@@ -117,6 +117,6 @@ module _ (v w : View) where
   frame d (p ∷ ps) (node x s t) k m h = (
     held-frame d p x (k p (omega (arith, hit-self p))).0 (λ c y. m c (omega arith)) (λ q y. k q (omega (arith, parts-le x q))) h.0,
     h.1,
-    frame (pred d) (entryPages x) s (λ q y. k q (omega (arith, parts-le x q))) (λ c y. m c (omega arith)) h.2,
+    frame (pred d) (entry_pages x) s (λ q y. k q (omega (arith, parts-le x q))) (λ c y. m c (omega arith)) h.2,
     frame d ps t (λ q y. k q (omega arith)) (λ c y. m c (omega arith)) h.3,
   )

@@ -4,7 +4,7 @@ use mathlib.Core.List.{List, [], ◌++◌, ◌∷◌}
 use mathlib.Core.Logic.{inl, ⊎_elim}
 use mathlib.Core.Option.{Option}
 use mathlib.Core.Path.{◌∙◌, ◌≡◌, ap, ap₂, fun_ext, refl, sym}
-use Rattle.model.specs.Names.{Path, samePath}
+use Rattle.model.specs.Names.{Path, same_path}
 use Rattle.model.specs.Standing.{Standing}
 use Rattle.model.proofs.Equality.{bool, tf}
 use Rattle.model.proofs.Operations.{AbstractCard, Accepts, Apart, Creation, Local, Operation, Room, agree, apart-sym, dir-apart, effect, free-comm, look-comm, not-W, ok-comm, taken, taken-add, worked, worked-adds}
@@ -28,7 +28,7 @@ room-comm a b σ la lb d ca cb z = go (a.writes z) (b.writes z) refl refl
     go true true p q = tf (lb.sub z q) (d.0 z p)
     go true false p q = rw (p, q, dir-apart b a lb (apart-sym a b d) z p) (sym (la.rooms-local (effect b σ) σ (agree b a σ lb la (apart-sym a b d)) z))
     go false true p q = rw (p, q, dir-apart a b la d z q) (lb.rooms-local (effect a σ) σ (agree a b σ la lb d) z)
-    go false false p q = rw (p, q) (both (samePath z a.directory) (samePath z b.directory) (σ.room z))
+    go false false p q = rw (p, q) (both (same_path z a.directory) (same_path z b.directory) (σ.room z))
 
 pub swap-all : (a b : Operation) (σ : AbstractCard) → Local a → Local b → Apart a b → Creation a → Creation b → Accepts a σ → Accepts b (effect a σ)
     → Accepts b σ × Accepts a (effect b σ) × (effect b (effect a σ) ≡ effect a (effect b σ))
@@ -102,11 +102,11 @@ any_order (x ∷ xs) ys σ (l, r, e, p) c cs o =
     rw e (z.0, z.1 ∙ i.1)
 
 -- Any operations: the tree after them, path by path.
-abbrev pub lookAll : List Operation → AbstractCard → Path → Option Standing
-lookAll [] σ z = σ.look z
-lookAll (x ∷ xs) σ z = cond (x.writes z) (x.puts σ z) (lookAll xs σ z)
+abbrev pub look_all : List Operation → AbstractCard → Path → Option Standing
+look_all [] σ z = σ.look z
+look_all (x ∷ xs) σ z = cond (x.writes z) (x.puts σ z) (look_all xs σ z)
 
-look_skip : (xs : List Operation) (x : Operation) (σ : AbstractCard) (z : Path) → Local x → Each x xs → Clear xs → lookAll xs (effect x σ) z ≡ cond (x.writes z) (x.puts σ z) (lookAll xs σ z)
+look_skip : (xs : List Operation) (x : Operation) (σ : AbstractCard) (z : Path) → Local x → Each x xs → Clear xs → look_all xs (effect x σ) z ≡ cond (x.writes z) (x.puts σ z) (look_all xs σ z)
 unfolding effect
 look_skip [] x σ z lx e c = refl
 look_skip (o ∷ os) x σ z lx e c =
@@ -115,11 +115,11 @@ look_skip (o ∷ os) x σ z lx e c =
     (λ (i : x.writes z ≡ false). rw i (ap₂ (λ a b. cond (o.writes z) a b) (c.0.puts-local (effect x σ) σ (agree x o σ lx c.0 e.0) z) (look_skip os x σ z lx e.1 c.2 ∙ rw i)))
     (bool (x.writes z))
 
-pub look-runs : (xs : List Operation) (σ : AbstractCard) (z : Path) → Clear xs → (runs xs σ).look z ≡ lookAll xs σ z
+pub look-runs : (xs : List Operation) (σ : AbstractCard) (z : Path) → Clear xs → (runs xs σ).look z ≡ look_all xs σ z
 look-runs [] σ z c = refl
 look-runs (x ∷ xs) σ z c = look-runs xs (effect x σ) z c.2 ∙ look_skip xs x σ z c.0 c.1 c.2
 
-look-mid : (l r : List Operation) (x : Operation) (σ : AbstractCard) (z : Path) → Clear (l ++ r) → Local x → Each x (l ++ r) → lookAll (l ++ (x ∷ r)) σ z ≡ cond (x.writes z) (x.puts σ z) (lookAll (l ++ r) σ z)
+look-mid : (l r : List Operation) (x : Operation) (σ : AbstractCard) (z : Path) → Clear (l ++ r) → Local x → Each x (l ++ r) → look_all (l ++ (x ∷ r)) σ z ≡ cond (x.writes z) (x.puts σ z) (look_all (l ++ r) σ z)
 look-mid [] r x σ z c lx e = refl
 look-mid (a ∷ l) r x σ z c lx e =
     rw (look-mid l r x σ z c.2 lx e.1)
@@ -129,7 +129,7 @@ look-mid (a ∷ l) r x σ z c lx e =
 pub one-tree : (xs ys : List Operation) (σ : AbstractCard) (z : Path) → Perm xs ys → Clear xs → Clear ys → (runs xs σ).look z ≡ (runs ys σ).look z
 one-tree xs ys σ z p cx cy = look-runs xs σ z cx ∙ go xs ys p cy ∙ sym (look-runs ys σ z cy)
   where
-    go : (xs ys : List Operation) → Perm xs ys → Clear ys → lookAll xs σ z ≡ lookAll ys σ z
+    go : (xs ys : List Operation) → Perm xs ys → Clear ys → look_all xs σ z ≡ look_all ys σ z
     go [] ys p c = rw p
     go (x ∷ xs) ys (l, r, e, p) c =
         let c' = clear-mid l r x (rw e at c) in

@@ -7,7 +7,7 @@ use mathlib.Core.Path.{◌∙◌, ◌≡◌, ap, refl, sym}
 use native.Mathlib.Omega.{arith}
 use lib.ListN.{length}
 use Rattle.model.specs.Change.{size}
-use Rattle.model.specs.Names.{Path, samePath}
+use Rattle.model.specs.Names.{Path, same_path}
 use Rattle.model.specs.Standing.{Standing, directory}
 use Rattle.model.specs.Tree.{dead}
 use Rattle.model.specs.View.{free, last}
@@ -108,7 +108,7 @@ unfoldable pub effect : Operation → AbstractCard → AbstractCard
 effect o σ =
     record {
       look = λ r. cond (o.writes r) (o.puts σ r) (σ.look r);
-      room = λ r. cond (o.writes r) (o.rooms σ r) (cond (samePath r o.directory) (worked o (σ.room r)) (σ.room r));
+      room = λ r. cond (o.writes r) (o.rooms σ r) (cond (same_path r o.directory) (worked o (σ.room r)) (σ.room r));
       free = σ.free - need o σ + o.freed σ;
     }
 
@@ -131,10 +131,10 @@ look-stays : (a b : Operation) (σ : AbstractCard) → Apart a b → (r : Path) 
 unfolding effect
 look-stays a b σ d r h = rw (not-W a b d r h)
 
-pub dir-apart : (a b : Operation) (la : Local a) → Apart a b → (r : Path) → b.writes r ≡ true → samePath r a.directory ≡ false
-dir-apart a b la d r h = go (samePath r a.directory) refl
+pub dir-apart : (a b : Operation) (la : Local a) → Apart a b → (r : Path) → b.writes r ≡ true → same_path r a.directory ≡ false
+dir-apart a b la d r h = go (same_path r a.directory) refl
   where
-    go : (x : Bool) → samePath r a.directory ≡ x → x ≡ false
+    go : (x : Bool) → same_path r a.directory ≡ x → x ≡ false
     go true e = tf la.dir-R (rw (Eq-path.sound r a.directory e) at (d.1 r h))
     go false e = refl
 
@@ -161,13 +161,13 @@ look-comm a b σ la lb d r = go (a.writes r) (b.writes r) refl refl
 
 -- The room of b's directory after a.
 room-dir : (a b : Operation) (σ : AbstractCard) → Local a → Local b → Apart a b
-    → (effect a σ).room b.directory ≡ cond (samePath b.directory a.directory) (worked a (σ.room b.directory)) (σ.room b.directory)
+    → (effect a σ).room b.directory ≡ cond (same_path b.directory a.directory) (worked a (σ.room b.directory)) (σ.room b.directory)
 unfolding effect
 room-dir a b σ la lb d = rw (not-W a b d b.directory lb.dir-R)
 
 -- Not one that enters and one that kills entries in one directory.
 abbrev pub NoClash : Operation → Operation → Type 0
-NoClash a b = samePath b.directory a.directory ≡ true → ((a.kills ≡ 0) × (b.kills ≡ 0)) ⊎ ((a.adds ≡ 0) × (b.adds ≡ 0))
+NoClash a b = same_path b.directory a.directory ≡ true → ((a.kills ≡ 0) × (b.kills ≡ 0)) ⊎ ((a.adds ≡ 0) × (b.adds ≡ 0))
 
 pub worked-adds : (o : Operation) (r : Room) → o.kills ≡ 0 → worked o r ≡ taken o.adds r
 unfolding worked
@@ -180,7 +180,7 @@ worked-adds o r e = λ i. record { dead = h i; length = (taken o.adds r).length;
 needs : (a b : Operation) (σ : AbstractCard) → Local a → Local b → Apart a b → NoClash a b
     → need a σ + need b (effect a σ) ≡ need b σ + need a (effect b σ)
 unfolding need grown
-needs a b σ la lb d nc = rw (lb.size-local (effect a σ) σ (agree a b σ la lb d), la.size-local (effect b σ) σ (agree b a σ lb la (apart-sym a b d)), room-dir a b σ la lb d, room-dir b a σ lb la (apart-sym a b d), comm Eq-path a.directory b.directory) (go (samePath b.directory a.directory) refl)
+needs a b σ la lb d nc = rw (lb.size-local (effect a σ) σ (agree a b σ la lb d), la.size-local (effect b σ) σ (agree b a σ lb la (apart-sym a b d)), room-dir a b σ la lb d, room-dir b a σ lb la (apart-sym a b d), comm Eq-path a.directory b.directory) (go (same_path b.directory a.directory) refl)
   where
     ra : Room
     ra = σ.room a.directory
@@ -197,7 +197,7 @@ needs a b σ la lb d nc = rw (lb.size-local (effect a σ) σ (agree a b σ la lb
     both e (inl (p, q)) = rw (worked-adds a rb p, worked-adds b ra q, e) (omega (arith, grown-swap a.adds b.adds rb))
     both e (inr (p, q)) = rw (p, q) (omega arith)
 
-    go : (x : Bool) → samePath b.directory a.directory ≡ x → Goal x
+    go : (x : Bool) → same_path b.directory a.directory ≡ x → Goal x
     go true e = both (ap σ.room (sym (Eq-path.sound b.directory a.directory e))) (nc e)
     go false e = omega arith
 

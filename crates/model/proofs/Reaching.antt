@@ -10,9 +10,9 @@ use lib.Dec.{leb, ltb}
 use lib.IntN.{◌+ℤ◌, neg_ℤ, pos, sub_ℕ, ℤ}
 use Rattle.model.specs.declared.Date.{Date}
 use Rattle.model.specs.declared.Moment.{Moment}
-use Rattle.model.specs.Time.{inYears}
-use Rattle.model.specs.Calendar.{clockAt, dayAfter, dayBefore, daysEarlier, daysLater, fromMidnight, minuteOfDay, moved, shifted}
-use Rattle.model.specs.Shifts.{ShiftsReturn, dayNumber, daysOfYears, minuteNumber}
+use Rattle.model.specs.Time.{in_years}
+use Rattle.model.specs.Calendar.{clock_at, day_after, day_before, days_earlier, days_later, from_midnight, minute_of_day, moved, shifted}
+use Rattle.model.specs.Shifts.{ShiftsReturn, day_number, days_of_years, minute_number}
 use Rattle.model.proofs.Calendar.{Dated, after-before, by_before, dated-before, earlier-later, on}
 use Rattle.model.proofs.DayNumbers.{exact-by, number-after}
 use Rattle.model.proofs.Shifts.{Valid, back_by, clock-same, earlier-of, later-by, later_of, minute-below, moved-second, moved-valid, moved-zero, shifted_in, shifted-is, sub-cross, sub_more, valid-by, valid-facts, year-from}
@@ -24,13 +24,13 @@ epoch = on 1980 1 1
 
 -- what a day is after
 Follows : Date → Type 0
-Follows d = (1980 ≤ (dayBefore d).year) × (dayNumber d ≡ dayNumber (dayBefore d) + 1)
+Follows d = (1980 ≤ (day_before d).year) × (day_number d ≡ day_number (day_before d) + 1)
 
 module _ (d : Date) (z : Dated d) (from : 1980 ≤ d.year) where
-  follows : 1980 ≤ (dayBefore d).year → Follows d
+  follows : 1980 ≤ (day_before d).year → Follows d
   unfolding Follows
   follows h =
-      (h, sym (ap dayNumber (after-before d z (omega (arith, from)))) ∙ number-after (dayBefore d) (dated-before d z) h)
+      (h, sym (ap day_number (after-before d z (omega (arith, from)))) ∙ number-after (day_before d) (dated-before d z) h)
 
   first-or : (d ≡ epoch) ⊎ Follows d
   first-or =
@@ -46,47 +46,47 @@ module _ (d : Date) (z : Dated d) (from : 1980 ≤ d.year) where
 
 -- ---- a date by its number
 
-later_last : (k : ℕ) (d : Date) → daysLater k (dayAfter d) ≡ dayAfter (daysLater k d)
-unfolding daysLater
+later_last : (k : ℕ) (d : Date) → days_later k (day_after d) ≡ day_after (days_later k d)
+unfolding days_later
 later_last zero d = refl
-later_last (suc k) d = later_last k (dayAfter d)
+later_last (suc k) d = later_last k (day_after d)
 
-later-sum : (a b : ℕ) (d : Date) → daysLater (a + b) d ≡ daysLater b (daysLater a d)
-unfolding daysLater
+later-sum : (a b : ℕ) (d : Date) → days_later (a + b) d ≡ days_later b (days_later a d)
+unfolding days_later
 later-sum zero b d = let none : 0 + b ≡ b = omega arith in rw none
-later-sum (suc a) b d = let next : suc a + b ≡ suc (a + b) = omega arith in rw next (later-sum a b (dayAfter d))
+later-sum (suc a) b d = let next : suc a + b ≡ suc (a + b) = omega arith in rw next (later-sum a b (day_after d))
 
-since : (n : ℕ) (d : Date) → Dated d → 1980 ≤ d.year → dayNumber d ≡ n → daysLater n epoch ≡ d
-unfolding daysLater Follows daysOfYears
+since : (n : ℕ) (d : Date) → Dated d → 1980 ≤ d.year → day_number d ≡ n → days_later n epoch ≡ d
+unfolding days_later Follows days_of_years
 since zero d z from e = ⊎_elim (λ first. sym first) (λ f. absurd (omega (arith, e, f.1))) (first-or d z from)
 since (suc n) d z from e =
     ⊎_elim
-    (λ first. absurd (let none : dayNumber d ≡ 0 = ap dayNumber first in omega (arith, e, none)))
-    (λ f. later_last n epoch ∙ ap dayAfter (since n (dayBefore d) (dated-before d z) f.0 (omega (arith, e, f.1))) ∙ after-before d z (omega (arith, from)))
+    (λ first. absurd (let none : day_number d ≡ 0 = ap day_number first in omega (arith, e, none)))
+    (λ f. later_last n epoch ∙ ap day_after (since n (day_before d) (dated-before d z) f.0 (omega (arith, e, f.1))) ∙ after-before d z (omega (arith, from)))
     (first-or d z from)
 
 -- the date whose number is k more
-later-is : (k : ℕ) (d e : Date) → Dated d → 1980 ≤ d.year → Dated e → 1980 ≤ e.year → dayNumber e ≡ dayNumber d + k → daysLater k d ≡ e
+later-is : (k : ℕ) (d e : Date) → Dated d → 1980 ≤ d.year → Dated e → 1980 ≤ e.year → day_number e ≡ day_number d + k → days_later k d ≡ e
 later-is k d e z from y above sum =
-    ap (daysLater k) (sym (since (dayNumber d) d z from refl)) ∙ sym (later-sum (dayNumber d) k epoch) ∙ since (dayNumber d + k) e y above sum
+    ap (days_later k) (sym (since (day_number d) d z from refl)) ∙ sym (later-sum (day_number d) k epoch) ∙ since (day_number d + k) e y above sum
 
 -- ---- a time by its number
 
-module _ (s : ℤ) (m n : Moment) (v : Valid m) (w : Valid n) (second : n.second ≡ m.second) (sum : pos (minuteNumber n) ≡ pos (minuteNumber m) +ℤ s) where
+module _ (s : ℤ) (m n : Moment) (v : Valid m) (w : Valid n) (second : n.second ≡ m.second) (sum : pos (minute_number n) ≡ pos (minute_number m) +ℤ s) where
   abbrev T : ℕ
-  T = minuteOfDay m
+  T = minute_of_day m
 
   abbrev U : ℕ
-  U = minuteOfDay n
+  U = minute_of_day n
 
   abbrev D : ℕ
-  D = dayNumber m.date
+  D = day_number m.date
 
   abbrev E : ℕ
-  E = dayNumber n.date
+  E = day_number n.date
 
   -- the clock of n, set on its own day
-  set-as : clockAt m n.date U ≡ n
+  set-as : clock_at m n.date U ≡ n
   set-as = rw (← second) (clock-same n w)
 
   -- in the same day or a later one
@@ -94,29 +94,29 @@ module _ (s : ℤ) (m n : Moment) (v : Valid m) (w : Valid n) (second : n.second
   reach-later h =
       let k = E - D in
       let minutes : pos T +ℤ s ≡ pos (U + k * 1440) =
-      later-by (minuteNumber m) (minuteNumber n) s sum (λ s. pos T +ℤ s ≡ pos (U + k * 1440))
+      later-by (minute_number m) (minute_number n) s sum (λ s. pos T +ℤ s ≡ pos (U + k * 1440))
       (λ j e. ap pos (omega (arith, h, e)))
       (λ j e. sub_more T (suc j) (omega (arith, h, e)) ∙ ap pos (omega (arith, h, e))) in
       let days = later-is k m.date n.date v.dated (year-from m.date.year v.year-in) w.dated (year-from n.date.year w.year-in) (omega (arith, h)) in
-      ap (λ (z : ℤ). fromMidnight z m) minutes ∙ later_of k U (minute-below n w) m ∙ ap (λ d. clockAt m d U) days ∙ set-as
+      ap (λ (z : ℤ). from_midnight z m) minutes ∙ later_of k U (minute-below n w) m ∙ ap (λ d. clock_at m d U) days ∙ set-as
 
   -- in an earlier one
   reach-earlier : E < D → moved s m ≡ n
   reach-earlier h =
       let k = D - E in
       let minutes : pos T +ℤ s ≡ sub_ℕ U (k * 1440) =
-      later-by (minuteNumber m) (minuteNumber n) s sum (λ s. pos T +ℤ s ≡ sub_ℕ U (k * 1440))
+      later-by (minute_number m) (minute_number n) s sum (λ s. pos T +ℤ s ≡ sub_ℕ U (k * 1440))
       (λ j e. absurd (omega (arith, h, e, minute-below n w)))
       (λ j e. sub-cross T (suc j) U (k * 1440) (omega (arith, h, e))) in
       let days = later-is k n.date m.date w.dated (year-from n.date.year w.year-in) v.dated (year-from m.date.year v.year-in) (omega (arith, h)) in
-      let back : daysEarlier k m.date ≡ n.date = ap (daysEarlier k) (sym days) ∙ earlier-later k n.date w.dated in
-      ap (λ (z : ℤ). fromMidnight z m) minutes ∙ earlier-of k U (minute-below n w) m ∙ ap (λ d. clockAt m d U) back ∙ set-as
+      let back : days_earlier k m.date ≡ n.date = ap (days_earlier k) (sym days) ∙ earlier-later k n.date w.dated in
+      ap (λ (z : ℤ). from_midnight z m) minutes ∙ earlier-of k U (minute-below n w) m ∙ ap (λ d. clock_at m d U) back ∙ set-as
 
   reached : shifted s m ≡ some n
   reached = go (leb D E) refl
     where
       lands : moved s m ≡ n → shifted s m ≡ some n
-      lands same = shifted_in s m (ap (λ (x : Moment). inYears x.date.year) same ∙ w.year-in) ∙ ap some same
+      lands same = shifted_in s m (ap (λ (x : Moment). in_years x.date.year) same ∙ w.year-in) ∙ ap some same
 
       go : (b : Bool) → leb D E ≡ b → shifted s m ≡ some n
       go true e = lands (reach-later (leb-true D E e))
@@ -130,16 +130,16 @@ shifts-return =
       stays = λ m e.
           let v = valid-facts m e in
           let same = moved-zero m v in
-          shifted_in (pos 0) m (ap (λ (n : Moment). inYears n.date.year) same ∙ v.year-in) ∙ ap some same;
+          shifted_in (pos 0) m (ap (λ (n : Moment). in_years n.date.year) same ∙ v.year-in) ∙ ap some same;
       leads = λ s m n e h.
           let v = valid-facts m e in
           let is = shifted-is s m n h in
-          let back = back_by m v s (pos (minuteOfDay m) +ℤ s) refl is.0 in
+          let back = back_by m v s (pos (minute_of_day m) +ℤ s) refl is.0 in
           record {
-            valid = rw (← is.1) (valid-by (moved s m) (moved-valid m v (pos (minuteOfDay m) +ℤ s) is.0));
-            exact = rw (← is.1) (exact-by m v s (pos (minuteOfDay m) +ℤ s) refl is.0);
-            seconds = rw (← is.1) (moved-second m v (pos (minuteOfDay m) +ℤ s));
-            back = rw (← is.1) (shifted_in (neg_ℤ s) (moved s m) (ap (λ (n : Moment). inYears n.date.year) back ∙ v.year-in) ∙ ap some back);
+            valid = rw (← is.1) (valid-by (moved s m) (moved-valid m v (pos (minute_of_day m) +ℤ s) is.0));
+            exact = rw (← is.1) (exact-by m v s (pos (minute_of_day m) +ℤ s) refl is.0);
+            seconds = rw (← is.1) (moved-second m v (pos (minute_of_day m) +ℤ s));
+            back = rw (← is.1) (shifted_in (neg_ℤ s) (moved s m) (ap (λ (n : Moment). in_years n.date.year) back ∙ v.year-in) ∙ ap some back);
           };
       reaches = λ s m n e f same sum. reached s m n (valid-facts m e) (valid-facts n f) same sum;
     }

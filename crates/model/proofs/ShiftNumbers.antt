@@ -1,10 +1,10 @@
 -- The numbers of the shifting rule, computed from the definitions.
 use mathlib.Core.Path.{refl}
-use Rattle.model.specs.Calendar.{daysEarlier, daysLater, fromMidnight, shifted}
+use Rattle.model.specs.Calendar.{days_earlier, days_later, from_midnight, shifted}
 use Rattle.model.specs.Shifts.{ShiftNumbers}
 
 pub shift-numbers : ShiftNumbers
-unfolding shifted fromMidnight daysLater daysEarlier
+unfolding shifted from_midnight days_later days_earlier
 shift-numbers =
     record {
       stays = refl;

@@ -10,8 +10,8 @@ use lib.IntN.{◌+ℤ◌, negsuc, neg_ℤ, pos, sub_ℕ, ℤ}
 use lib.Signed.{mag, non_neg}
 use Rattle.model.specs.declared.Date.{Date}
 use Rattle.model.specs.declared.Moment.{Moment}
-use Rattle.model.specs.Time.{daysIn, inYears, validDate, validMoment}
-use Rattle.model.specs.Calendar.{clockAt, daysEarlier, daysLater, fromMidnight, minuteOfDay, moved, shifted}
+use Rattle.model.specs.Time.{days_in, in_years, valid_date, valid_moment}
+use Rattle.model.specs.Calendar.{clock_at, days_earlier, days_later, from_midnight, minute_of_day, moved, shifted}
 use Rattle.model.proofs.Calendar.{Dated, dated-earlier, dated-later, earlier-later, later-earlier}
 use Rattle.model.proofs.Chains.{cond-ok}
 use Rattle.model.proofs.Equality.{and_l, and_r, tf}
@@ -24,23 +24,23 @@ pub record Valid (m : Moment) : Type 0 where
   pub minute-to : m.minute ≤ 59
   pub hour-to : m.hour ≤ 23
   pub dated : Dated m.date
-  pub year-in : inYears m.date.year ≡ true
+  pub year-in : in_years m.date.year ≡ true
 
-pub date-facts : (d : Date) → validDate d ≡ true → Dated d × (inYears d.year ≡ true)
+pub date-facts : (d : Date) → valid_date d ≡ true → Dated d × (in_years d.year ≡ true)
 date-facts d e =
     let past_first = and_r (leb 1 d.month) _ e in
     let past-month = and_r (leb d.month 12) _ past_first in
-    let past-year = and_r (inYears d.year) _ past-month in (
+    let past-year = and_r (in_years d.year) _ past-month in (
       record {
         month-from = leb-true 1 d.month (and_l (leb 1 d.month) _ e);
         month-to = leb-true d.month 12 (and_l (leb d.month 12) _ past_first);
         day-from = leb-true 1 d.day (and_l (leb 1 d.day) _ past-year);
-        day-to = leb-true d.day (daysIn d.year d.month) (and_r (leb 1 d.day) _ past-year);
+        day-to = leb-true d.day (days_in d.year d.month) (and_r (leb 1 d.day) _ past-year);
       },
-      and_l (inYears d.year) _ past-month,
+      and_l (in_years d.year) _ past-month,
     )
 
-pub valid-facts : (m : Moment) → validMoment m ≡ true → Valid m
+pub valid-facts : (m : Moment) → valid_moment m ≡ true → Valid m
 valid-facts m e =
     let past-second = and_r (leb m.second 59) _ e in
     let past-minute = and_r (leb m.minute 59) _ past-second in
@@ -53,27 +53,27 @@ valid-facts m e =
       year-in = date.1;
     }
 
-pub valid-by : (m : Moment) → Valid m → validMoment m ≡ true
+pub valid-by : (m : Moment) → Valid m → valid_moment m ≡ true
 valid-by m v =
-    rw (le-leb m.second 59 v.second-to, le-leb m.minute 59 v.minute-to, le-leb m.hour 23 v.hour-to, le-leb 1 m.date.month v.dated.month-from, le-leb m.date.month 12 v.dated.month-to, v.year-in, le-leb 1 m.date.day v.dated.day-from, le-leb m.date.day (daysIn m.date.year m.date.month) v.dated.day-to)
+    rw (le-leb m.second 59 v.second-to, le-leb m.minute 59 v.minute-to, le-leb m.hour 23 v.hour-to, le-leb 1 m.date.month v.dated.month-from, le-leb m.date.month 12 v.dated.month-to, v.year-in, le-leb 1 m.date.day v.dated.day-from, le-leb m.date.day (days_in m.date.year m.date.month) v.dated.day-to)
 
-pub year-from : (year : ℕ) → inYears year ≡ true → 1980 ≤ year
+pub year-from : (year : ℕ) → in_years year ≡ true → 1980 ≤ year
 year-from year e = leb-true 1980 year (and_l (leb 1980 year) (leb year 9999) e)
 
 -- ---- the clock
 
-pub minute-below : (m : Moment) → Valid m → minuteOfDay m < 1440
+pub minute-below : (m : Moment) → Valid m → minute_of_day m < 1440
 minute-below m v = omega (arith, v.minute-to, v.hour-to)
 
 -- the minute of the day that a clock shows is the one it was set to
-clock-shows : (m : Moment) (d : Date) (n : ℕ) → minuteOfDay (clockAt m d n) ≡ n
+clock-shows : (m : Moment) (d : Date) (n : ℕ) → minute_of_day (clock_at m d n) ≡ n
 clock-shows m d n = omega arith
 
 -- a clock set to what it shows
-pub clock-same : (m : Moment) → Valid m → clockAt m m.date (minuteOfDay m) ≡ m
+pub clock-same : (m : Moment) → Valid m → clock_at m m.date (minute_of_day m) ≡ m
 clock-same m v =
-    let hours : minuteOfDay m / 60 ≡ m.hour = omega (arith, v.minute-to) in
-    let minutes : minuteOfDay m % 60 ≡ m.minute = omega (arith, v.minute-to) in
+    let hours : minute_of_day m / 60 ≡ m.hour = omega (arith, v.minute-to) in
+    let minutes : minute_of_day m % 60 ≡ m.minute = omega (arith, v.minute-to) in
     rw (hours, minutes)
 
 -- ---- differences
@@ -103,15 +103,15 @@ less_by a (suc j) = refl
 -- ---- so many days and a minute
 
 module _ (q t : ℕ) (below : t < 1440) (m : Moment) where
-  pub later_of : fromMidnight (pos (t + q * 1440)) m ≡ clockAt m (daysLater q m.date) t
-  unfolding fromMidnight
+  pub later_of : from_midnight (pos (t + q * 1440)) m ≡ clock_at m (days_later q m.date) t
+  unfolding from_midnight
   later_of =
       let days : (t + q * 1440) / 1440 ≡ q = omega (arith, below) in
       let minute : (t + q * 1440) % 1440 ≡ t = omega (arith, below) in
       rw (days, minute)
 
-pub earlier-of : (q t : ℕ) → t < 1440 → (m : Moment) → fromMidnight (sub_ℕ t (q * 1440)) m ≡ clockAt m (daysEarlier q m.date) t
-unfolding fromMidnight daysEarlier daysLater
+pub earlier-of : (q t : ℕ) → t < 1440 → (m : Moment) → from_midnight (sub_ℕ t (q * 1440)) m ≡ clock_at m (days_earlier q m.date) t
+unfolding from_midnight days_earlier days_later
 earlier-of zero t below m =
     let days : (t - 0) / 1440 ≡ 0 = omega (arith, below) in
     let minute : (t - 0) % 1440 ≡ t = omega (arith, below) in
@@ -164,10 +164,10 @@ module _ (t k : ℕ) (s : ℤ) where
 
 module _ (m : Moment) (v : Valid m) where
   abbrev T : ℕ
-  T = minuteOfDay m
+  T = minute_of_day m
 
   pub moved-zero : moved (pos 0) m ≡ m
-  unfolding fromMidnight daysLater
+  unfolding from_midnight days_later
   moved-zero =
       let below = minute-below m v in
       let days : (T + 0) / 1440 ≡ 0 = omega (arith, below) in
@@ -175,39 +175,39 @@ module _ (m : Moment) (v : Valid m) where
       rw (days, minute) (clock-same m v)
 
   -- from a later day back, and from an earlier one
-  from-later : (q r : ℕ) (z : ℤ) → z ≡ sub_ℕ T (q * 1440) → fromMidnight z (clockAt m (daysLater q m.date) r) ≡ m
+  from-later : (q r : ℕ) (z : ℤ) → z ≡ sub_ℕ T (q * 1440) → from_midnight z (clock_at m (days_later q m.date) r) ≡ m
   from-later q r z e =
-      rw e (earlier-of q T (minute-below m v) (clockAt m (daysLater q m.date) r) ∙ ap (λ d. clockAt m d T) (earlier-later q m.date v.dated) ∙ clock-same m v)
+      rw e (earlier-of q T (minute-below m v) (clock_at m (days_later q m.date) r) ∙ ap (λ d. clock_at m d T) (earlier-later q m.date v.dated) ∙ clock-same m v)
 
-  from-earlier : (q r : ℕ) (z : ℤ) → z ≡ pos (T + q * 1440) → 1 ≤ (daysEarlier q m.date).year → fromMidnight z (clockAt m (daysEarlier q m.date) r) ≡ m
+  from-earlier : (q r : ℕ) (z : ℤ) → z ≡ pos (T + q * 1440) → 1 ≤ (days_earlier q m.date).year → from_midnight z (clock_at m (days_earlier q m.date) r) ≡ m
   from-earlier q r z e from =
-      rw e (later_of q T (minute-below m v) (clockAt m (daysEarlier q m.date) r) ∙ ap (λ d. clockAt m d T) (later-earlier q m.date v.dated from) ∙ clock-same m v)
+      rw e (later_of q T (minute-below m v) (clock_at m (days_earlier q m.date) r) ∙ ap (λ d. clock_at m d T) (later-earlier q m.date v.dated from) ∙ clock-same m v)
 
-  pub back_by : (s z : ℤ) → z ≡ pos T +ℤ s → inYears (fromMidnight z m).date.year ≡ true
-      → fromMidnight (pos (minuteOfDay (fromMidnight z m)) +ℤ neg_ℤ s) (fromMidnight z m) ≡ m
-  unfolding fromMidnight
+  pub back_by : (s z : ℤ) → z ≡ pos T +ℤ s → in_years (from_midnight z m).date.year ≡ true
+      → from_midnight (pos (minute_of_day (from_midnight z m)) +ℤ neg_ℤ s) (from_midnight z m) ≡ m
+  unfolding from_midnight
   back_by s (pos k) e i =
       from-later (k / 1440) (k % 1440) _ (ap (λ (n : ℕ). pos n +ℤ neg_ℤ s) (clock-shows m m.date (k % 1440)) ∙ back-later T k s e)
   back_by s (negsuc k) e i =
-      from-earlier (k / 1440 + 1) (1439 - k % 1440) _ (ap (λ (n : ℕ). pos n +ℤ neg_ℤ s) (clock-shows m m.date (1439 - k % 1440)) ∙ back_earlier T k s e) (omega (arith, year-from (daysEarlier (k / 1440 + 1) m.date).year i))
+      from-earlier (k / 1440 + 1) (1439 - k % 1440) _ (ap (λ (n : ℕ). pos n +ℤ neg_ℤ s) (clock-shows m m.date (1439 - k % 1440)) ∙ back_earlier T k s e) (omega (arith, year-from (days_earlier (k / 1440 + 1) m.date).year i))
 
-  pub moved-valid : (z : ℤ) → inYears (fromMidnight z m).date.year ≡ true → Valid (fromMidnight z m)
-  unfolding fromMidnight
+  pub moved-valid : (z : ℤ) → in_years (from_midnight z m).date.year ≡ true → Valid (from_midnight z m)
+  unfolding from_midnight
   moved-valid (pos k) i =
       record { second-to = v.second-to; minute-to = omega arith; hour-to = omega arith; dated = dated-later (k / 1440) m.date v.dated; year-in = i }
   moved-valid (negsuc k) i =
       record { second-to = v.second-to; minute-to = omega arith; hour-to = omega arith; dated = dated-earlier (k / 1440 + 1) m.date v.dated; year-in = i }
 
-  pub moved-second : (z : ℤ) → (fromMidnight z m).second ≡ m.second
-  unfolding fromMidnight
+  pub moved-second : (z : ℤ) → (from_midnight z m).second ≡ m.second
+  unfolding from_midnight
   moved-second (pos k) = refl
   moved-second (negsuc k) = refl
 
 -- what a shift that stays in the years gives
-pub shifted_in : (s : ℤ) (m : Moment) → inYears (moved s m).date.year ≡ true → shifted s m ≡ some (moved s m)
+pub shifted_in : (s : ℤ) (m : Moment) → in_years (moved s m).date.year ≡ true → shifted s m ≡ some (moved s m)
 unfolding shifted
 shifted_in s m i = rw i
 
-pub shifted-is : (s : ℤ) (m n : Moment) → shifted s m ≡ some n → (inYears (moved s m).date.year ≡ true) × (moved s m ≡ n)
+pub shifted-is : (s : ℤ) (m n : Moment) → shifted s m ≡ some n → (in_years (moved s m).date.year ≡ true) × (moved s m ≡ n)
 unfolding shifted
-shifted-is s m n e = let z = cond-ok (inYears (moved s m).date.year) (some (moved s m)) n e in (z.0, some_inj z.1)
+shifted-is s m n e = let z = cond-ok (in_years (moved s m).date.year) (some (moved s m)) n e in (z.0, some_inj z.1)

@@ -6,13 +6,13 @@ use mathlib.Core.Path.{◌∙◌, ◌≡◌, ap, refl, sym}
 use native.Mathlib.Omega.{arith}
 use lib.ListN.{drop, length, set, take}
 use lib.Seq.{drop_at, drop-set-add, drop-set-lt, length-take-le, sets, sets-eq, take_at, take-set-le}
-use Rattle.model.specs.Bytes.{little, littleBytes, slice}
+use Rattle.model.specs.Bytes.{little, little_bytes, slice}
 
-pub length-bytes : (w v : ℕ) → length (littleBytes w v) ≡ w
+pub length-bytes : (w v : ℕ) → length (little_bytes w v) ≡ w
 length-bytes zero v = refl
 length-bytes (suc w) v = ap suc (length-bytes w (v / 256))
 
-pub little-bytes : (w v : ℕ) → v < 256 ^ w → little (littleBytes w v) ≡ v
+pub little-bytes : (w v : ℕ) → v < 256 ^ w → little (little_bytes w v) ≡ v
 little-bytes zero v h = omega arith
 little-bytes (suc w) v h = let i = little-bytes w (v / 256) (omega arith) in omega arith
 

@@ -11,9 +11,9 @@ little [] = 0
 little (b ∷ bs) = b % 256 + 256 * little bs
 
 -- the bytes of a number, as many as its field has
-abbrev pub littleBytes : ℕ → ℕ → List ℕ
-littleBytes zero n = []
-littleBytes (suc width) n = (n % 256) ∷ littleBytes width (n / 256)
+abbrev pub little_bytes : ℕ → ℕ → List ℕ
+little_bytes zero n = []
+little_bytes (suc width) n = (n % 256) ∷ little_bytes width (n / 256)
 
 abbrev pub half : List ℕ → ℕ → ℕ
 half bytes from = little (slice bytes from 2)
@@ -22,13 +22,13 @@ abbrev pub word : List ℕ → ℕ → ℕ
 word bytes from = little (slice bytes from 4)
 
 -- what a word tells is below 2^32, and the pages of the clusters that words can name are below 2^33
-abbrev pub wordLimit : ℕ
-wordLimit = 4294967296
+abbrev pub word_limit : ℕ
+word_limit = 4294967296
 
-abbrev pub pageLimit : ℕ
-pageLimit = 8589934592
+abbrev pub page_limit : ℕ
+page_limit = 8589934592
 
 -- what stands before the first zero
-abbrev pub beforeZero : List ℕ → List ℕ
-beforeZero [] = []
-beforeZero (b ∷ bs) = cond (eqb b 0) [] (b ∷ beforeZero bs)
+abbrev pub before_zero : List ℕ → List ℕ
+before_zero [] = []
+before_zero (b ∷ bs) = cond (eqb b 0) [] (b ∷ before_zero bs)

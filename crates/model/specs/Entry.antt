@@ -9,71 +9,71 @@
 --   0x20 word  attribute
 --   0x40 32    name, ending at its first zero
 use Rattle.std.specs.Prelude.{◌%◌, ◌+◌, ◌/◌, ℕ, Bool, ◌&&◌, ◌||◌, not, List, eqb, leb, ltb, length}
-use Rattle.model.specs.Bytes.{beforeZero, half, slice, word}
-use Rattle.model.specs.Names.{Name, dotName, goodName, same_name}
+use Rattle.model.specs.Bytes.{before_zero, half, slice, word}
+use Rattle.model.specs.Names.{Name, dot_name, good_name, same_name}
 
 pub record Entry : Type 0 where
   pub mode : ℕ
   pub length : ℕ
   pub created : List ℕ
-  pub firstCluster : ℕ
-  pub dirEntry : ℕ
+  pub first_cluster : ℕ
+  pub dir_entry : ℕ
   pub modified : List ℕ
   pub attribute : ℕ
-  pub nameField : List ℕ
+  pub name_field : List ℕ
   pub name : Name
 
-abbrev pub entryOf : List ℕ → Entry
-entryOf page =
+abbrev pub entry_of : List ℕ → Entry
+entry_of page =
     record {
       mode = half page 0x00;
       length = word page 0x04;
       created = slice page 0x08 8;
-      firstCluster = word page 0x10;
-      dirEntry = word page 0x14;
+      first_cluster = word page 0x10;
+      dir_entry = word page 0x14;
       modified = slice page 0x18 8;
       attribute = word page 0x20;
-      nameField = slice page 0x40 32;
-      name = beforeZero (slice page 0x40 32);
+      name_field = slice page 0x40 32;
+      name = before_zero (slice page 0x40 32);
     }
 
 -- a word that names no cluster: the first cluster of an empty file, and the end mark of a chain
-abbrev pub endMark : ℕ
-endMark = 0xFFFFFFFF
+abbrev pub end_mark : ℕ
+end_mark = 0xFFFFFFFF
 
 -- the mode has this bit
-abbrev pub hasBit : ℕ → ℕ → Bool
-hasBit mode bit = eqb (mode / bit % 2) 1
+abbrev pub has_bit : ℕ → ℕ → Bool
+has_bit mode bit = eqb (mode / bit % 2) 1
 
 -- the entry lacks the write bit: the file or directory that it stands for is locked
-abbrev pub isLocked : ℕ → Bool
-isLocked mode = not (hasBit mode 0x0002)
+abbrev pub is_locked : ℕ → Bool
+is_locked mode = not (has_bit mode 0x0002)
 
 -- an entry without 0x8000 is dead
-abbrev pub isLive : Entry → Bool
-isLive e = hasBit e.mode 0x8000
+abbrev pub is_live : Entry → Bool
+is_live e = has_bit e.mode 0x8000
 
 -- A live file: not a directory too, named by the rule; with length 0 its first cluster is 0xFFFFFFFF.
-abbrev pub isFile : Entry → Bool
-isFile e = isLive e && hasBit e.mode 0x10 && not (hasBit e.mode 0x20) && goodName e.name && (ltb 0 e.length || eqb e.firstCluster endMark)
+abbrev pub is_file : Entry → Bool
+is_file e = is_live e && has_bit e.mode 0x10 && not (has_bit e.mode 0x20) && good_name e.name && (ltb 0 e.length || eqb e.first_cluster end_mark)
 
-abbrev pub isDirectory : Entry → Bool
-isDirectory e = isLive e && hasBit e.mode 0x20 && not (hasBit e.mode 0x10)
+abbrev pub is_directory : Entry → Bool
+is_directory e = is_live e && has_bit e.mode 0x20 && not (has_bit e.mode 0x10)
 
 -- a directory from slot 2 on: named by the rule, and of length at least 2
-abbrev pub isSubdirectory : Entry → Bool
-isSubdirectory e = isDirectory e && goodName e.name && leb 2 e.length
+abbrev pub is_subdirectory : Entry → Bool
+is_subdirectory e = is_directory e && good_name e.name && leb 2 e.length
 
 -- the root's own first entry, named `.`
-abbrev pub isRoot : Entry → Bool
-isRoot e = isDirectory e && same_name e.name dotName && leb 2 e.length
+abbrev pub is_root : Entry → Bool
+is_root e = is_directory e && same_name e.name dot_name && leb 2 e.length
 
 -- A file needs length/1,024 clusters rounded up, a directory length/2.
-abbrev pub clustersFor : ℕ → ℕ
-clustersFor bytes = (bytes + 1023) / 1024
+abbrev pub clusters_for : ℕ → ℕ
+clusters_for bytes = (bytes + 1023) / 1024
 
-abbrev pub fileClusters : Entry → ℕ
-fileClusters e = clustersFor e.length
+abbrev pub file_clusters : Entry → ℕ
+file_clusters e = clusters_for e.length
 
-abbrev pub directoryClusters : Entry → ℕ
-directoryClusters e = (e.length + 1) / 2
+abbrev pub directory_clusters : Entry → ℕ
+directory_clusters e = (e.length + 1) / 2

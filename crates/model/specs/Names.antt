@@ -19,8 +19,8 @@ module _ {A : Type 0} (same : A → A → Bool) where
 abbrev pub same_name : Name → Name → Bool
 same_name = same_list eqb
 
-abbrev pub samePath : Path → Path → Bool
-samePath = same_list same_name
+abbrev pub same_path : Path → Path → Bool
+same_path = same_list same_name
 
 -- A path is a beginning of another if its names are, in order, the other's first ones.
 abbrev pub beginning : Path → Path → Bool
@@ -34,31 +34,31 @@ parent [] = []
 parent (a ∷ []) = []
 parent (a ∷ b ∷ p) = a ∷ parent (b ∷ p)
 
-abbrev pub lastName : Path → Name
-lastName [] = []
-lastName (n ∷ []) = n
-lastName (n ∷ m ∷ p) = lastName (m ∷ p)
+abbrev pub last_name : Path → Name
+last_name [] = []
+last_name (n ∷ []) = n
+last_name (n ∷ m ∷ p) = last_name (m ∷ p)
 
 -- `.` and `..`
-abbrev pub dotName : Name
-dotName = 0x2E ∷ []
+abbrev pub dot_name : Name
+dot_name = 0x2E ∷ []
 
-abbrev pub dotDotName : Name
-dotDotName = 0x2E ∷ 0x2E ∷ []
+abbrev pub dot_dot_name : Name
+dot_dot_name = 0x2E ∷ 0x2E ∷ []
 
 -- bytes 0x20 to 0x7E without `*`, `/`, `?`
-abbrev pub legalBytes : List ℕ → Bool
-legalBytes [] = true
-legalBytes (b ∷ s) = leb 0x20 b && leb b 0x7E && not (eqb b 0x2A || eqb b 0x2F || eqb b 0x3F) && legalBytes s
+abbrev pub legal_bytes : List ℕ → Bool
+legal_bytes [] = true
+legal_bytes (b ∷ s) = leb 0x20 b && leb b 0x7E && not (eqb b 0x2A || eqb b 0x2F || eqb b 0x3F) && legal_bytes s
 
 -- 1 to 31 legal bytes, neither `.` nor `..`
-abbrev pub goodName : Name → Bool
-goodName n = ltb 0 (length n) && ltb (length n) 32 && legalBytes n && not (same_name n dotName) && not (same_name n dotDotName)
+abbrev pub good_name : Name → Bool
+good_name n = ltb 0 (length n) && ltb (length n) 32 && legal_bytes n && not (same_name n dot_name) && not (same_name n dot_dot_name)
 
-abbrev pub goodNames : Path → Bool
-goodNames [] = true
-goodNames (n ∷ p) = goodName n && goodNames p
+abbrev pub good_names : Path → Bool
+good_names [] = true
+good_names (n ∷ p) = good_name n && good_names p
 
 -- one to `most` names, each by the name rule
-abbrev pub goodPath : ℕ → Path → Bool
-goodPath most p = ltb 0 (length p) && leb (length p) most && goodNames p
+abbrev pub good_path : ℕ → Path → Bool
+good_path most p = ltb 0 (length p) && leb (length p) most && good_names p

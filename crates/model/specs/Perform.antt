@@ -2,7 +2,7 @@
 use Rattle.std.specs.Prelude.{suc, zero, ℕ}
 use Rattle.std.proofs.Math.Option.{Option, none, some}
 use Rattle.model.specs.Change.{Change, Rules}
-use Rattle.model.specs.Check.{Marks, Result, checkTree, fault, ok}
+use Rattle.model.specs.Check.{Marks, Result, check_tree, fault, ok}
 use Rattle.model.specs.Plan.{Plan, after, plan_of}
 use Rattle.model.specs.Refusal.{refusal}
 use Rattle.model.specs.Tree.{Root}
@@ -21,9 +21,9 @@ abbrev pub decide : ℕ → Answer → Answer
 decide zero a = a
 decide (suc n) a = refused (suc n) 0
 
-abbrev pub performOn : Rules → Change → View → Result (Root × Marks) → Answer
-performOn y c v (fault n p) = refused n p
-performOn y c v (ok x) = decide (refusal y c v x.0) (write v (plan_of y c v x.0))
+abbrev pub perform_on : Rules → Change → View → Result (Root × Marks) → Answer
+perform_on y c v (fault n p) = refused n p
+perform_on y c v (ok x) = decide (refusal y c v x.0) (write v (plan_of y c v x.0))
 
 unfoldable pub perform : Rules → Change → View → Answer
-perform y c v = performOn y c v (checkTree v)
+perform y c v = perform_on y c v (check_tree v)

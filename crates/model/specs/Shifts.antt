@@ -3,42 +3,42 @@ use Rattle.std.specs.Prelude.{◌*◌, ◌+◌, ◌-◌, suc, zero, ℕ, true, L
 use Rattle.std.proofs.Math.Option.{none, some}
 use Rattle.model.specs.declared.Date.{Date}
 use Rattle.model.specs.declared.Moment.{Moment}
-use Rattle.model.specs.Time.{isLeap, monthDays, validMoment}
-use Rattle.model.specs.Calendar.{minuteOfDay, shifted}
-use Rattle.model.specs.Needed.{totalOver}
+use Rattle.model.specs.Time.{is_leap, month_days, valid_moment}
+use Rattle.model.specs.Calendar.{minute_of_day, shifted}
+use Rattle.model.specs.Needed.{total_over}
 
 -- ---- minutes since 1980 began: a second way through the calendar, by whole years and months
 
 -- the days of these months
-abbrev pub daysOf : List ℕ → ℕ
-daysOf months = totalOver (λ days. days) months
+abbrev pub days_of : List ℕ → ℕ
+days_of months = total_over (λ days. days) months
 
 -- the days of the first so many years
-unfoldable pub daysOfYears : ℕ → ℕ
-daysOfYears zero = 0
-daysOfYears (suc k) = daysOfYears k + daysOf (monthDays (isLeap (1980 + k)))
+unfoldable pub days_of_years : ℕ → ℕ
+days_of_years zero = 0
+days_of_years (suc k) = days_of_years k + days_of (month_days (is_leap (1980 + k)))
 
-abbrev pub dayNumber : Date → ℕ
-dayNumber d = daysOfYears (d.year - 1980) + daysOf (take (d.month - 1) (monthDays (isLeap d.year))) + (d.day - 1)
+abbrev pub day_number : Date → ℕ
+day_number d = days_of_years (d.year - 1980) + days_of (take (d.month - 1) (month_days (is_leap d.year))) + (d.day - 1)
 
-abbrev pub minuteNumber : Moment → ℕ
-minuteNumber m = dayNumber m.date * 1440 + minuteOfDay m
+abbrev pub minute_number : Moment → ℕ
+minute_number m = day_number m.date * 1440 + minute_of_day m
 
 -- ---- the claims
 
 -- where a shift of a valid time leads to another
 pub record ShiftLeads (minutes : ℤ) (m n : Moment) : Type 0 where
-  pub valid : validMoment n ≡ true
-  pub exact : pos (minuteNumber n) ≡ pos (minuteNumber m) +ℤ minutes
+  pub valid : valid_moment n ≡ true
+  pub exact : pos (minute_number n) ≡ pos (minute_number m) +ℤ minutes
   pub seconds : n.second ≡ m.second
   pub back : shifted (neg_ℤ minutes) n ≡ some m
 
 -- A shift of 0 stays; one that leads somewhere leads exactly there; and one leads to every valid time that lies so many minutes away.
 pub record ShiftsReturn : Type 0 where
-  pub stays : (m : Moment) → validMoment m ≡ true → shifted (pos 0) m ≡ some m
-  pub leads : (minutes : ℤ) (m n : Moment) → validMoment m ≡ true → shifted minutes m ≡ some n → ShiftLeads minutes m n
-  pub reaches : (minutes : ℤ) (m n : Moment) → validMoment m ≡ true → validMoment n ≡ true → n.second ≡ m.second
-      → pos (minuteNumber n) ≡ pos (minuteNumber m) +ℤ minutes → shifted minutes m ≡ some n
+  pub stays : (m : Moment) → valid_moment m ≡ true → shifted (pos 0) m ≡ some m
+  pub leads : (minutes : ℤ) (m n : Moment) → valid_moment m ≡ true → shifted minutes m ≡ some n → ShiftLeads minutes m n
+  pub reaches : (minutes : ℤ) (m n : Moment) → valid_moment m ≡ true → valid_moment n ≡ true → n.second ≡ m.second
+      → pos (minute_number n) ≡ pos (minute_number m) +ℤ minutes → shifted minutes m ≡ some n
 
 -- ---- numbers to meet: both ends of the allowed shifts, at ends of months, years and the calendar
 

@@ -1,11 +1,11 @@
 -- What the file system sees of a card: pages as read, the entries in them, and the allocation table as links.
 use Rattle.std.specs.Prelude.{◌*◌, ◌+◌, ◌-◌, ℕ, cond, List, [], ◌∷◌, eqb, ltb}
 use Rattle.std.proofs.Math.Option.{Option}
-use Rattle.model.specs.Entry.{Entry, endMark}
+use Rattle.model.specs.Entry.{Entry, end_mark}
 
 -- the largest N; alloc_end is at most N
-abbrev pub mostClusters : ℕ
-mostClusters = 65536
+abbrev pub most_clusters : ℕ
+most_clusters = 65536
 
 -- An allocation table word: free, the end of a chain, or the next cluster.
 pub data Link : Type 0 where
@@ -18,7 +18,7 @@ top_bit = 0x80000000
 
 -- Top bit clear: free. 0xFFFFFFFF: the end. Otherwise the low 31 bits are the next cluster.
 abbrev pub link_of : ℕ → Link
-link_of w = cond (ltb w top_bit) Link.free (cond (eqb w endMark) Link.last (Link.next (w - top_bit)))
+link_of w = cond (ltb w top_bit) Link.free (cond (eqb w end_mark) Link.last (Link.next (w - top_bit)))
 
 -- Pages are counted from the first allocatable cluster: cluster c has the pages 2c and 2c + 1.
 -- A page is its data as read, or nothing where it is unreadable. From alloc_end on a cluster counts as free, so that no chain is sound there.
@@ -28,10 +28,10 @@ pub record View : Type 0 where
   pub link : ℕ → Link
 
 -- the link that an entry's first cluster is; the word is not masked
-abbrev pub firstLink : Entry → Link
-firstLink e = cond (eqb e.firstCluster endMark) Link.last (Link.next e.firstCluster)
+abbrev pub first_link : Entry → Link
+first_link e = cond (eqb e.first_cluster end_mark) Link.last (Link.next e.first_cluster)
 
 -- the pages of a chain, in order
-abbrev pub pagesOf : List ℕ → List ℕ
-pagesOf [] = []
-pagesOf (c ∷ cs) = (2 * c) ∷ (2 * c + 1) ∷ pagesOf cs
+abbrev pub pages_of : List ℕ → List ℕ
+pages_of [] = []
+pages_of (c ∷ cs) = (2 * c) ∷ (2 * c + 1) ∷ pages_of cs

@@ -8,17 +8,17 @@ use Rattle.ecc.specs.declared.FourVerdicts.{FourVerdicts}
 use Rattle.ecc.specs.declared.Verdict.{Verdict}
 use Rattle.ecc.specs.declared.Verdict.TheVariants.{Good, DataBit, CodeBit, Unreadable}
 use Rattle.ecc.specs.Code.{code_of}
-use Rattle.ecc.specs.Four.{code_at, judgeFour}
-use Rattle.ecc.specs.Judge.{judge, judgeSlice, corrected}
+use Rattle.ecc.specs.Four.{code_at, judge_four}
+use Rattle.ecc.specs.Judge.{judge, judge_slice, corrected}
 use Rattle.ecc.proofs.Codes.{code-path}
 use Rattle.ecc.proofs.Laws.{Placed as PlacedIn, judge-placed, slice_chunk}
-use Rattle.page.specs.Page.{part, chunk_of, storedCode, verdictOf, verdictsOf, Placed, freshCode, codeBytes}
+use Rattle.page.specs.Page.{part, chunk_of, stored_code, verdict_of, verdicts_of, Placed, fresh_code, code_bytes}
 use Rattle.page.proofs.Lists.{length_part, lent-part, get_d_part, set-bytes}
 
 -- ---- laws of judging
-pub placed : (page : List ℕ) (k : ℕ) → Placed (verdictOf page k)
-unfolding verdictOf
-placed page k = go (judge (chunk_of page k) (storedCode page k)) (judge-placed (chunk_of page k) (storedCode page k))
+pub placed : (page : List ℕ) (k : ℕ) → Placed (verdict_of page k)
+unfolding verdict_of
+placed page k = go (judge (chunk_of page k) (stored_code page k)) (judge-placed (chunk_of page k) (stored_code page k))
   where
     go : (v : Verdict) → PlacedIn v → Placed v
     go Good p = p
@@ -41,19 +41,19 @@ stored-byte : (page : List ℕ) (i : ℕ) {n : ℕ} → i < 12 → 512 + i ≡ n
 stored-byte page i h e = get_d_part page 512 12 i h ∙ ap (λ (n : ℕ). get_or page n 0) e
 
 -- the twelve code bytes have the code of each chunk
-stored-code : (page : List ℕ) (k : ℕ) → k < 4 → code_at (part page 512 12) k ≡ storedCode page k
+stored-code : (page : List ℕ) (k : ℕ) → k < 4 → code_at (part page 512 12) k ≡ stored_code page k
 stored-code page k h =
     code-path _ _ (stored-byte page (3 * k) (omega arith) refl) (stored-byte page (3 * k + 1) (omega arith) (omega arith))
     (stored-byte page (3 * k + 2) (omega arith) (omega arith))
 
-judged : (page : List ℕ) (k : ℕ) → length page ≡ 528 → k < 4 → judgeSlice (chunk_of page k) (code_at (part page 512 12) k) ≡ verdictOf page k
-unfolding verdictOf
+judged : (page : List ℕ) (k : ℕ) → length page ≡ 528 → k < 4 → judge_slice (chunk_of page k) (code_at (part page 512 12) k) ≡ verdict_of page k
+unfolding verdict_of
 judged page k h b =
-    ap (judgeSlice (chunk_of page k)) (stored-code page k b)
-    ∙ slice_chunk (chunk_of page k) (storedCode page k) (length_part page (128 * k) 128 (omega arith))
+    ap (judge_slice (chunk_of page k)) (stored-code page k b)
+    ∙ slice_chunk (chunk_of page k) (stored_code page k) (length_part page (128 * k) 128 (omega arith))
 
 pub judged-four : (page : List ℕ) {v : FourVerdicts} → length page ≡ 528
-    → v ≡ judgeFour (part page 0 128) (part page 128 128) (part page 256 128) (part page 384 128) (part page 512 12) → v ≡ verdictsOf page
+    → v ≡ judge_four (part page 0 128) (part page 128 128) (part page 256 128) (part page 384 128) (part page 512 12) → v ≡ verdicts_of page
 judged-four page h e = e ∙ λ i. record {
   chunk0 = judged page 0 h (omega arith) i;
   chunk1 = judged page 1 h (omega arith) i;
@@ -62,9 +62,9 @@ judged-four page h e = e ∙ λ i. record {
 }
 
 pub fresh : (bytes : List ℕ) (k : ℕ) {code : Code} → length bytes ≡ 512 → k < 4
-    → code ≡ code_of (take 128 (take (128 * k + 128 - 128 * k) (drop (128 * k) bytes))) → codeBytes code ≡ freshCode bytes k
-unfolding freshCode
+    → code ≡ code_of (take 128 (take (128 * k + 128 - 128 * k) (drop (128 * k) bytes))) → code_bytes code ≡ fresh_code bytes k
+unfolding fresh_code
 fresh bytes k h b e =
-    ap codeBytes
+    ap code_bytes
     (e ∙ ap (λ (chunk : List ℕ). code_of (take 128 chunk)) (lent-part bytes (128 * k) 128)
     ∙ ap code_of (take-take 128 128 (drop (128 * k) bytes) (omega arith)))

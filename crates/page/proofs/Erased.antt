@@ -4,7 +4,7 @@ use lib.ListN.{length-replicate, get_or-replicate}
 use Rattle.ecc.specs.declared.Verdict.TheVariants.{Good}
 use Rattle.ecc.proofs.Numbers.{all_ones}
 use Rattle.page.specs.declared.Format.TheVariants.{Raw}
-use Rattle.page.specs.Page.{pageStart, part, verdictOf}
+use Rattle.page.specs.Page.{page_start, part, verdict_of}
 use Rattle.page.specs.Twins.{CodesMatch}
 use Rattle.page.proofs.Formats.{inside-whole}
 use Rattle.page.proofs.Lists.{get_d_part}
@@ -17,8 +17,8 @@ ones-part n a m h =
     let low : i < m = omega (arith, simp (length-take, length-drop) at b, length-replicate {A = ℕ} n 0xFF) in
     get_d_part (replicate n 0xFF) a m i low ∙ get_or-replicate n (a + i) 0xFF 0 (omega arith) ∙ sym (get_or-replicate m i 0xFF 0 low))
 
-ones-good : (k : ℕ) → k < 4 → verdictOf (replicate 528 0xFF) k ≡ Good
-unfolding verdictOf
+ones-good : (k : ℕ) → k < 4 → verdict_of (replicate 528 0xFF) k ≡ Good
+unfolding verdict_of
 ones-good zero h = all_ones
 ones-good (suc zero) h = all_ones
 ones-good (suc (suc zero)) h = all_ones
@@ -28,4 +28,4 @@ ones-good (suc (suc (suc (suc k)))) h = absurd (omega arith)
 pub ones-codes : (n : ℕ) → CodesMatch (replicate n 0xFF)
 ones-codes n p k i h =
     let whole = inside-whole Raw (length (replicate n 0xFF)) p i in
-    ap (λ (page : List ℕ). verdictOf page k) (ones-part n (pageStart Raw p) 528 (omega (arith, length-replicate {A = ℕ} n 0xFF))) ∙ ones-good k h
+    ap (λ (page : List ℕ). verdict_of page k) (ones-part n (page_start Raw p) 528 (omega (arith, length-replicate {A = ℕ} n 0xFF))) ∙ ones-good k h

@@ -89,24 +89,24 @@ module _ (l : List ℕ) (a : ℕ) (s : List ℕ) (h : a + length s ≤ length l)
   pub put_same : part (put_at l a s) a (length s) ≡ s
   put_same = ap (take (length s)) (drop_at (take a l) (s ++ drop (a + length s) l) a front) ∙ take-append_seam s (drop (a + length s) l)
 
-  pub getD-put-left : (i : ℕ) → i < a → get_or (put_at l a s) i 0 ≡ get_or l i 0
-  getD-put-left i k = get_or-append (take a l) (s ++ drop (a + length s) l) 0 i (omega (arith, front)) ∙ get_or-take a l i 0 k
+  pub get_or-put-left : (i : ℕ) → i < a → get_or (put_at l a s) i 0 ≡ get_or l i 0
+  get_or-put-left i k = get_or-append (take a l) (s ++ drop (a + length s) l) 0 i (omega (arith, front)) ∙ get_or-take a l i 0 k
 
-  pub getD-put-right : (i : ℕ) → a + length s ≤ i → get_or (put_at l a s) i 0 ≡ get_or l i 0
-  getD-put-right i k =
+  pub get_or-put-right : (i : ℕ) → a + length s ≤ i → get_or (put_at l a s) i 0 ≡ get_or l i 0
+  get_or-put-right i k =
       let j = i - (a + length s) in
       let e : a + length s + j ≡ i = omega arith in
       ap (λ (n : ℕ). get_or (put_at l a s) n 0) (sym e) ∙ sym (get_or-drop (a + length s) (put_at l a s) j 0) ∙ ap (λ (t : List ℕ). get_or t j 0) after
       ∙ get_or-drop (a + length s) l j 0 ∙ ap (λ (n : ℕ). get_or l n 0) e
 
-  pub getD-put-in : (i : ℕ) → i < length s → get_or (put_at l a s) (a + i) 0 ≡ get_or s i 0
-  getD-put-in i k = sym (get_d_part (put_at l a s) a (length s) i k) ∙ ap (λ (t : List ℕ). get_or t i 0) put_same
+  pub get_or-put-in : (i : ℕ) → i < length s → get_or (put_at l a s) (a + i) 0 ≡ get_or s i 0
+  get_or-put-in i k = sym (get_d_part (put_at l a s) a (length s) i k) ∙ ap (λ (t : List ℕ). get_or t i 0) put_same
 
   pub part-put-apart : (b n : ℕ) → b + n ≤ length l → (b + n ≤ a) ⊎ (a + length s ≤ b) → part (put_at l a s) b n ≡ part l b n
   part-put-apart b n k side =
       part_same (put_at l a s) l b n length-put-at (omega (arith, length-put-at))
       (λ i x y.
-      ⊎_elim (λ (z : b + n ≤ a). getD-put-left i (omega arith)) (λ (z : a + length s ≤ b). getD-put-right i (omega arith)) side)
+      ⊎_elim (λ (z : b + n ≤ a). get_or-put-left i (omega arith)) (λ (z : a + length s ≤ b). get_or-put-right i (omega arith)) side)
 
 -- what stands right after the new bytes may be put with them
 pub put-with-next : (l : List ℕ) (a : ℕ) (s : List ℕ) (n : ℕ) → a + length s + n ≤ length l → put_at l a (s ++ part l (a + length s) n) ≡ put_at l a s
@@ -165,28 +165,28 @@ put-commute l a s b t h k =
     go i n m =
         ⊎_elim
         (λ (z : i < b).
-        getD-put-left (put_at l a s) b t (omega (arith, n)) i z
+        get_or-put-left (put_at l a s) b t (omega (arith, n)) i z
         ∙ ⊎_elim
-        (λ (w : i < a). getD-put-left l a s (omega arith) i w ∙ sym (getD-put-left (put_at l b t) a s (omega (arith, m)) i w ∙ getD-put-left l b t k i z))
+        (λ (w : i < a). get_or-put-left l a s (omega arith) i w ∙ sym (get_or-put-left (put_at l b t) a s (omega (arith, m)) i w ∙ get_or-put-left l b t k i z))
         (λ (w : a ≤ i).
         ⊎_elim
         (λ (v : i - a < length s).
         let e : a + (i - a) ≡ i = omega arith in
-        ap (λ (j : ℕ). get_or (put_at l a s) j 0) (sym e) ∙ getD-put-in l a s (omega arith) (i - a) v
-        ∙ sym (ap (λ (j : ℕ). get_or (put_at (put_at l b t) a s) j 0) (sym e) ∙ getD-put-in (put_at l b t) a s (omega (arith, m)) (i - a) v))
+        ap (λ (j : ℕ). get_or (put_at l a s) j 0) (sym e) ∙ get_or-put-in l a s (omega arith) (i - a) v
+        ∙ sym (ap (λ (j : ℕ). get_or (put_at (put_at l b t) a s) j 0) (sym e) ∙ get_or-put-in (put_at l b t) a s (omega (arith, m)) (i - a) v))
         (λ (v : length s ≤ i - a).
-        getD-put-right l a s (omega arith) i (omega arith) ∙ sym (getD-put-right (put_at l b t) a s (omega (arith, m)) i (omega arith) ∙ getD-put-left l b t k i z))
+        get_or-put-right l a s (omega arith) i (omega arith) ∙ sym (get_or-put-right (put_at l b t) a s (omega (arith, m)) i (omega arith) ∙ get_or-put-left l b t k i z))
         (below_or_not (i - a) (length s)))
         (below_or_not i a))
         (λ (z : b ≤ i).
         ⊎_elim
         (λ (v : i - b < length t).
         let e : b + (i - b) ≡ i = omega arith in
-        ap (λ (j : ℕ). get_or (put_at (put_at l a s) b t) j 0) (sym e) ∙ getD-put-in (put_at l a s) b t (omega (arith, n)) (i - b) v
-        ∙ sym (getD-put-right (put_at l b t) a s (omega (arith, m)) i (omega arith) ∙ ap (λ (j : ℕ). get_or (put_at l b t) j 0) (sym e) ∙ getD-put-in l b t k (i - b) v))
+        ap (λ (j : ℕ). get_or (put_at (put_at l a s) b t) j 0) (sym e) ∙ get_or-put-in (put_at l a s) b t (omega (arith, n)) (i - b) v
+        ∙ sym (get_or-put-right (put_at l b t) a s (omega (arith, m)) i (omega arith) ∙ ap (λ (j : ℕ). get_or (put_at l b t) j 0) (sym e) ∙ get_or-put-in l b t k (i - b) v))
         (λ (v : length t ≤ i - b).
-        getD-put-right (put_at l a s) b t (omega (arith, n)) i (omega arith) ∙ getD-put-right l a s (omega arith) i (omega arith)
-        ∙ sym (getD-put-right (put_at l b t) a s (omega (arith, m)) i (omega arith) ∙ getD-put-right l b t k i (omega arith)))
+        get_or-put-right (put_at l a s) b t (omega (arith, n)) i (omega arith) ∙ get_or-put-right l a s (omega arith) i (omega arith)
+        ∙ sym (get_or-put-right (put_at l b t) a s (omega (arith, m)) i (omega arith) ∙ get_or-put-right l b t k i (omega arith)))
         (below_or_not (i - b) (length t)))
         (below_or_not i b)
 

@@ -5,34 +5,34 @@ use Rattle.ecc.specs.declared.Verdict.TheVariants.{Good, DataBit, CodeBit, Unrea
 use Rattle.page.specs.declared.Format.{Format}
 use Rattle.page.specs.declared.Format.TheVariants.{Plain, Raw}
 use Rattle.page.specs.declared.Mended.{Mended}
-use Rattle.page.specs.Page.{isInside, is_some, readRaw, storedPage, verdictOf}
+use Rattle.page.specs.Page.{is_inside, is_some, read_raw, stored_page, verdict_of}
 
 -- A chunk is corrected where one of its data bits or one of its code bits had to flip.
-abbrev pub isMended : Verdict → Bool
-isMended Good = false
-isMended (DataBit byte bit) = true
-isMended CodeBit = true
-isMended Unreadable = false
+abbrev pub is_mended : Verdict → Bool
+is_mended Good = false
+is_mended (DataBit byte bit) = true
+is_mended CodeBit = true
+is_mended Unreadable = false
 
-abbrev pub noneMended : Mended
-noneMended = record { chunk0 = false; chunk1 = false; chunk2 = false; chunk3 = false }
+abbrev pub none_mended : Mended
+none_mended = record { chunk0 = false; chunk1 = false; chunk2 = false; chunk3 = false }
 
 -- Each of a raw page's four chunks by itself; of a page that is unreadable none was.
-abbrev pub mendedBy : Verdict → Verdict → Verdict → Verdict → Mended
-mendedBy v0 v1 v2 v3 = record { chunk0 = isMended v0; chunk1 = isMended v1; chunk2 = isMended v2; chunk3 = isMended v3 }
+abbrev pub mended_by : Verdict → Verdict → Verdict → Verdict → Mended
+mended_by v0 v1 v2 v3 = record { chunk0 = is_mended v0; chunk1 = is_mended v1; chunk2 = is_mended v2; chunk3 = is_mended v3 }
 
-unfoldable pub mendedRaw : List ℕ → Mended
-mendedRaw page =
-    cond (is_some (readRaw page)) (mendedBy (verdictOf page 0) (verdictOf page 1) (verdictOf page 2) (verdictOf page 3)) noneMended
+unfoldable pub mended_raw : List ℕ → Mended
+mended_raw page =
+    cond (is_some (read_raw page)) (mended_by (verdict_of page 0) (verdict_of page 1) (verdict_of page 2) (verdict_of page 3)) none_mended
 
 -- A plain page has no code: nothing of it is corrected.
-abbrev pub mendedStored : Format → List ℕ → Mended
-mendedStored Raw page = mendedRaw page
-mendedStored Plain page = noneMended
+abbrev pub mended_stored : Format → List ℕ → Mended
+mended_stored Raw page = mended_raw page
+mended_stored Plain page = none_mended
 
 -- Page p of an image; none where it is unreadable or the image does not hold it.
-unfoldable pub mendedAt : Format → List ℕ → ℕ → Mended
-mendedAt format image p = cond (isInside format image p) (mendedStored format (storedPage format image p)) noneMended
+unfoldable pub mended_at : Format → List ℕ → ℕ → Mended
+mended_at format image p = cond (is_inside format image p) (mended_stored format (stored_page format image p)) none_mended
 
 -- how many chunks that is, 0 to 4
 abbrev pub one : Bool → ℕ
@@ -42,8 +42,8 @@ one false = 0
 abbrev pub chunks_in : Mended → ℕ
 chunks_in m = one m.chunk0 + one m.chunk1 + one m.chunk2 + one m.chunk3
 
-unfoldable pub mendedChunks : Format → List ℕ → ℕ → ℕ
-mendedChunks format image p = chunks_in (mendedAt format image p)
+unfoldable pub mended_chunks : Format → List ℕ → ℕ → ℕ
+mended_chunks format image p = chunks_in (mended_at format image p)
 
 -- a count as the code keeps it while it grows: 64 bits hold every whole one
 abbrev pub wrapped : ℕ → ℕ

@@ -1,5 +1,5 @@
--- Pages of a card image and their code (RULES, "Pages and their code"). Each rule speaks of one page; only `pagesIn`,
--- `pageAt` and `put` know how an image of each format keeps it. No crate above opens them: it goes by PageLaws.
+-- Pages of a card image and their code (RULES, "Pages and their code"). Each rule speaks of one page; only `pages_in`,
+-- `page_at` and `put` know how an image of each format keeps it. No crate above opens them: it goes by PageLaws.
 use Rattle.std.specs.Prelude.{◌≡◌, ℕ, ◌+◌, ◌*◌, ◌/◌, ◌<◌, Bool, true, false, cond, not, ◌&&◌, ◌||◌, List, [], ◌∷◌, ◌++◌, length, take, drop, ◌==◌, nat_lt, slice_index}
 use Rattle.std.proofs.Math.Option.{Option, none, some}
 use Rattle.ecc.specs.declared.Code.{Code}
@@ -22,29 +22,29 @@ put_at list from bytes = take from list ++ (bytes ++ drop (from + length bytes) 
 -- ---- where a page lies
 
 -- A page is 512 data bytes, in a raw image with 16 spare bytes after them, in a plain one with none. Two pages make a cluster.
-abbrev pub pageBytes : Format → ℕ
-pageBytes Raw = 528
-pageBytes Plain = 512
+abbrev pub page_bytes : Format → ℕ
+page_bytes Raw = 528
+page_bytes Plain = 512
 
-abbrev pub clusterBytes : Format → ℕ
-clusterBytes Raw = 1056
-clusterBytes Plain = 1024
+abbrev pub cluster_bytes : Format → ℕ
+cluster_bytes Raw = 1056
+cluster_bytes Plain = 1024
 
 -- how many pages that many bytes hold whole
-unfoldable pub pagesIn : Format → ℕ → ℕ
-pagesIn format bytes = bytes / pageBytes format
+unfoldable pub pages_in : Format → ℕ → ℕ
+pages_in format bytes = bytes / page_bytes format
 
 -- pages lie one after the other, from the image's first byte on
-unfoldable pub pageStart : Format → ℕ → ℕ
-pageStart format p = pageBytes format * p
+unfoldable pub page_start : Format → ℕ → ℕ
+page_start format p = page_bytes format * p
 
 -- the bytes that the image keeps of page p
-abbrev pub storedPage : Format → List ℕ → ℕ → List ℕ
-storedPage format image p = part image (pageStart format p) (pageBytes format)
+abbrev pub stored_page : Format → List ℕ → ℕ → List ℕ
+stored_page format image p = part image (page_start format p) (page_bytes format)
 
 -- the image holds page p whole
-abbrev pub isInside : Format → List ℕ → ℕ → Bool
-isInside format image p = nat_lt p (pagesIn format (length image))
+abbrev pub is_inside : Format → List ℕ → ℕ → Bool
+is_inside format image p = nat_lt p (pages_in format (length image))
 
 -- ---- a raw page that is read
 
@@ -53,23 +53,23 @@ abbrev pub chunk_of : List ℕ → ℕ → List ℕ
 chunk_of page k = part page (128 * k) 128
 
 -- Spare bytes 3k to 3k+2 hold the code of chunk k.
-abbrev pub storedCode : List ℕ → ℕ → Code
-storedCode page k =
+abbrev pub stored_code : List ℕ → ℕ → Code
+stored_code page k =
     record { byte0 = slice_index page (512 + 3 * k); byte1 = slice_index page (512 + 3 * k + 1); byte2 = slice_index page (512 + 3 * k + 2) }
 
 -- Each of the four chunks is judged by itself.
-unfoldable pub verdictOf : List ℕ → ℕ → Verdict
-verdictOf page k = judge (chunk_of page k) (storedCode page k)
+unfoldable pub verdict_of : List ℕ → ℕ → Verdict
+verdict_of page k = judge (chunk_of page k) (stored_code page k)
 
-abbrev pub verdictsOf : List ℕ → FourVerdicts
-verdictsOf page = record { chunk0 = verdictOf page 0; chunk1 = verdictOf page 1; chunk2 = verdictOf page 2; chunk3 = verdictOf page 3 }
+abbrev pub verdicts_of : List ℕ → FourVerdicts
+verdicts_of page = record { chunk0 = verdict_of page 0; chunk1 = verdict_of page 1; chunk2 = verdict_of page 2; chunk3 = verdict_of page 3 }
 
 -- A chunk is good, corrected, or unreadable.
-abbrev pub isReadable : Verdict → Bool
-isReadable Good = true
-isReadable (DataBit byte bit) = true
-isReadable CodeBit = true
-isReadable Unreadable = false
+abbrev pub is_readable : Verdict → Bool
+is_readable Good = true
+is_readable (DataBit byte bit) = true
+is_readable CodeBit = true
+is_readable Unreadable = false
 
 -- the place that a verdict names lies in a chunk, as the functions that correct one ask
 abbrev pub Placed : Verdict → Type 0
@@ -82,86 +82,86 @@ abbrev pub AllPlaced : FourVerdicts → Type 0
 AllPlaced verdicts = Placed verdicts.chunk0 × Placed verdicts.chunk1 × Placed verdicts.chunk2 × Placed verdicts.chunk3
 
 -- the data of a raw page, each chunk as its verdict corrects it
-unfoldable pub correctedData : List ℕ → Verdict → Verdict → Verdict → Verdict → List ℕ
-correctedData page v0 v1 v2 v3 =
+unfoldable pub corrected_data : List ℕ → Verdict → Verdict → Verdict → Verdict → List ℕ
+corrected_data page v0 v1 v2 v3 =
     corrected v0 (chunk_of page 0) ++ (corrected v1 (chunk_of page 1) ++ (corrected v2 (chunk_of page 2) ++ corrected v3 (chunk_of page 3)))
 
 -- A page with an unreadable chunk is unreadable. Spare bytes 12 to 15 are ignored.
-abbrev pub dataBy : List ℕ → Verdict → Verdict → Verdict → Verdict → Option (List ℕ)
-dataBy page v0 v1 v2 v3 =
-    cond (isReadable v0 && (isReadable v1 && (isReadable v2 && isReadable v3))) (some (correctedData page v0 v1 v2 v3)) none
+abbrev pub data_by : List ℕ → Verdict → Verdict → Verdict → Verdict → Option (List ℕ)
+data_by page v0 v1 v2 v3 =
+    cond (is_readable v0 && (is_readable v1 && (is_readable v2 && is_readable v3))) (some (corrected_data page v0 v1 v2 v3)) none
 
-unfoldable pub readRaw : List ℕ → Option (List ℕ)
-readRaw page = dataBy page (verdictOf page 0) (verdictOf page 1) (verdictOf page 2) (verdictOf page 3)
+unfoldable pub read_raw : List ℕ → Option (List ℕ)
+read_raw page = data_by page (verdict_of page 0) (verdict_of page 1) (verdict_of page 2) (verdict_of page 3)
 
 -- ---- a page that is read
 
 -- A plain page is its data: none is unreadable.
-abbrev pub readStored : Format → List ℕ → Option (List ℕ)
-readStored Raw page = readRaw page
-readStored Plain page = some page
+abbrev pub read_stored : Format → List ℕ → Option (List ℕ)
+read_stored Raw page = read_raw page
+read_stored Plain page = some page
 
 -- The data of page p as read; none where it is unreadable or the image does not hold it.
-unfoldable pub pageAt : Format → List ℕ → ℕ → Option (List ℕ)
-pageAt format image p = cond (isInside format image p) (readStored format (storedPage format image p)) none
+unfoldable pub page_at : Format → List ℕ → ℕ → Option (List ℕ)
+page_at format image p = cond (is_inside format image p) (read_stored format (stored_page format image p)) none
 
 abbrev pub is_some : Option (List ℕ) → Bool
 is_some none = false
 is_some (some bytes) = true
 
-abbrev pub orKept : Option (List ℕ) → List ℕ → List ℕ
-orKept none buffer = buffer
-orKept (some bytes) buffer = bytes
+abbrev pub or_kept : Option (List ℕ) → List ℕ → List ℕ
+or_kept none buffer = buffer
+or_kept (some bytes) buffer = bytes
 
 -- What a read answers and leaves: whether there is data, and the data in the buffer, or the buffer as it was.
 pub record Read (found : Option (List ℕ)) (before : List ℕ) (answer : Bool) (after : List ℕ) : Type 0 where
   pub readable : answer ≡ is_some found
-  pub buffer : after ≡ orKept found before
+  pub buffer : after ≡ or_kept found before
 
 -- ---- a page that is written
 
 -- Every written raw page gets a fresh code for each chunk; spare bytes 12 to 15 of the old raw page are kept.
-abbrev pub codeBytes : Code → List ℕ
-codeBytes code = code.byte0 ∷ code.byte1 ∷ code.byte2 ∷ []
+abbrev pub code_bytes : Code → List ℕ
+code_bytes code = code.byte0 ∷ code.byte1 ∷ code.byte2 ∷ []
 
-unfoldable pub freshCode : List ℕ → ℕ → List ℕ
-freshCode bytes k = codeBytes (code_of (chunk_of bytes k))
+unfoldable pub fresh_code : List ℕ → ℕ → List ℕ
+fresh_code bytes k = code_bytes (code_of (chunk_of bytes k))
 
-unfoldable pub codedPage : List ℕ → List ℕ → List ℕ
-codedPage old bytes =
-    bytes ++ (freshCode bytes 0 ++ (freshCode bytes 1 ++ (freshCode bytes 2 ++ (freshCode bytes 3 ++ part old 524 4))))
+unfoldable pub coded_page : List ℕ → List ℕ → List ℕ
+coded_page old bytes =
+    bytes ++ (fresh_code bytes 0 ++ (fresh_code bytes 1 ++ (fresh_code bytes 2 ++ (fresh_code bytes 3 ++ part old 524 4))))
 
 -- what an image keeps of a page that is written: its data alone in a plain one
-abbrev pub storedAs : Format → List ℕ → List ℕ → List ℕ
-storedAs Raw old bytes = codedPage old bytes
-storedAs Plain old bytes = bytes
+abbrev pub stored_as : Format → List ℕ → List ℕ → List ℕ
+stored_as Raw old bytes = coded_page old bytes
+stored_as Plain old bytes = bytes
 
 -- how many bytes of a page a write sets: all but spare bytes 12 to 15
-abbrev pub writtenBytes : Format → ℕ
-writtenBytes Raw = 524
-writtenBytes Plain = 512
+abbrev pub written_bytes : Format → ℕ
+written_bytes Raw = 524
+written_bytes Plain = 512
 
 -- two lists are equal, as a test
-abbrev pub sameBytes : List ℕ → List ℕ → Bool
-sameBytes [] [] = true
-sameBytes [] (b ∷ m) = false
-sameBytes (a ∷ l) [] = false
-sameBytes (a ∷ l) (b ∷ m) = a == b && sameBytes l m
+abbrev pub same_bytes : List ℕ → List ℕ → Bool
+same_bytes [] [] = true
+same_bytes [] (b ∷ m) = false
+same_bytes (a ∷ l) [] = false
+same_bytes (a ∷ l) (b ∷ m) = a == b && same_bytes l m
 
 -- the data as read is these bytes already; an unreadable page never is
 abbrev pub holds : Option (List ℕ) → List ℕ → Bool
 holds none bytes = false
-holds (some old) bytes = sameBytes old bytes
+holds (some old) bytes = same_bytes old bytes
 
 -- a page of the image is to be written: always, or only where its data, as read, changes
-abbrev pub isPut : Format → Bool → ℕ → List ℕ → List ℕ → Bool
-isPut format always p bytes image = isInside format image p && (always || not (holds (pageAt format image p) bytes))
+abbrev pub is_put : Format → Bool → ℕ → List ℕ → List ℕ → Bool
+is_put format always p bytes image = is_inside format image p && (always || not (holds (page_at format image p) bytes))
 
 -- The image with `bytes` as the data of page p, in a raw one freshly coded, and nothing else changed; where page p
 -- is not to be written, the image as it is.
 unfoldable pub put : Format → Bool → ℕ → List ℕ → List ℕ → List ℕ
 put format always p bytes image =
-    cond (isPut format always p bytes image) (put_at image (pageStart format p) (storedAs format (storedPage format image p) bytes)) image
+    cond (is_put format always p bytes image) (put_at image (page_start format p) (stored_as format (stored_page format image p) bytes)) image
 
 -- A page of a newly taken cluster and a new entry's page are written in any case.
 abbrev pub written : Format → List ℕ → ℕ → List ℕ → List ℕ

@@ -2,8 +2,8 @@
 mod raw;
 
 ghost use Rattle.std.specs.Prelude.{◌≡◌, ◌+◌, ◌^◌, ◌<◌, ◌≤◌, length};
-ghost use Rattle.page.specs.Mended.{chunks_in, mendedAt, mendedChunks, mendedStored, noneMended, one, wrapped};
-ghost use Rattle.page.specs.Page.{pageBytes, clusterBytes, pagesIn, pageStart, storedPage, readStored, is_some, Read, pageAt, storedAs, sameBytes, holds, written, rewritten};
+ghost use Rattle.page.specs.Mended.{chunks_in, mended_at, mended_chunks, mended_stored, none_mended, one, wrapped};
+ghost use Rattle.page.specs.Page.{page_bytes, cluster_bytes, pages_in, page_start, stored_page, read_stored, is_some, Read, page_at, stored_as, same_bytes, holds, written, rewritten};
 ghost use Rattle.page.specs.PageLaws.{LawsOfPages};
 ghost use Rattle.page.specs.Twins.{TwinLaws};
 
@@ -17,7 +17,7 @@ pub enum Format {
 }
 
 fn page_bytes(format: Format) -> usize
-    ensures { result ≡ pageBytes format }
+    ensures { result ≡ page_bytes format }
 {
     match format {
         Format::Raw => 528,
@@ -27,7 +27,7 @@ fn page_bytes(format: Format) -> usize
 
 // The bytes of two pages.
 pub fn cluster_bytes(format: Format) -> usize
-    ensures { (result ≡ clusterBytes format) × (0 < result) × (result < 2 ^ 32) }
+    ensures { (result ≡ cluster_bytes format) × (0 < result) × (result < 2 ^ 32) }
 {
     match format {
         Format::Raw => 1056,
@@ -37,7 +37,7 @@ pub fn cluster_bytes(format: Format) -> usize
 
 // How many pages an image holds whole. They are few enough to be added to without a carry.
 pub fn page_count(format: Format, image: &[u8]) -> usize
-    ensures { (result ≡ pagesIn format (length image.now)) × (result < 2 ^ 63) }
+    ensures { (result ≡ pages_in format (length image.now)) × (result < 2 ^ 63) }
 {
     match format {
         Format::Raw => image.len() / 528,
@@ -47,8 +47,8 @@ pub fn page_count(format: Format, image: &[u8]) -> usize
 
 // The place of a page's first byte in an image that holds the page.
 fn page_start(format: Format, page: usize) -> usize
-    requires { pageStart format page < 2 ^ 64 }
-    ensures { result ≡ pageStart format page }
+    requires { page_start format page < 2 ^ 64 }
+    ensures { result ≡ page_start format page }
 {
     match format {
         Format::Raw => 528 * page,
@@ -58,8 +58,8 @@ fn page_start(format: Format, page: usize) -> usize
 
 // The bytes that an image keeps of a page that it holds.
 fn stored_page(format: Format, image: &[u8], page: usize) -> &[u8]
-    requires { page < pagesIn format (length image.now) }
-    ensures { (result.now ≡ storedPage format image.now page) × (length result.now ≡ pageBytes format) }
+    requires { page < pages_in format (length image.now) }
+    ensures { (result.now ≡ stored_page format image.now page) × (length result.now ≡ page_bytes format) }
 {
     let from = page_start(format, page);
     let to = from + page_bytes(format);
@@ -84,7 +84,7 @@ pub struct PageRead {
 
 // A page of which no chunk was corrected.
 fn unmended(readable: bool) -> PageRead
-    ensures { (result.readable ≡ readable) × (result.mended ≡ noneMended) }
+    ensures { (result.readable ≡ readable) × (result.mended ≡ none_mended) }
 {
     PageRead {
         readable: readable,
@@ -118,9 +118,9 @@ impl Mended {
 
 // The data of a page by its bytes in the image is written to `out`; else `out` stays.
 fn read_stored(format: Format, page: &[u8], out: &mut [u8]) -> PageRead
-    requires { (length page.now ≡ pageBytes format) × (length out.old ≡ 512) }
-    ensures read { Read (readStored format page.now) out.old result.readable out.new }
-    ensures mended { result.mended ≡ mendedStored format page.now }
+    requires { (length page.now ≡ page_bytes format) × (length out.old ≡ 512) }
+    ensures read { Read (read_stored format page.now) out.old result.readable out.new }
+    ensures mended { result.mended ≡ mended_stored format page.now }
 {
     match format {
         Format::Raw => read_raw(page, out),
@@ -134,8 +134,8 @@ fn read_stored(format: Format, page: &[u8], out: &mut [u8]) -> PageRead
 // Reads page `page` into `out`, and tells which of its chunks were corrected. Not readable, and `out` as it was, where the
 // page is unreadable or not in the image.
 pub fn read_page(format: Format, image: &[u8], page: usize, out: &mut [u8; 512]) -> PageRead
-    ensures read { Read (pageAt format image.now page) out.old result.readable out.new }
-    ensures mended { result.mended ≡ mendedAt format image.now page }
+    ensures read { Read (page_at format image.now page) out.old result.readable out.new }
+    ensures mended { result.mended ≡ mended_at format image.now page }
 {
     if page < page_count(format, image) {
         return read_stored(format, stored_page(format, image, page), out);
@@ -145,9 +145,9 @@ pub fn read_page(format: Format, image: &[u8], page: usize, out: &mut [u8; 512])
 
 // What `read_stored` tells, without the data.
 fn judge_stored(format: Format, page: &[u8]) -> PageRead
-    requires { length page.now ≡ pageBytes format }
-    ensures readable { result.readable ≡ is_some (readStored format page.now) }
-    ensures mended { result.mended ≡ mendedStored format page.now }
+    requires { length page.now ≡ page_bytes format }
+    ensures readable { result.readable ≡ is_some (read_stored format page.now) }
+    ensures mended { result.mended ≡ mended_stored format page.now }
 {
     match format {
         Format::Raw => judge_raw(page).told,
@@ -157,8 +157,8 @@ fn judge_stored(format: Format, page: &[u8]) -> PageRead
 
 // What `read_page` tells, for a page whose data is not wanted.
 pub fn judge_page(format: Format, image: &[u8], page: usize) -> PageRead
-    ensures readable { result.readable ≡ is_some (pageAt format image.now page) }
-    ensures mended { result.mended ≡ mendedAt format image.now page }
+    ensures readable { result.readable ≡ is_some (page_at format image.now page) }
+    ensures mended { result.mended ≡ mended_at format image.now page }
 {
     if page < page_count(format, image) {
         return judge_stored(format, stored_page(format, image, page));
@@ -183,16 +183,16 @@ pub fn read_counted(
     out: &mut [u8; 512],
     mended: &mut usize,
 ) -> bool
-    ensures read { Read (pageAt format image.now page) out.old result out.new }
-    ensures counted { mended.new ≡ wrapped (mended.old + mendedChunks format image.now page) }
+    ensures read { Read (page_at format image.now page) out.old result out.new }
+    ensures counted { mended.new ≡ wrapped (mended.old + mended_chunks format image.now page) }
 {
     counted(read_page(format, image, page, out), mended)
 }
 
 // `judge_page`, in the same way.
 pub fn judge_counted(format: Format, image: &[u8], page: usize, mended: &mut usize) -> bool
-    ensures readable { result ≡ is_some (pageAt format image.now page) }
-    ensures counted { mended.new ≡ wrapped (mended.old + mendedChunks format image.now page) }
+    ensures readable { result ≡ is_some (page_at format image.now page) }
+    ensures counted { mended.new ≡ wrapped (mended.old + mended_chunks format image.now page) }
 {
     counted(judge_page(format, image, page), mended)
 }
@@ -206,8 +206,8 @@ pub fn settled(count: usize) -> usize
 
 // The data is stored in a page's bytes in the image, in a raw one with fresh codes.
 fn write_stored(format: Format, page: &mut [u8], bytes: &[u8])
-    requires { (length page.old ≡ pageBytes format) × (length bytes.now ≡ 512) }
-    ensures { page.new ≡ storedAs format page.old bytes.now }
+    requires { (length page.old ≡ page_bytes format) × (length bytes.now ≡ 512) }
+    ensures { page.new ≡ stored_as format page.old bytes.now }
 {
     match format {
         Format::Raw => write_raw(page, bytes),
@@ -229,14 +229,14 @@ pub fn write_page(format: Format, image: &mut [u8], page: usize, bytes: &[u8; 51
 }
 
 fn same_data(a: &[u8; 512], b: &[u8; 512]) -> bool
-    ensures { result ≡ sameBytes a.now b.now }
+    ensures { result ≡ same_bytes a.now b.now }
 {
     check::same(a, b)
 }
 
 // Whether the page's data, as read, is `bytes`.
 fn holds_data(format: Format, image: &[u8], page: usize, bytes: &[u8; 512]) -> bool
-    ensures { result ≡ holds (pageAt format image.now page) bytes.now }
+    ensures { result ≡ holds (page_at format image.now page) bytes.now }
 {
     let mut old = [0u8; 512];
     if read_page(format, image, page, &mut old).readable {

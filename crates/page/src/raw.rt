@@ -1,14 +1,14 @@
 // One raw page: 512 data bytes and 16 spare bytes, which hold the code of each chunk.
 ghost use Rattle.std.specs.Prelude.{◌≡◌, ◌+◌, ◌*◌, ◌<◌, length};
-ghost use Rattle.ecc.specs.Judge.{corrected, flipAt};
-ghost use Rattle.page.specs.Mended.{isMended, mendedBy, mendedRaw};
-ghost use Rattle.page.specs.Page.{put_at, chunk_of, verdictsOf, isReadable, is_some, Placed, AllPlaced, correctedData, readRaw, Read, freshCode, codedPage};
+ghost use Rattle.ecc.specs.Judge.{corrected, flip_at};
+ghost use Rattle.page.specs.Mended.{is_mended, mended_by, mended_raw};
+ghost use Rattle.page.specs.Page.{put_at, chunk_of, verdicts_of, is_readable, is_some, Placed, AllPlaced, corrected_data, read_raw, Read, fresh_code, coded_page};
 
 use crate::{Mended, PageRead, unmended};
 use ecc::{FourVerdicts, Verdict};
 
 fn is_readable(verdict: Verdict) -> bool
-    ensures { result ≡ isReadable verdict }
+    ensures { result ≡ is_readable verdict }
 {
     match verdict {
         Verdict::Good => true,
@@ -20,7 +20,7 @@ fn is_readable(verdict: Verdict) -> bool
 
 // Whether a chunk was corrected, by a data bit or a code bit.
 fn is_mended(verdict: Verdict) -> bool
-    ensures { result ≡ isMended verdict }
+    ensures { result ≡ is_mended verdict }
 {
     match verdict {
         Verdict::Good => false,
@@ -31,7 +31,7 @@ fn is_mended(verdict: Verdict) -> bool
 }
 
 fn mended_by(v0: Verdict, v1: Verdict, v2: Verdict, v3: Verdict) -> Mended
-    ensures { result ≡ mendedBy v0 v1 v2 v3 }
+    ensures { result ≡ mended_by v0 v1 v2 v3 }
 {
     Mended {
         chunk0: is_mended(v0),
@@ -51,9 +51,9 @@ pub(crate) struct Judged {
 // Each chunk is lent as a part of the page that begins in its middle, beside the code bytes, three for each.
 pub(crate) fn judge_raw(page: &[u8]) -> Judged
     requires { length page.now ≡ 528 }
-    ensures verdicts { result.verdicts ≡ verdictsOf page.now }
-    ensures readable { result.told.readable ≡ is_some (readRaw page.now) }
-    ensures mended { result.told.mended ≡ mendedRaw page.now }
+    ensures verdicts { result.verdicts ≡ verdicts_of page.now }
+    ensures readable { result.told.readable ≡ is_some (read_raw page.now) }
+    ensures mended { result.told.mended ≡ mended_raw page.now }
 {
     let verdicts = ecc::judge_four(
         &page[0..128],
@@ -84,7 +84,7 @@ pub(crate) fn judge_raw(page: &[u8]) -> Judged
 // Bit `bit` of byte `byte` is flipped.
 fn flip_bit(chunk: &mut [u8], byte: usize, bit: u8)
     requires { (byte < length chunk.old) × (bit < 8) }
-    ensures { chunk.new ≡ flipAt chunk.old byte bit }
+    ensures { chunk.new ≡ flip_at chunk.old byte bit }
 {
     chunk[byte] = chunk[byte] ^ (1 << bit);
 }
@@ -121,7 +121,7 @@ fn copy_part(page: &[u8], k: usize, verdict: Verdict, out: &mut [u8])
 // The four chunks, each as its verdict corrects it, are written to `out`.
 fn copy_data(page: &[u8], verdicts: FourVerdicts, out: &mut [u8])
     requires { (length page.now ≡ 528) × (length out.old ≡ 512) × AllPlaced verdicts }
-    ensures { out.new ≡ correctedData page.now verdicts.chunk0 verdicts.chunk1 verdicts.chunk2 verdicts.chunk3 }
+    ensures { out.new ≡ corrected_data page.now verdicts.chunk0 verdicts.chunk1 verdicts.chunk2 verdicts.chunk3 }
 {
     let v0 = verdicts.chunk0;
     let v1 = verdicts.chunk1;
@@ -136,8 +136,8 @@ fn copy_data(page: &[u8], verdicts: FourVerdicts, out: &mut [u8])
 // The data of a raw page is written to `out` once all four chunks are judged readable; else `out` stays.
 pub(crate) fn read_raw(page: &[u8], out: &mut [u8]) -> PageRead
     requires { (length page.now ≡ 528) × (length out.old ≡ 512) }
-    ensures read { Read (readRaw page.now) out.old result.readable out.new }
-    ensures mended { result.mended ≡ mendedRaw page.now }
+    ensures read { Read (read_raw page.now) out.old result.readable out.new }
+    ensures mended { result.mended ≡ mended_raw page.now }
 {
     let judged = judge_raw(page);
     let told = judged.told;
@@ -150,7 +150,7 @@ pub(crate) fn read_raw(page: &[u8], out: &mut [u8]) -> PageRead
 // The fresh code of chunk k of the data is stored in a raw page.
 fn put_code(page: &mut [u8], k: usize, bytes: &[u8])
     requires { (length page.old ≡ 528) × (k < 4) × (length bytes.now ≡ 512) }
-    ensures { page.new ≡ put_at page.old (512 + 3 * k) (freshCode bytes.now k) }
+    ensures { page.new ≡ put_at page.old (512 + 3 * k) (fresh_code bytes.now k) }
 {
     let from = 128 * k;
     let to = from + 128;
@@ -164,7 +164,7 @@ fn put_code(page: &mut [u8], k: usize, bytes: &[u8])
 // The data and its fresh codes are stored in a raw page. Spare bytes 12 to 15 stay.
 pub(crate) fn write_raw(page: &mut [u8], bytes: &[u8])
     requires { (length page.old ≡ 528) × (length bytes.now ≡ 512) }
-    ensures { page.new ≡ codedPage page.old bytes.now }
+    ensures { page.new ≡ coded_page page.old bytes.now }
 {
     bytes::copy(bytes, page);
     put_code(page, 0, bytes);

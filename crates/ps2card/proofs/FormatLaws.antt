@@ -8,11 +8,11 @@ use Rattle.page.specs.declared.Format.{Format}
 use Rattle.page.specs.declared.Format.TheVariants.{Plain, Raw}
 use Rattle.ps2card.specs.declared.formats.Named.{Named}
 use Rattle.ps2card.specs.declared.formats.Named.TheVariants.{Known, Unknown}
-use Rattle.ps2card.specs.Formats.{byFormat}
+use Rattle.ps2card.specs.Formats.{by_format}
 use Rattle.ps2card.specs.Named.{named_by}
 
 module _ {A : Type 0} (refused : A) (answer : Format → A) (number : ℕ) {told : Named} (named : told ≡ named_by number) where
-  pub known_so : {format : Format} → told ≡ Known format → byFormat number refused answer ≡ answer format
+  pub known_so : {format : Format} → told ≡ Known format → by_format number refused answer ≡ answer format
   known_so {format} e = go (eqb number 0) (eqb number 1) (sym named ∙ e)
     where
       go : (a b : Bool) → cond a (Known Raw) (cond b (Known Plain) Unknown) ≡ Known format → cond a (answer Raw) (cond b (answer Plain) refused) ≡ answer format
@@ -20,7 +20,7 @@ module _ {A : Type 0} (refused : A) (answer : Format → A) (number : ℕ) {told
       go false true h = let z : Plain ≡ format = cc in ap answer z
       go false false h = absurd (let z : ◌≡◌ {A = ℕ} 0 1 = cc in omega arith)
 
-  pub unknown-so : told ≡ Unknown → byFormat number refused answer ≡ refused
+  pub unknown-so : told ≡ Unknown → by_format number refused answer ≡ refused
   unknown-so e = go (eqb number 0) (eqb number 1) (sym named ∙ e)
     where
       go : (a b : Bool) → cond a (Known Raw) (cond b (Known Plain) Unknown) ≡ Unknown → cond a (answer Raw) (cond b (answer Plain) refused) ≡ refused

@@ -1,10 +1,10 @@
 // The five changes, as C and Rust call them.
 ghost use Rattle.std.specs.Prelude.{◌≡◌};
-ghost use Rattle.change.specs.Answers.{toldAnswer};
-ghost use Rattle.change.specs.Changed.{pathIn};
+ghost use Rattle.change.specs.Answers.{told_answer};
+ghost use Rattle.change.specs.Changed.{path_in};
 ghost use Rattle.model.specs.Change as is;
-ghost use Rattle.ps2card.specs.Answer.{number_in, pageAfter};
-ghost use Rattle.ps2card.specs.Formats.{changeBy};
+ghost use Rattle.ps2card.specs.Answer.{number_in, page_after};
+ghost use Rattle.ps2card.specs.Formats.{change_by};
 
 use crate::formats::{Named, format_of};
 use crate::tell_refusal;
@@ -13,7 +13,7 @@ use layout::Refusal;
 
 // 0 where the change is made, or what its refusal tells.
 fn tell_answer(answer: Answer, page: &mut usize) -> u32
-    ensures { (result ≡ number_in (toldAnswer answer)) × (page.new ≡ pageAfter (toldAnswer answer) page.old) }
+    ensures { (result ≡ number_in (told_answer answer)) × (page.new ≡ page_after (told_answer answer) page.old) }
 {
     match answer {
         Answer::Done => 0,
@@ -31,9 +31,9 @@ pub extern "C" fn ps2card_create(
     bytes: &[u8],
     page: &mut usize,
 ) -> u32
-    ensures value { result ≡ number_in (changeBy format (is.create (pathIn path.now) time.now bytes.now) image.old).answer }
-    ensures page_after { page.new ≡ pageAfter (changeBy format (is.create (pathIn path.now) time.now bytes.now) image.old).answer page.old }
-    ensures image_after { image.new ≡ (changeBy format (is.create (pathIn path.now) time.now bytes.now) image.old).image }
+    ensures value { result ≡ number_in (change_by format (is.create (path_in path.now) time.now bytes.now) image.old).answer }
+    ensures page_after { page.new ≡ page_after (change_by format (is.create (path_in path.now) time.now bytes.now) image.old).answer page.old }
+    ensures image_after { image.new ≡ (change_by format (is.create (path_in path.now) time.now bytes.now) image.old).image }
 {
     let named = format_of(format);
     match named {
@@ -52,9 +52,9 @@ pub extern "C" fn ps2card_replace(
     bytes: &[u8],
     page: &mut usize,
 ) -> u32
-    ensures value { result ≡ number_in (changeBy format (is.replace (pathIn path.now) time.now bytes.now) image.old).answer }
-    ensures page_after { page.new ≡ pageAfter (changeBy format (is.replace (pathIn path.now) time.now bytes.now) image.old).answer page.old }
-    ensures image_after { image.new ≡ (changeBy format (is.replace (pathIn path.now) time.now bytes.now) image.old).image }
+    ensures value { result ≡ number_in (change_by format (is.replace (path_in path.now) time.now bytes.now) image.old).answer }
+    ensures page_after { page.new ≡ page_after (change_by format (is.replace (path_in path.now) time.now bytes.now) image.old).answer page.old }
+    ensures image_after { image.new ≡ (change_by format (is.replace (path_in path.now) time.now bytes.now) image.old).image }
 {
     let named = format_of(format);
     match named {
@@ -71,9 +71,9 @@ pub extern "C" fn ps2card_delete(
     path: &[u8],
     page: &mut usize,
 ) -> u32
-    ensures value { result ≡ number_in (changeBy format (is.delete (pathIn path.now)) image.old).answer }
-    ensures page_after { page.new ≡ pageAfter (changeBy format (is.delete (pathIn path.now)) image.old).answer page.old }
-    ensures image_after { image.new ≡ (changeBy format (is.delete (pathIn path.now)) image.old).image }
+    ensures value { result ≡ number_in (change_by format (is.delete (path_in path.now)) image.old).answer }
+    ensures page_after { page.new ≡ page_after (change_by format (is.delete (path_in path.now)) image.old).answer page.old }
+    ensures image_after { image.new ≡ (change_by format (is.delete (path_in path.now)) image.old).image }
 {
     let named = format_of(format);
     match named {
@@ -91,9 +91,9 @@ pub extern "C" fn ps2card_make_dir(
     time: &[u8; 8],
     page: &mut usize,
 ) -> u32
-    ensures value { result ≡ number_in (changeBy format (is.makeDirectory (pathIn path.now) time.now) image.old).answer }
-    ensures page_after { page.new ≡ pageAfter (changeBy format (is.makeDirectory (pathIn path.now) time.now) image.old).answer page.old }
-    ensures image_after { image.new ≡ (changeBy format (is.makeDirectory (pathIn path.now) time.now) image.old).image }
+    ensures value { result ≡ number_in (change_by format (is.make_directory (path_in path.now) time.now) image.old).answer }
+    ensures page_after { page.new ≡ page_after (change_by format (is.make_directory (path_in path.now) time.now) image.old).answer page.old }
+    ensures image_after { image.new ≡ (change_by format (is.make_directory (path_in path.now) time.now) image.old).image }
 {
     let named = format_of(format);
     match named {
@@ -110,9 +110,9 @@ pub extern "C" fn ps2card_remove_dir(
     path: &[u8],
     page: &mut usize,
 ) -> u32
-    ensures value { result ≡ number_in (changeBy format (is.removeDirectory (pathIn path.now)) image.old).answer }
-    ensures page_after { page.new ≡ pageAfter (changeBy format (is.removeDirectory (pathIn path.now)) image.old).answer page.old }
-    ensures image_after { image.new ≡ (changeBy format (is.removeDirectory (pathIn path.now)) image.old).image }
+    ensures value { result ≡ number_in (change_by format (is.remove_directory (path_in path.now)) image.old).answer }
+    ensures page_after { page.new ≡ page_after (change_by format (is.remove_directory (path_in path.now)) image.old).answer page.old }
+    ensures image_after { image.new ≡ (change_by format (is.remove_directory (path_in path.now)) image.old).image }
 {
     let named = format_of(format);
     match named {

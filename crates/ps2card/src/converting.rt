@@ -1,8 +1,8 @@
 // The conversions between the formats, as C and Rust call them.
 ghost use Rattle.std.specs.Prelude.{◌≡◌, length};
 ghost use Rattle.page.specs.declared.Format.TheVariants.{Plain, Raw};
-ghost use Rattle.convert.specs.Converted.{converted, outputAfter};
-ghost use Rattle.ps2card.specs.Answer.{number_in, pageAfter};
+ghost use Rattle.convert.specs.Converted.{converted, output_after};
+ghost use Rattle.ps2card.specs.Answer.{number_in, page_after};
 
 use crate::tell_refusal;
 use convert::{Conversion, to_plain, to_raw};
@@ -11,8 +11,8 @@ use convert::{Conversion, to_plain, to_raw};
 #[unsafe(no_mangle)]
 pub extern "C" fn ps2card_to_plain(image: &[u8], out: &mut [u8], page: &mut usize) -> u32
     ensures value { result ≡ number_in (converted Raw Plain image.now (length out.old)) }
-    ensures page_after { page.new ≡ pageAfter (converted Raw Plain image.now (length out.old)) page.old }
-    ensures out_after { out.new ≡ outputAfter (converted Raw Plain image.now (length out.old)) out.old }
+    ensures page_after { page.new ≡ page_after (converted Raw Plain image.now (length out.old)) page.old }
+    ensures out_after { out.new ≡ output_after (converted Raw Plain image.now (length out.old)) out.old }
 {
     match to_plain(image, out) {
         Conversion::Refused(refusal) => tell_refusal(refusal, page),
@@ -24,7 +24,7 @@ pub extern "C" fn ps2card_to_plain(image: &[u8], out: &mut [u8], page: &mut usiz
 #[unsafe(no_mangle)]
 pub extern "C" fn ps2card_to_raw(image: &[u8], out: &mut [u8]) -> u32
     ensures value { result ≡ number_in (converted Plain Raw image.now (length out.old)) }
-    ensures out_after { out.new ≡ outputAfter (converted Plain Raw image.now (length out.old)) out.old }
+    ensures out_after { out.new ≡ output_after (converted Plain Raw image.now (length out.old)) out.old }
 {
     match to_raw(image, out) {
         Conversion::Refused(refusal) => refusal.number(),

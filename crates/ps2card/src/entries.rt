@@ -1,8 +1,8 @@
 // The entry at a path and the next one of a directory, as C and Rust call them.
 ghost use Rattle.std.specs.Prelude.{◌≡◌};
 ghost use Rattle.lookup.specs.Mended.{reported};
-ghost use Rattle.ps2card.specs.Answer.{entryAfter, foundIn, number_in, pageAfter, valueAfter};
-ghost use Rattle.ps2card.specs.Formats.{findBy, mendedBy, stepBy};
+ghost use Rattle.ps2card.specs.Answer.{entry_after, found_in, number_in, page_after, value_after};
+ghost use Rattle.ps2card.specs.Formats.{find_by, mended_by, step_by};
 
 use crate::formats::{Named, format_of};
 use crate::tell_refusal;
@@ -62,17 +62,17 @@ pub extern "C" fn ps2card_find(
     name: &mut [u8; 32],
     mended: &mut usize,
 ) -> u32
-    ensures value { result ≡ number_in (findBy format image.now path.now) }
-    ensures page_after { page.new ≡ pageAfter (findBy format image.now path.now) page.old }
-    ensures mended_after { mended.new ≡ reported (findBy format image.now path.now) (mendedBy format image.now) mended.old }
-    ensures mode_after { mode.new ≡ valueAfter (λ e. e.mode) (findBy format image.now path.now) mode.old }
-    ensures length_after { length.new ≡ valueAfter (λ e. e.length) (findBy format image.now path.now) length.old }
-    ensures created_after { created.new ≡ valueAfter (λ e. e.created) (findBy format image.now path.now) created.old }
-    ensures first_after { first.new ≡ valueAfter (λ e. e.firstCluster) (findBy format image.now path.now) first.old }
-    ensures dir_entry_after { dir_entry.new ≡ valueAfter (λ e. e.dirEntry) (findBy format image.now path.now) dir_entry.old }
-    ensures modified_after { modified.new ≡ valueAfter (λ e. e.modified) (findBy format image.now path.now) modified.old }
-    ensures attribute_after { attribute.new ≡ valueAfter (λ e. e.attribute) (findBy format image.now path.now) attribute.old }
-    ensures name_after { name.new ≡ valueAfter (λ e. e.nameField) (findBy format image.now path.now) name.old }
+    ensures value { result ≡ number_in (find_by format image.now path.now) }
+    ensures page_after { page.new ≡ page_after (find_by format image.now path.now) page.old }
+    ensures mended_after { mended.new ≡ reported (find_by format image.now path.now) (mended_by format image.now) mended.old }
+    ensures mode_after { mode.new ≡ value_after (λ e. e.mode) (find_by format image.now path.now) mode.old }
+    ensures length_after { length.new ≡ value_after (λ e. e.length) (find_by format image.now path.now) length.old }
+    ensures created_after { created.new ≡ value_after (λ e. e.created) (find_by format image.now path.now) created.old }
+    ensures first_after { first.new ≡ value_after (λ e. e.first_cluster) (find_by format image.now path.now) first.old }
+    ensures dir_entry_after { dir_entry.new ≡ value_after (λ e. e.dir_entry) (find_by format image.now path.now) dir_entry.old }
+    ensures modified_after { modified.new ≡ value_after (λ e. e.modified) (find_by format image.now path.now) modified.old }
+    ensures attribute_after { attribute.new ≡ value_after (λ e. e.attribute) (find_by format image.now path.now) attribute.old }
+    ensures name_after { name.new ≡ value_after (λ e. e.name_field) (find_by format image.now path.now) name.old }
 {
     let named = format_of(format);
     match named {
@@ -115,19 +115,19 @@ pub extern "C" fn ps2card_step(
     name: &mut [u8; 32],
     mended: &mut usize,
 ) -> u32
-    ensures value { result ≡ number_in (stepBy format image.now path.now slot) }
-    ensures page_after { page.new ≡ pageAfter (stepBy format image.now path.now slot) page.old }
-    ensures mended_after { mended.new ≡ reported (stepBy format image.now path.now slot) (mendedBy format image.now) mended.old }
-    ensures found_after { found.new ≡ valueAfter foundIn (stepBy format image.now path.now slot) found.old }
-    ensures at_after { at.new ≡ entryAfter (λ x. x.0) (stepBy format image.now path.now slot) at.old }
-    ensures mode_after { mode.new ≡ entryAfter (λ x. x.1.mode) (stepBy format image.now path.now slot) mode.old }
-    ensures length_after { length.new ≡ entryAfter (λ x. x.1.length) (stepBy format image.now path.now slot) length.old }
-    ensures created_after { created.new ≡ entryAfter (λ x. x.1.created) (stepBy format image.now path.now slot) created.old }
-    ensures first_after { first.new ≡ entryAfter (λ x. x.1.firstCluster) (stepBy format image.now path.now slot) first.old }
-    ensures dir_entry_after { dir_entry.new ≡ entryAfter (λ x. x.1.dirEntry) (stepBy format image.now path.now slot) dir_entry.old }
-    ensures modified_after { modified.new ≡ entryAfter (λ x. x.1.modified) (stepBy format image.now path.now slot) modified.old }
-    ensures attribute_after { attribute.new ≡ entryAfter (λ x. x.1.attribute) (stepBy format image.now path.now slot) attribute.old }
-    ensures name_after { name.new ≡ entryAfter (λ x. x.1.nameField) (stepBy format image.now path.now slot) name.old }
+    ensures value { result ≡ number_in (step_by format image.now path.now slot) }
+    ensures page_after { page.new ≡ page_after (step_by format image.now path.now slot) page.old }
+    ensures mended_after { mended.new ≡ reported (step_by format image.now path.now slot) (mended_by format image.now) mended.old }
+    ensures found_after { found.new ≡ value_after found_in (step_by format image.now path.now slot) found.old }
+    ensures at_after { at.new ≡ entry_after (λ x. x.0) (step_by format image.now path.now slot) at.old }
+    ensures mode_after { mode.new ≡ entry_after (λ x. x.1.mode) (step_by format image.now path.now slot) mode.old }
+    ensures length_after { length.new ≡ entry_after (λ x. x.1.length) (step_by format image.now path.now slot) length.old }
+    ensures created_after { created.new ≡ entry_after (λ x. x.1.created) (step_by format image.now path.now slot) created.old }
+    ensures first_after { first.new ≡ entry_after (λ x. x.1.first_cluster) (step_by format image.now path.now slot) first.old }
+    ensures dir_entry_after { dir_entry.new ≡ entry_after (λ x. x.1.dir_entry) (step_by format image.now path.now slot) dir_entry.old }
+    ensures modified_after { modified.new ≡ entry_after (λ x. x.1.modified) (step_by format image.now path.now slot) modified.old }
+    ensures attribute_after { attribute.new ≡ entry_after (λ x. x.1.attribute) (step_by format image.now path.now slot) attribute.old }
+    ensures name_after { name.new ≡ entry_after (λ x. x.1.name_field) (step_by format image.now path.now slot) name.old }
 {
     let named = format_of(format);
     match named {

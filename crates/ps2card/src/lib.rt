@@ -8,8 +8,8 @@ pub mod texts;
 
 ghost use Rattle.std.specs.Prelude.{◌≡◌};
 ghost use Rattle.layout.specs.Refusal.{number_of, page_of};
-ghost use Rattle.ps2card.specs.Answer.{number_in, pageAfter, pageLeft, valueAfter};
-ghost use Rattle.ps2card.specs.Formats.{checkBy};
+ghost use Rattle.ps2card.specs.Answer.{number_in, page_after, page_left, value_after};
+ghost use Rattle.ps2card.specs.Formats.{check_by};
 
 use formats::{Named, format_of};
 use layout::Refusal;
@@ -17,7 +17,7 @@ use tree::{Checked, check};
 
 // The paper's number of a refusal; the page of an unreadable one goes to `page`.
 pub(crate) fn tell_refusal(refusal: Refusal, page: &mut usize) -> u32
-    ensures { (result ≡ number_of refusal) × (page.new ≡ pageLeft (number_of refusal) (page_of refusal) page.old) }
+    ensures { (result ≡ number_of refusal) × (page.new ≡ page_left (number_of refusal) (page_of refusal) page.old) }
 {
     let number = refusal.number();
     if number == 2 {
@@ -39,14 +39,14 @@ pub extern "C" fn ps2card_check(
     held: &mut usize,
     mended: &mut usize,
 ) -> u32
-    ensures value { result ≡ number_in (checkBy format image.now) }
-    ensures page_after { page.new ≡ pageAfter (checkBy format image.now) page.old }
-    ensures clusters_after { clusters.new ≡ valueAfter (λ c. c.clusters) (checkBy format image.now) clusters.old }
-    ensures free_after { free.new ≡ valueAfter (λ c. c.free) (checkBy format image.now) free.old }
-    ensures reached_after { reached.new ≡ valueAfter (λ c. c.reached) (checkBy format image.now) reached.old }
-    ensures orphaned_after { orphaned.new ≡ valueAfter (λ c. c.orphaned) (checkBy format image.now) orphaned.old }
-    ensures held_after { held.new ≡ valueAfter (λ c. c.held) (checkBy format image.now) held.old }
-    ensures mended_after { mended.new ≡ valueAfter (λ c. c.mended) (checkBy format image.now) mended.old }
+    ensures value { result ≡ number_in (check_by format image.now) }
+    ensures page_after { page.new ≡ page_after (check_by format image.now) page.old }
+    ensures clusters_after { clusters.new ≡ value_after (λ c. c.clusters) (check_by format image.now) clusters.old }
+    ensures free_after { free.new ≡ value_after (λ c. c.free) (check_by format image.now) free.old }
+    ensures reached_after { reached.new ≡ value_after (λ c. c.reached) (check_by format image.now) reached.old }
+    ensures orphaned_after { orphaned.new ≡ value_after (λ c. c.orphaned) (check_by format image.now) orphaned.old }
+    ensures held_after { held.new ≡ value_after (λ c. c.held) (check_by format image.now) held.old }
+    ensures mended_after { mended.new ≡ value_after (λ c. c.mended) (check_by format image.now) mended.old }
 {
     let named = format_of(format);
     match named {

@@ -1,9 +1,9 @@
 // The read of a file, as C and Rust call it.
 ghost use Rattle.std.specs.Prelude.{◌≡◌, length};
-ghost use Rattle.lookup.specs.Answers.{bufferAfter};
+ghost use Rattle.lookup.specs.Answers.{buffer_after};
 ghost use Rattle.lookup.specs.Mended.{reported};
-ghost use Rattle.ps2card.specs.Answer.{number_in, pageAfter, valueAfter};
-ghost use Rattle.ps2card.specs.Formats.{read_by, readMendedBy};
+ghost use Rattle.ps2card.specs.Answer.{number_in, page_after, value_after};
+ghost use Rattle.ps2card.specs.Formats.{read_by, read_mended_by};
 
 use crate::formats::{Named, format_of};
 use crate::tell_refusal;
@@ -24,10 +24,10 @@ pub extern "C" fn ps2card_read(
     mended: &mut usize,
 ) -> u32
     ensures value { result ≡ number_in (read_by format image.now path.now offset (length out.old)) }
-    ensures page_after { page.new ≡ pageAfter (read_by format image.now path.now offset (length out.old)) page.old }
-    ensures count_after { count.new ≡ valueAfter length (read_by format image.now path.now offset (length out.old)) count.old }
-    ensures mended_after { mended.new ≡ reported (read_by format image.now path.now offset (length out.old)) (readMendedBy format image.now path.now offset (length out.old)) mended.old }
-    ensures out_after { out.new ≡ bufferAfter (read_by format image.now path.now offset (length out.old)) out.old }
+    ensures page_after { page.new ≡ page_after (read_by format image.now path.now offset (length out.old)) page.old }
+    ensures count_after { count.new ≡ value_after length (read_by format image.now path.now offset (length out.old)) count.old }
+    ensures mended_after { mended.new ≡ reported (read_by format image.now path.now offset (length out.old)) (read_mended_by format image.now path.now offset (length out.old)) mended.old }
+    ensures out_after { out.new ≡ buffer_after (read_by format image.now path.now offset (length out.old)) out.old }
 {
     let named = format_of(format);
     match named {

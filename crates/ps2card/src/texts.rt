@@ -1,7 +1,7 @@
 // The listing of a card.
 ghost use Rattle.std.specs.Prelude.{◌≡◌, length};
 ghost use Rattle.listing.specs.Text.{fitted};
-ghost use Rattle.ps2card.specs.Formats.{listBy};
+ghost use Rattle.ps2card.specs.Formats.{list_by};
 
 use crate::formats::{Named, format_of};
 use page::Format;
@@ -10,8 +10,8 @@ use page::Format;
 // whole of it is.
 #[unsafe(no_mangle)]
 pub extern "C" fn ps2card_list(format: u32, image: &[u8], minutes: i32, out: &mut [u8]) -> usize
-    ensures value { result ≡ length (listBy format image.now minutes) }
-    ensures out_after { out.new ≡ fitted out.old (listBy format image.now minutes) }
+    ensures value { result ≡ length (list_by format image.now minutes) }
+    ensures out_after { out.new ≡ fitted out.old (list_by format image.now minutes) }
 {
     let named = format_of(format);
     match named {

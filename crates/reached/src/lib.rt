@@ -2,9 +2,9 @@
 pub mod takeable;
 
 ghost use Rattle.std.specs.Prelude.{◌≡◌, ◌<◌, get_or};
-ghost use Rattle.reached.specs.Marks.{markWords, markedIn, noMarks, currentMark, putWord, withMark, words_of};
-ghost use Rattle.reached.specs.Chain.{chainBehind, nearBehind, stepAt};
-ghost use Rattle.reached.specs.Totals.{orphansIn};
+ghost use Rattle.reached.specs.Marks.{mark_words, marked_in, no_marks, current_mark, put_word, with_mark, words_of};
+ghost use Rattle.reached.specs.Chain.{chain_behind, near_behind, step_at};
+ghost use Rattle.reached.specs.Totals.{orphans_in};
 
 use model::MOST_CLUSTERS;
 
@@ -34,7 +34,7 @@ pub struct Reached {
 
 // Whether a cluster is marked in these words. The loop lends them, so that a test copies no record.
 fn has_mark(words: &[u64; MARK_WORDS], c: usize) -> bool
-    ensures { result ≡ markedIn words.now c }
+    ensures { result ≡ marked_in words.now c }
 {
     if MOST_CLUSTERS <= c {
         return false;
@@ -44,7 +44,7 @@ fn has_mark(words: &[u64; MARK_WORDS], c: usize) -> bool
 
 // Whether a cluster of the current word is marked.
 fn has_current(current: u64, c: usize) -> bool
-    ensures { result ≡ currentMark current c }
+    ensures { result ≡ current_mark current c }
 {
     (current >> (c % 64)) % 2 == 1
 }
@@ -63,8 +63,8 @@ fn all_words(reached: Reached) -> [u64; MARK_WORDS]
 
 // The current word is put in its place, and word k is handed out to be the current one.
 fn turn(words: &mut [u64; MARK_WORDS], at: usize, current: u64, k: usize) -> u64
-    requires { k < markWords }
-    ensures { (words.new ≡ putWord words.old at current) × (result ≡ get_or (putWord words.old at current) k 0) }
+    requires { k < mark_words }
+    ensures { (words.new ≡ put_word words.old at current) × (result ≡ get_or (put_word words.old at current) k 0) }
 {
     if at < MARK_WORDS {
         words[at] = current;
@@ -75,7 +75,7 @@ fn turn(words: &mut [u64; MARK_WORDS], at: usize, current: u64, k: usize) -> u64
 impl Reached {
     // the record at the start of a walk
     pub fn new() -> Reached
-        ensures { result ≡ noMarks }
+        ensures { result ≡ no_marks }
     {
         Reached {
             words: [0u64; MARK_WORDS],
@@ -88,7 +88,7 @@ impl Reached {
 
     // The record with that one mark more, or the old one where it was set. Only a cluster of the current word is marked.
     pub fn mark(self, c: usize) -> Reached
-        ensures { result ≡ withMark self c }
+        ensures { result ≡ with_mark self c }
     {
         let words = self.words;
         let spare = self.spare;
@@ -119,7 +119,7 @@ struct Step {
 // At a cluster of the current word.
 fn step_at(table: &[u32], current: u64, c: u32, left: u32) -> Step
     requires { 0 < left }
-    ensures { result ≡ stepAt table.now current c left }
+    ensures { result ≡ step_at table.now current c left }
 {
     let broken = Step {
         marks: false,
@@ -168,7 +168,7 @@ pub struct Near {
 // The chain of exactly that many clusters behind an entry's first cluster, as far as it stays in the current word. The array of
 // the record stays as it is and there is one way out, so that who calls it copies no array either.
 pub fn walk_near(table: &[u32], reached: Reached, first: u32, clusters: u32) -> Near
-    ensures { result ≡ nearBehind table.now reached first clusters }
+    ensures { result ≡ near_behind table.now reached first clusters }
 {
     let mut r = reached;
     let mut sound = (clusters == 0) & (first == END_MARK);
@@ -201,7 +201,7 @@ pub struct Chain {
 // The chain of exactly that many clusters behind an entry's first cluster; the root's begins at cluster 0.
 // The table is the words below alloc_end.
 pub fn walk_chain(table: &[u32], reached: Reached, first: u32, clusters: u32) -> Chain
-    ensures { result ≡ chainBehind table.now reached first clusters }
+    ensures { result ≡ chain_behind table.now reached first clusters }
 {
     let mut r = reached;
     let mut sound = (clusters == 0) & (first == END_MARK);
@@ -227,7 +227,7 @@ pub fn walk_chain(table: &[u32], reached: Reached, first: u32, clusters: u32) ->
 
 // Orphaned: the table word is not free, and no chain reaches the cluster. Never a remainder.
 pub fn count_orphans(table: &[u32], reached: Reached) -> usize
-    ensures { result ≡ orphansIn table.now reached }
+    ensures { result ≡ orphans_in table.now reached }
 {
     let words = all_words(reached);
     let mut n: usize = 0;

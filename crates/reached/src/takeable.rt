@@ -1,15 +1,15 @@
 // Which clusters may be taken, by the limit and the bad block list, and how many free table words there are of each kind.
 ghost use Rattle.std.specs.Prelude.{◌≡◌, eqb, length};
-ghost use Rattle.model.specs.Counts.{block_of, isListed, mayTakeOn, takeLimit};
+ghost use Rattle.model.specs.Counts.{block_of, is_listed, may_take_on, take_limit};
 ghost use Rattle.reached.specs.Blocks.{Knows};
-ghost use Rattle.reached.specs.Totals.{freeWords, heldWords};
+ghost use Rattle.reached.specs.Totals.{free_words, held_words};
 
 use crate::TOP_BIT;
 use model::{BLOCK_CLUSTERS, STANDARD_CLUSTERS, TAIL_START};
 
 // The first table index that no new cluster is taken from: where the reserved tail starts, on a card that has one, or alloc_end.
 pub fn take_limit(clusters: u32, end: usize) -> usize
-    ensures { result ≡ takeLimit clusters end }
+    ensures { result ≡ take_limit clusters end }
 {
     if (clusters == STANDARD_CLUSTERS) & (TAIL_START < end) {
         return TAIL_START;
@@ -26,7 +26,7 @@ fn names_block(word: u32, block: usize) -> bool
 
 // Whether any word of the list does.
 pub fn is_listed(bad: &[u32], block: usize) -> bool
-    ensures { result ≡ isListed bad.now block }
+    ensures { result ≡ is_listed bad.now block }
 {
     let mut listed = false;
     let mut i: usize = 0;
@@ -81,7 +81,7 @@ pub struct Unused {
 // Free: the top bit of the table word is clear, and the cluster may be taken: it lies below the limit, in no listed block.
 // Held back: it is clear, and the cluster may not be taken. Neither is a remainder.
 pub fn count_unused(table: &[u32], clusters: u32, offset: u32, bad: &[u32]) -> Unused
-    ensures { (result.free ≡ freeWords (mayTakeOn clusters (length table.now) offset bad.now) table.now) × (result.held ≡ heldWords (mayTakeOn clusters (length table.now) offset bad.now) table.now) }
+    ensures { (result.free ≡ free_words (may_take_on clusters (length table.now) offset bad.now) table.now) × (result.held ≡ held_words (may_take_on clusters (length table.now) offset bad.now) table.now) }
 {
     let limit = take_limit(clusters, table.len());
     let mut last = Looked::new(bad);

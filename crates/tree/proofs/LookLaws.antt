@@ -1,5 +1,5 @@
 -- What the code reads of a slot, and the names before it, are the view's.
-use Rattle.layout.specs.See.{imagePage, pageIn}
+use Rattle.layout.specs.See.{image_page, page_in}
 use Rattle.layout.specs.declared.Geometry.{Geometry}
 use Rattle.std.proofs.Common.{◌≡◌, ℕ, ◌+◌, ◌*◌, ◌%◌, ◌^◌, ◌<◌, ◌≤◌, Bool, true, false, cond, eqb, ltb, List, sym, refl, ap, ◌∙◌, add-one, arith, ltb-false, ltb-true, eq-eqb, ne_eqb}
 use mathlib.Core.Option.{Option, none, some}
@@ -7,18 +7,18 @@ use native.Mathlib.Nat.{mod-mod}
 use Rattle.fields.specs.Kinds.{kind_of}
 use Rattle.fields.specs.declared.kinds.Kind.TheVariants as kind
 use Rattle.model.proofs.Equality.{tf}
-use Rattle.model.specs.Entry.{Entry, entryOf, isFile, isLive, isSubdirectory}
+use Rattle.model.specs.Entry.{Entry, entry_of, is_file, is_live, is_subdirectory}
 use Rattle.model.specs.Names.{Name}
 use Rattle.model.specs.Pages.{decoded}
 use Rattle.model.specs.View.{View}
 use Rattle.page.specs.Mended.{wrapped}
-use Rattle.page.specs.Page.{Read, is_some, orKept, pageAt}
+use Rattle.page.specs.Page.{Read, is_some, or_kept, page_at}
 use Rattle.tree.specs.declared.tasks.Look.{Look}
 use Rattle.tree.specs.declared.tasks.Look.TheVariants as look
-use Rattle.tree.specs.Mended.{countAfter}
-use Rattle.tree.specs.Met.{Grows, Knows, hashOf, isMet, mark_of, mostPages, withName}
-use Rattle.tree.specs.Slots.{clusterAt, live_before, liveHit, next_of, slotPage, clusterAfter}
-use Rattle.tree.specs.Walk.{LookAdds, lookBy, lookedAt, pickLook}
+use Rattle.tree.specs.Mended.{count_after}
+use Rattle.tree.specs.Met.{Grows, Knows, hash_of, is_met, mark_of, most_pages, with_name}
+use Rattle.tree.specs.Slots.{cluster_at, live_before, live_hit, next_of, slot_page, cluster_after}
+use Rattle.tree.specs.Walk.{LookAdds, look_by, looked_at, pick_look}
 use Rattle.tree.proofs.MetLaws.{grows_self, knows-learnt, knows-new, knows-skip, learnt-grows}
 
 -- ---- a page that was read
@@ -30,19 +30,19 @@ unread {o} k e = go o (sym k.readable ∙ e)
     go none h = refl
     go (some d) h = tf refl h
 
-pub was_read : {o : Option (List ℕ)} {before after : List ℕ} {r : Bool} → Read o before r after → r ≡ true → decoded o ≡ some (entryOf after)
+pub was_read : {o : Option (List ℕ)} {before after : List ℕ} {r : Bool} → Read o before r after → r ≡ true → decoded o ≡ some (entry_of after)
 was_read {o} {before} {after} k e = go o (sym k.readable ∙ e) k.buffer
   where
-    go : (o : Option (List ℕ)) → is_some o ≡ true → after ≡ orKept o before → decoded o ≡ some (entryOf after)
+    go : (o : Option (List ℕ)) → is_some o ≡ true → after ≡ or_kept o before → decoded o ≡ some (entry_of after)
     go none h b = tf h refl
-    go (some d) h b = ap {B = Option Entry} (λ x. some (entryOf x)) (sym b)
+    go (some d) h b = ap {B = Option Entry} (λ x. some (entry_of x)) (sym b)
 
 -- it added its chunks to the count
 pub read-adds : {o : Option (List ℕ)} {before after : List ℕ} {r : Bool} (chunks n : ℕ) {count : ℕ} → Read o before r after → r ≡ true
-    → count ≡ countAfter o chunks n → wrapped count ≡ wrapped (n + chunks)
+    → count ≡ count_after o chunks n → wrapped count ≡ wrapped (n + chunks)
 read-adds {o} chunks n {count} k e = go o (sym k.readable ∙ e)
   where
-    go : (o : Option (List ℕ)) → is_some o ≡ true → count ≡ countAfter o chunks n → wrapped count ≡ wrapped (n + chunks)
+    go : (o : Option (List ℕ)) → is_some o ≡ true → count ≡ count_after o chunks n → wrapped count ≡ wrapped (n + chunks)
     go none h c = tf h refl
     go (some d) h c = rw c (mod-mod (n + chunks) (2 ^ 64))
 
@@ -58,81 +58,81 @@ look-adds (look.File len first) n chunks count h = h
 look-adds (look.Directory len first) n chunks count h = h
 
 -- a page that was read is one of the allocatable clusters
-pub read_low : (geometry : Geometry) (count : ℕ) (image : List ℕ) (page : ℕ) {before after : List ℕ} {r : Bool} → Read (pageIn geometry count image page) before r after → r ≡ true → page < 2 * count
-unfolding pageIn
+pub read_low : (geometry : Geometry) (count : ℕ) (image : List ℕ) (page : ℕ) {before after : List ℕ} {r : Bool} → Read (page_in geometry count image page) before r after → r ≡ true → page < 2 * count
+unfolding page_in
 read_low geometry count image page k e = go (ltb page (2 * count)) refl (sym k.readable ∙ e)
   where
-    go : (b : Bool) → ltb page (2 * count) ≡ b → is_some (cond b (pageAt geometry.format image (imagePage geometry page)) none) ≡ true → page < 2 * count
+    go : (b : Bool) → ltb page (2 * count) ≡ b → is_some (cond b (page_at geometry.format image (image_page geometry page)) none) ≡ true → page < 2 * count
     go true f h = ltb-true page (2 * count) f
     go false f h = tf h refl
 
 -- the cluster of the next slot
-pub step-odd : (t : List ℕ) (c k x : ℕ) → k % 2 ≡ 1 → x ≡ next_of t c → x ≡ clusterAfter t c k
+pub step-odd : (t : List ℕ) (c k x : ℕ) → k % 2 ≡ 1 → x ≡ next_of t c → x ≡ cluster_after t c k
 step-odd t c k x o e = rw (eq-eqb (k % 2) 1 o) e
 
-pub step-even : (t : List ℕ) (c k x : ℕ) → (k % 2 ≡ 1 → ⊥) → x ≡ c → x ≡ clusterAfter t c k
+pub step-even : (t : List ℕ) (c k x : ℕ) → (k % 2 ≡ 1 → ⊥) → x ≡ c → x ≡ cluster_after t c k
 step-even t c k x o e = rw (ne_eqb (k % 2) 1 o) e
 
 -- ---- the look
 
 -- the entry's kind is what the look tells of a new name
-look-kind : (e : Entry) → isLive e ≡ true
-    → pickLook (isFile e) (look.File e.length e.firstCluster) (pickLook (isSubdirectory e) (look.Directory e.length e.firstCluster) look.Bad) ≡ lookBy (kind_of e)
+look-kind : (e : Entry) → is_live e ≡ true
+    → pick_look (is_file e) (look.File e.length e.first_cluster) (pick_look (is_subdirectory e) (look.Directory e.length e.first_cluster) look.Bad) ≡ look_by (kind_of e)
 unfolding kind_of
 look-kind e l =
-    go (isFile e) (isSubdirectory e)
-    ∙ ap (λ (b : Bool). lookBy (cond b (cond (isFile e) (kind.File e.length e.firstCluster) (cond (isSubdirectory e) (kind.Directory e.length e.firstCluster) kind.Bad)) kind.Dead)) (sym l)
+    go (is_file e) (is_subdirectory e)
+    ∙ ap (λ (b : Bool). look_by (cond b (cond (is_file e) (kind.File e.length e.first_cluster) (cond (is_subdirectory e) (kind.Directory e.length e.first_cluster) kind.Bad)) kind.Dead)) (sym l)
   where
-    go : (a b : Bool) → pickLook a (look.File e.length e.firstCluster) (pickLook b (look.Directory e.length e.firstCluster) look.Bad)
-        ≡ lookBy (cond a (kind.File e.length e.firstCluster) (cond b (kind.Directory e.length e.firstCluster) kind.Bad))
+    go : (a b : Bool) → pick_look a (look.File e.length e.first_cluster) (pick_look b (look.Directory e.length e.first_cluster) look.Bad)
+        ≡ look_by (cond a (kind.File e.length e.first_cluster) (cond b (kind.Directory e.length e.first_cluster) kind.Bad))
     go true b = refl
     go false true = refl
     go false false = refl
 
-module _ (v : View) (t : List ℕ) (first start k : ℕ) (cells : List ℕ) (kn : Knows v t first start k cells) (c page : ℕ) (here : c ≡ clusterAt t start k) (at : page ≡ slotPage c k)
+module _ (v : View) (t : List ℕ) (first start k : ℕ) (cells : List ℕ) (kn : Knows v t first start k cells) (c page : ℕ) (here : c ≡ cluster_at t start k) (at : page ≡ slot_page c k)
     (geometry : Geometry) where
   -- what a look answers, and what the cells then know
   abbrev pub Looked : Look → List ℕ → Type 0
   Looked x after =
-      (x ≡ lookedAt (live_before v t start k) (imagePage geometry (slotPage c k)) (v.entry (slotPage c k))) × (Knows v t first start (k + 1) after × Grows cells after)
+      (x ≡ looked_at (live_before v t start k) (image_page geometry (slot_page c k)) (v.entry (slot_page c k))) × (Knows v t first start (k + 1) after × Grows cells after)
 
-  own-page : (o : Option Entry) → v.entry page ≡ o → v.entry (slotPage (clusterAt t start k) k) ≡ o
+  own-page : (o : Option Entry) → v.entry page ≡ o → v.entry (slot_page (cluster_at t start k) k) ≡ o
   own-page o e = rw (at, here) at e
 
-  skip : ((n : Name) → liveHit (v.entry page) n ≡ 0) → Knows v t first start (k + 1) cells × Grows cells cells
+  skip : ((n : Name) → live_hit (v.entry page) n ≡ 0) → Knows v t first start (k + 1) cells × Grows cells cells
   skip z = (rw (add-one k) (knows-skip v t first start k cells kn (λ n. rw (at, here) at (z n))), grows_self cells)
 
-  pub look-unread : (p : ℕ) → v.entry page ≡ none → p ≡ imagePage geometry page → Looked (look.Unreadable p) cells
+  pub look-unread : (p : ℕ) → v.entry page ≡ none → p ≡ image_page geometry page → Looked (look.Unreadable p) cells
   look-unread p e q = (rw (← at, e, q), skip (λ n. rw e))
 
   module _ (e : Entry) (i : v.entry page ≡ some e) where
-    pub look-dead : isLive e ≡ false → Looked look.Dead cells
+    pub look-dead : is_live e ≡ false → Looked look.Dead cells
     look-dead l = (rw (← at, i, l), skip (λ n. rw (i, l)))
 
-    module _ (l : isLive e ≡ true) (low : page < mostPages) (after : List ℕ)
-        (h : after ≡ withName v t first start k e.name page cells) where
+    module _ (l : is_live e ≡ true) (low : page < most_pages) (after : List ℕ)
+        (h : after ≡ with_name v t first start k e.name page cells) where
       met : Knows v t first start (k + 1) after × Grows cells after
       met =
-          let own : page ≡ slotPage (clusterAt t start k) k = rw (← here) at in (
+          let own : page ≡ slot_page (cluster_at t start k) k = rw (← here) at in (
             rw (add-one k, h, own) (knows-learnt v t first start k cells kn e (own-page (some e) i) l (rw own at low)),
-            rw h (learnt-grows v t start k e.name (mark_of (hashOf first e.name)) page cells mostPages (hashOf first e.name)),
+            rw h (learnt-grows v t start k e.name (mark_of (hash_of first e.name)) page cells most_pages (hash_of first e.name)),
           )
 
       -- the look at a live entry, by whether its name is taken
-      abbrev byName : Bool → Look
-      byName new =
-          pickLook new (pickLook (isFile e) (look.File e.length e.firstCluster) (pickLook (isSubdirectory e) (look.Directory e.length e.firstCluster) look.Bad)) look.Bad
+      abbrev by_name : Bool → Look
+      by_name new =
+          pick_look new (pick_look (is_file e) (look.File e.length e.first_cluster) (pick_look (is_subdirectory e) (look.Directory e.length e.first_cluster) look.Bad)) look.Bad
 
-      shown_by : (new : Bool) → eqb (live_before v t start k e.name) 0 ≡ new → lookedAt (live_before v t start k) (imagePage geometry (slotPage c k)) (v.entry (slotPage c k)) ≡ byName new
+      shown_by : (new : Bool) → eqb (live_before v t start k e.name) 0 ≡ new → looked_at (live_before v t start k) (image_page geometry (slot_page c k)) (v.entry (slot_page c k)) ≡ by_name new
       shown_by new f =
-          ap (lookedAt (live_before v t start k) (imagePage geometry (slotPage c k))) (ap v.entry (sym at) ∙ i)
-          ∙ ap (λ (b : Bool). pickLook b (byName (eqb (live_before v t start k e.name) 0)) look.Dead) l
-          ∙ ap byName f
+          ap (looked_at (live_before v t start k) (image_page geometry (slot_page c k))) (ap v.entry (sym at) ∙ i)
+          ∙ ap (λ (b : Bool). pick_look b (by_name (eqb (live_before v t start k e.name) 0)) look.Dead) l
+          ∙ ap by_name f
 
-      pub look-new : (x : Look) → x ≡ lookBy (kind_of e) → live_before v t start k e.name ≡ 0 → Looked x after
+      pub look-new : (x : Look) → x ≡ look_by (kind_of e) → live_before v t start k e.name ≡ 0 → Looked x after
       look-new x q z = (q ∙ sym (look-kind e l) ∙ sym (shown_by true (eq-eqb _ 0 z)), met)
 
-      pub look-met : (x : Look) → x ≡ lookBy (kind_of e) → (b : Bool) → b ≡ isMet v t first start k e.name cells → b ≡ false
+      pub look-met : (x : Look) → x ≡ look_by (kind_of e) → (b : Bool) → b ≡ is_met v t first start k e.name cells → b ≡ false
           → Looked x after
       look-met x q b f g = look-new x q (knows-new v t first start k cells kn e.name (sym f ∙ g))
 
@@ -141,5 +141,5 @@ module _ (v : View) (t : List ℕ) (first start k : ℕ) (cells : List ℕ) (kn 
           let z : 0 < live_before v t start k e.name = ltb-true _ _ (sym f ∙ g) in
           (sym (shown_by false (ne_eqb (live_before v t start k e.name) 0 (λ w. omega arith))), met)
 
-      pub look-free : (x : Look) → x ≡ lookBy (kind_of e) → (b : Bool) → b ≡ ltb 0 (live_before v t start k e.name) → b ≡ false → Looked x after
+      pub look-free : (x : Look) → x ≡ look_by (kind_of e) → (b : Bool) → b ≡ ltb 0 (live_before v t start k e.name) → b ≡ false → Looked x after
       look-free x q b f g = let z : live_before v t start k e.name ≤ 0 = ltb-false _ _ (sym f ∙ g) in look-new x q (omega arith)

@@ -5,13 +5,13 @@ use mathlib.Core.Option.{Option, some}
 use native.Mathlib.Decide.{ℕ_discrete}
 use borrow.Author.Tests.{eqb-false}
 use Rattle.model.proofs.Equality.{Eq-name, bool, tf}
-use Rattle.model.specs.Entry.{Entry, isLive}
+use Rattle.model.specs.Entry.{Entry, is_live}
 use Rattle.model.specs.Names.{Name, same_name}
 use Rattle.model.specs.View.{View}
 use Rattle.tree.specs.declared.names.Hash.{Hash}
-use Rattle.tree.specs.Met.{Grows, Knows, cell_of, hashOf, isMet, isSame, known, learnt, mark_of, mixed, mostPages, withName, word_of}
+use Rattle.tree.specs.Met.{Grows, Knows, cell_of, hash_of, is_met, is_same, known, learnt, mark_of, mixed, most_pages, with_name, word_of}
 use Rattle.tree.specs.Scan.{bears}
-use Rattle.tree.specs.Slots.{clusterAt, isSlot, live_before, liveHit, slotPage}
+use Rattle.tree.specs.Slots.{cluster_at, is_slot, live_before, live_hit, slot_page}
 
 -- ---- the slots before slot k
 
@@ -20,27 +20,27 @@ or-true true = refl
 or-true false = refl
 
 module _ (t : List ℕ) (start : ℕ) (page : ℕ) where
-  pub slot-none : isSlot t start 0 page ≡ false
-  unfolding isSlot
+  pub slot-none : is_slot t start 0 page ≡ false
+  unfolding is_slot
   slot-none = refl
 
-  pub slot-later : (k : ℕ) → isSlot t start k page ≡ true → isSlot t start (suc k) page ≡ true
-  unfolding isSlot
+  pub slot-later : (k : ℕ) → is_slot t start k page ≡ true → is_slot t start (suc k) page ≡ true
+  unfolding is_slot
   slot-later k e = rw e
 
-  pub slot-here : (k : ℕ) → page ≡ slotPage (clusterAt t start k) k → isSlot t start (suc k) page ≡ true
-  unfolding isSlot
-  slot-here k e = rw (eq-eqb page (slotPage (clusterAt t start k) k) e) (or-true (isSlot t start k page))
+  pub slot-here : (k : ℕ) → page ≡ slot_page (cluster_at t start k) k → is_slot t start (suc k) page ≡ true
+  unfolding is_slot
+  slot-here k e = rw (eq-eqb page (slot_page (cluster_at t start k) k) e) (or-true (is_slot t start k page))
 
-  pub slot-not : (k : ℕ) → isSlot t start k page ≡ false → (page ≡ slotPage (clusterAt t start k) k → ⊥) → isSlot t start (suc k) page ≡ false
-  unfolding isSlot
-  slot-not k e f = rw (e, ne_eqb page (slotPage (clusterAt t start k) k) f)
+  pub slot-not : (k : ℕ) → is_slot t start k page ≡ false → (page ≡ slot_page (cluster_at t start k) k → ⊥) → is_slot t start (suc k) page ≡ false
+  unfolding is_slot
+  slot-not k e f = rw (e, ne_eqb page (slot_page (cluster_at t start k) k) f)
 
-  pub slot-up : (j k : ℕ) → j ≤ k → isSlot t start j page ≡ true → isSlot t start k page ≡ true
+  pub slot-up : (j k : ℕ) → j ≤ k → is_slot t start j page ≡ true → is_slot t start k page ≡ true
   slot-up j zero h e = let z : j ≡ 0 = omega arith in rw z at e
   slot-up j (suc k) h e = go (ℕ_discrete j (suc k)) (λ l. slot-up j k l e)
     where
-      go : Dec (j ≡ suc k) → (j ≤ k → isSlot t start k page ≡ true) → isSlot t start (suc k) page ≡ true
+      go : Dec (j ≡ suc k) → (j ≤ k → is_slot t start k page ≡ true) → is_slot t start (suc k) page ≡ true
       go (yes q) f = rw q at e
       go (no q) f = slot-later k (f (omega arith))
 
@@ -63,14 +63,14 @@ grows-set cells i word e = record { room = length-set cells i word; kept = λ j 
 module _ (v : View) (t : List ℕ) (start : ℕ) (n : Name) (mark : ℕ) where
   -- a word that is the name's stays so among more slots
   abbrev More : ℕ → ℕ → Type 0
-  More k j = (page : ℕ) → isSlot t start k page ≡ true → isSlot t start j page ≡ true
+  More k j = (page : ℕ) → is_slot t start k page ≡ true → is_slot t start j page ≡ true
 
-  same_more : (k j word : ℕ) → More k j → isSame v t start k n mark word ≡ true → isSame v t start j n mark word ≡ true
-  unfolding isSame
-  same_more k j word m e = go (eqb (word / mostPages) mark) (bears n (v.entry (word % mostPages))) e
+  same_more : (k j word : ℕ) → More k j → is_same v t start k n mark word ≡ true → is_same v t start j n mark word ≡ true
+  unfolding is_same
+  same_more k j word m e = go (eqb (word / most_pages) mark) (bears n (v.entry (word % most_pages))) e
     where
-      go : (a b : Bool) → (a && (b && isSlot t start k (word % mostPages))) ≡ true → (a && (b && isSlot t start j (word % mostPages))) ≡ true
-      go true true h = m (word % mostPages) h
+      go : (a b : Bool) → (a && (b && is_slot t start k (word % most_pages))) ≡ true → (a && (b && is_slot t start j (word % most_pages))) ≡ true
+      go true true h = m (word % most_pages) h
       go true false h = tf h refl
       go false b h = tf h refl
 
@@ -81,34 +81,34 @@ module _ (v : View) (t : List ℕ) (start : ℕ) (n : Name) (mark : ℕ) where
 
     -- one cell, by what it holds
     known-one : (cells : List ℕ) (h : Hash) (left : ℕ)
-        → known v t start k n mark cells h (suc left) ≡ cond (eqb (get_or cells (cell_of h) 0) 0) false (cond (isSame v t start k n mark (get_or cells (cell_of h) 0)) true (known v t start k n mark cells (mixed h 0) left))
+        → known v t start k n mark cells h (suc left) ≡ cond (eqb (get_or cells (cell_of h) 0) 0) false (cond (is_same v t start k n mark (get_or cells (cell_of h) 0)) true (known v t start k n mark cells (mixed h 0) left))
     unfolding known
     known-one cells h left = refl
 
     learnt-one : (page : ℕ) (cells : List ℕ) (h : Hash) (left : ℕ)
         → learnt v t start k n mark page cells h (suc left)
-        ≡ cond (eqb (get_or cells (cell_of h) 0) 0) (set cells (cell_of h) (word_of mark page)) (cond (isSame v t start k n mark (get_or cells (cell_of h) 0)) cells (learnt v t start k n mark page cells (mixed h 0) left))
+        ≡ cond (eqb (get_or cells (cell_of h) 0) 0) (set cells (cell_of h) (word_of mark page)) (cond (is_same v t start k n mark (get_or cells (cell_of h) 0)) cells (learnt v t start k n mark page cells (mixed h 0) left))
     unfolding learnt
     learnt-one page cells h left = refl
 
   -- a name that was met is met among more slots and in more cells
   known_more : (k j : ℕ) → More k j → (a b : List ℕ) → Grows a b → (left : ℕ) (h : Hash) → known v t start k n mark a h left ≡ true → known v t start j n mark b h left ≡ true
   known_more k j m a b g zero h e = known-zero j b h
-  known_more k j m a b g (suc left) h e = go (bool (eqb (get_or a (cell_of h) 0) 0)) (bool (isSame v t start k n mark (get_or a (cell_of h) 0))) (known_more k j m a b g left (mixed h 0))
+  known_more k j m a b g (suc left) h e = go (bool (eqb (get_or a (cell_of h) 0) 0)) (bool (is_same v t start k n mark (get_or a (cell_of h) 0))) (known_more k j m a b g left (mixed h 0))
     where
-      go : (eqb (get_or a (cell_of h) 0) 0 ≡ true) ⊎ (eqb (get_or a (cell_of h) 0) 0 ≡ false) → (isSame v t start k n mark (get_or a (cell_of h) 0) ≡ true) ⊎ (isSame v t start k n mark (get_or a (cell_of h) 0) ≡ false)
+      go : (eqb (get_or a (cell_of h) 0) 0 ≡ true) ⊎ (eqb (get_or a (cell_of h) 0) 0 ≡ false) → (is_same v t start k n mark (get_or a (cell_of h) 0) ≡ true) ⊎ (is_same v t start k n mark (get_or a (cell_of h) 0) ≡ false)
           → (known v t start k n mark a (mixed h 0) left ≡ true → known v t start j n mark b (mixed h 0) left ≡ true) → known v t start j n mark b h (suc left) ≡ true
       go (inl z) s f = tf e (known-one k a h left ∙ rw z)
       go (inr z) (inl s) f = rw (known-one j b h left, g.kept (cell_of h) (eqb-false _ _ z), z, same_more k j (get_or a (cell_of h) 0) m s)
       go (inr z) (inr s) f =
           rw (known-one j b h left, g.kept (cell_of h) (eqb-false _ _ z), z)
-          (onward (isSame v t start j n mark (get_or a (cell_of h) 0)) (f (sym (known-one k a h left ∙ rw (z, s)) ∙ e)))
+          (onward (is_same v t start j n mark (get_or a (cell_of h) 0)) (f (sym (known-one k a h left ∙ rw (z, s)) ∙ e)))
 
 -- what the search learns keeps the filled cells
 pub learnt-grows : (v : View) (t : List ℕ) (start k : ℕ) (n : Name) (mark page : ℕ) (cells : List ℕ) (left : ℕ) (h : Hash) → Grows cells (learnt v t start k n mark page cells h left)
 unfolding learnt
 learnt-grows v t start k n mark page cells zero h = grows_self cells
-learnt-grows v t start k n mark page cells (suc left) h = go (bool (eqb (get_or cells (cell_of h) 0) 0)) (isSame v t start k n mark (get_or cells (cell_of h) 0)) (learnt-grows v t start k n mark page cells left (mixed h 0))
+learnt-grows v t start k n mark page cells (suc left) h = go (bool (eqb (get_or cells (cell_of h) 0) 0)) (is_same v t start k n mark (get_or cells (cell_of h) 0)) (learnt-grows v t start k n mark page cells left (mixed h 0))
   where
     go : (eqb (get_or cells (cell_of h) 0) 0 ≡ true) ⊎ (eqb (get_or cells (cell_of h) 0) 0 ≡ false) → (s : Bool) → Grows cells (learnt v t start k n mark page cells (mixed h 0) left)
         → Grows cells (cond (eqb (get_or cells (cell_of h) 0) 0) (set cells (cell_of h) (word_of mark page)) (cond s cells (learnt v t start k n mark page cells (mixed h 0) left)))
@@ -117,34 +117,34 @@ learnt-grows v t start k n mark page cells (suc left) h = go (bool (eqb (get_or 
     go (inr z) false g = rw z g
 
 -- a cell's word gives back its mark and its page, and is not empty
-module _ (mark page : ℕ) (some-mark : 1 ≤ mark) (low : page < mostPages) where
-  word-mark : word_of mark page / mostPages ≡ mark
+module _ (mark page : ℕ) (some-mark : 1 ≤ mark) (low : page < most_pages) where
+  word-mark : word_of mark page / most_pages ≡ mark
   word-mark = omega arith
 
-  word-page : word_of mark page % mostPages ≡ page
+  word-page : word_of mark page % most_pages ≡ page
   word-page = omega arith
 
   word_some : word_of mark page ≡ 0 → ⊥
   word_some e = omega arith
 
 -- What the search learns is met, among the slots up to the name's own.
-module _ (v : View) (t : List ℕ) (start k : ℕ) (n : Name) (mark page : ℕ) (some-mark : 1 ≤ mark) (low : page < mostPages)
-    (borne : bears n (v.entry page) ≡ true) (own : isSlot t start (suc k) page ≡ true) (cells : List ℕ) (room : length cells ≡ mostPages) where
-  word_same : isSame v t start (suc k) n mark (word_of mark page) ≡ true
-  unfolding isSame
+module _ (v : View) (t : List ℕ) (start k : ℕ) (n : Name) (mark page : ℕ) (some-mark : 1 ≤ mark) (low : page < most_pages)
+    (borne : bears n (v.entry page) ≡ true) (own : is_slot t start (suc k) page ≡ true) (cells : List ℕ) (room : length cells ≡ most_pages) where
+  word_same : is_same v t start (suc k) n mark (word_of mark page) ≡ true
+  unfolding is_same
   word_same = rw (word-mark mark page some-mark low, word-page mark page some-mark low, eq-eqb mark mark refl, own, borne)
 
   learnt-known : (left : ℕ) (h : Hash) → known v t start (suc k) n mark (learnt v t start k n mark page cells h left) h left ≡ true
   learnt-known zero h = known-zero v t start n mark (suc k) (learnt v t start k n mark page cells h 0) h
-  learnt-known (suc left) h = go (bool (eqb (get_or cells (cell_of h) 0) 0)) (bool (isSame v t start k n mark (get_or cells (cell_of h) 0))) (learnt-known left (mixed h 0))
+  learnt-known (suc left) h = go (bool (eqb (get_or cells (cell_of h) 0) 0)) (bool (is_same v t start k n mark (get_or cells (cell_of h) 0))) (learnt-known left (mixed h 0))
     where
       found : (after : List ℕ) (word : ℕ) → learnt v t start k n mark page cells h (suc left) ≡ after → get_or after (cell_of h) 0 ≡ word → (word ≡ 0 → ⊥)
-          → cond (isSame v t start (suc k) n mark word) true (known v t start (suc k) n mark after (mixed h 0) left) ≡ true
+          → cond (is_same v t start (suc k) n mark word) true (known v t start (suc k) n mark after (mixed h 0) left) ≡ true
           → known v t start (suc k) n mark (learnt v t start k n mark page cells h (suc left)) h (suc left) ≡ true
       found after word e f full g = rw (e, known-one v t start n mark (suc k) after h left, f, ne_eqb word 0 full) g
 
       go : (eqb (get_or cells (cell_of h) 0) 0 ≡ true) ⊎ (eqb (get_or cells (cell_of h) 0) 0 ≡ false)
-          → (isSame v t start k n mark (get_or cells (cell_of h) 0) ≡ true) ⊎ (isSame v t start k n mark (get_or cells (cell_of h) 0) ≡ false)
+          → (is_same v t start k n mark (get_or cells (cell_of h) 0) ≡ true) ⊎ (is_same v t start k n mark (get_or cells (cell_of h) 0) ≡ false)
           → known v t start (suc k) n mark (learnt v t start k n mark page cells (mixed h 0) left) (mixed h 0) left ≡ true
           → known v t start (suc k) n mark (learnt v t start k n mark page cells h (suc left)) h (suc left) ≡ true
       go (inl z) s f =
@@ -156,7 +156,7 @@ module _ (v : View) (t : List ℕ) (start k : ℕ) (n : Name) (mark page : ℕ) 
       go (inr z) (inr s) f =
           found (learnt v t start k n mark page cells (mixed h 0) left) (get_or cells (cell_of h) 0) (learnt-one v t start n mark k page cells h left ∙ rw (z, s))
           ((learnt-grows v t start k n mark page cells left (mixed h 0)).kept (cell_of h) (eqb-false _ _ z)) (eqb-false _ _ z)
-          (onward (isSame v t start (suc k) n mark (get_or cells (cell_of h) 0)) f)
+          (onward (is_same v t start (suc k) n mark (get_or cells (cell_of h) 0)) f)
 
 -- ---- each way out of a turn of the search
 
@@ -179,7 +179,7 @@ module _ (v : View) (t : List ℕ) (start k : ℕ) (n : Name) (mark page : ℕ) 
             (sym (known-one v t start n mark k cells h left ∙ rw (eq-eqb _ 0 e)), sym (learnt-one v t start n mark k page cells h left ∙ rw (eq-eqb _ 0 e)))
 
     module _ (full : get_or cells (cell_of h) 0 ≡ 0 → ⊥) where
-      pub search-found : isSame v t start k n mark (get_or cells (cell_of h) 0) ≡ true → Ends left true cells
+      pub search-found : is_same v t start k n mark (get_or cells (cell_of h) 0) ≡ true → Ends left true cells
       search-found e = go left more
         where
           go : (left : ℕ) → 0 < left → Ends left true cells
@@ -187,7 +187,7 @@ module _ (v : View) (t : List ℕ) (start k : ℕ) (n : Name) (mark page : ℕ) 
           go (suc left) m =
               (sym (known-one v t start n mark k cells h left ∙ rw (ne_eqb _ 0 full, e)), sym (learnt-one v t start n mark k page cells h left ∙ rw (ne_eqb _ 0 full, e)))
 
-      pub search-next : isSame v t start k n mark (get_or cells (cell_of h) 0) ≡ false
+      pub search-next : is_same v t start k n mark (get_or cells (cell_of h) 0) ≡ false
           → (known v t start k n mark cells h left ≡ known v t start k n mark cells (mixed h 0) (left - 1))
           × (learnt v t start k n mark page cells h left ≡ learnt v t start k n mark page cells (mixed h 0) (left - 1))
       search-next e = go left more
@@ -204,17 +204,17 @@ module _ (v : View) (t : List ℕ) (start k : ℕ) (n : Name) (mark page : ℕ) 
 -- ---- what the cells know of a directory
 
 -- a live entry bears its own name
-own_name : (e : Entry) → isLive e ≡ true → bears e.name (some e) ≡ true
+own_name : (e : Entry) → is_live e ≡ true → bears e.name (some e) ≡ true
 own_name e l = rw (l, Eq-name.self e.name)
 
 module _ (v : View) (t : List ℕ) (first start : ℕ) where
-  pub knows-none : (cells : List ℕ) → length cells ≡ mostPages → Knows v t first start 0 cells
+  pub knows-none : (cells : List ℕ) → length cells ≡ most_pages → Knows v t first start 0 cells
   unfolding live_before
   knows-none cells l = record { room = l; all = λ n h. absurd (omega arith) }
 
   module _ (k : ℕ) (cells : List ℕ) (kn : Knows v t first start k cells) where
     -- a name that is not met stands nowhere before
-    pub knows-new : (n : Name) → isMet v t first start k n cells ≡ false → live_before v t start k n ≡ 0
+    pub knows-new : (n : Name) → is_met v t first start k n cells ≡ false → live_before v t start k n ≡ 0
     knows-new n e = go (live_before v t start k n) refl
       where
         go : (x : ℕ) → live_before v t start k n ≡ x → x ≡ 0
@@ -222,44 +222,44 @@ module _ (v : View) (t : List ℕ) (first start : ℕ) where
         go (suc x) p = tf (kn.all n (omega arith)) e
 
     -- an entry that bears no live name
-    pub knows-skip : ((n : Name) → liveHit (v.entry (slotPage (clusterAt t start k) k)) n ≡ 0) → Knows v t first start (suc k) cells
+    pub knows-skip : ((n : Name) → live_hit (v.entry (slot_page (cluster_at t start k) k)) n ≡ 0) → Knows v t first start (suc k) cells
     unfolding live_before
     knows-skip z =
         record {
           room = kn.room;
-          all = λ n h. known_more v t start n (mark_of (hashOf first n)) k (suc k) (λ p. slot-later t start p k) cells cells (grows_self cells) mostPages (hashOf first n) (kn.all n (omega (arith, z n)));
+          all = λ n h. known_more v t start n (mark_of (hash_of first n)) k (suc k) (λ p. slot-later t start p k) cells cells (grows_self cells) most_pages (hash_of first n) (kn.all n (omega (arith, z n)));
         }
 
     -- a live entry whose name is learnt
-    pub knows-learnt : (e : Entry) → v.entry (slotPage (clusterAt t start k) k) ≡ some e → isLive e ≡ true → slotPage (clusterAt t start k) k < mostPages
-        → Knows v t first start (suc k) (withName v t first start k e.name (slotPage (clusterAt t start k) k) cells)
+    pub knows-learnt : (e : Entry) → v.entry (slot_page (cluster_at t start k) k) ≡ some e → is_live e ≡ true → slot_page (cluster_at t start k) k < most_pages
+        → Knows v t first start (suc k) (with_name v t first start k e.name (slot_page (cluster_at t start k) k) cells)
     unfolding live_before
     knows-learnt e i l low = record { room = grown.room ∙ kn.room; all = λ n h. go n h (bool (same_name e.name n)) }
       where
         page : ℕ
-        page = slotPage (clusterAt t start k) k
+        page = slot_page (cluster_at t start k) k
 
         after : List ℕ
-        after = withName v t first start k e.name page cells
+        after = with_name v t first start k e.name page cells
 
         grown : Grows cells after
-        grown = learnt-grows v t start k e.name (mark_of (hashOf first e.name)) page cells mostPages (hashOf first e.name)
+        grown = learnt-grows v t start k e.name (mark_of (hash_of first e.name)) page cells most_pages (hash_of first e.name)
 
-        go : (n : Name) → 1 ≤ live_before v t start k n + liveHit (v.entry page) n
-            → (same_name e.name n ≡ true) ⊎ (same_name e.name n ≡ false) → isMet v t first start (suc k) n after ≡ true
+        go : (n : Name) → 1 ≤ live_before v t start k n + live_hit (v.entry page) n
+            → (same_name e.name n ≡ true) ⊎ (same_name e.name n ≡ false) → is_met v t first start (suc k) n after ≡ true
         go n h (inl s) =
             rw (← Eq-name.sound e.name n s)
-            (learnt-known v t start k e.name (mark_of (hashOf first e.name)) page (omega arith) low (rw i (own_name e l)) (slot-here t start page k refl) cells kn.room mostPages (hashOf first e.name))
+            (learnt-known v t start k e.name (mark_of (hash_of first e.name)) page (omega arith) low (rw i (own_name e l)) (slot-here t start page k refl) cells kn.room most_pages (hash_of first e.name))
         go n h (inr s) =
-            let z : liveHit (v.entry page) n ≡ 0 = ap (λ (o : Option Entry). liveHit o n) i ∙ zero-hit (isLive e) in
-            known_more v t start n (mark_of (hashOf first n)) k (suc k) (λ p. slot-later t start p k) cells after grown mostPages (hashOf first n) (kn.all n (omega arith))
+            let z : live_hit (v.entry page) n ≡ 0 = ap (λ (o : Option Entry). live_hit o n) i ∙ zero-hit (is_live e) in
+            known_more v t start n (mark_of (hash_of first n)) k (suc k) (λ p. slot-later t start p k) cells after grown most_pages (hash_of first n) (kn.all n (omega arith))
           where
             zero-hit : (b : Bool) → ◌≡◌ {A = ℕ} (cond b (cond (same_name e.name n) 1 0) 0) 0
             zero-hit true = rw s
             zero-hit false = refl
 
     knows-grows : (after : List ℕ) → Grows cells after → Knows v t first start k after
-    knows-grows after g = record { room = g.room ∙ kn.room; all = λ n h. known_more v t start n (mark_of (hashOf first n)) k k (λ p e. e) cells after g mostPages (hashOf first n) (kn.all n h) }
+    knows-grows after g = record { room = g.room ∙ kn.room; all = λ n h. known_more v t start n (mark_of (hash_of first n)) k k (λ p e. e) cells after g most_pages (hash_of first n) (kn.all n h) }
 
   -- after a slot whose inside filled more cells
   pub knows_on : (k : ℕ) (all before mid after : List ℕ) → Grows all before → Knows v t first start k mid × Grows before mid → Grows mid after

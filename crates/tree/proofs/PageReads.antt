@@ -2,12 +2,12 @@
 use Rattle.layout.specs.declared.Geometry.{Geometry}
 use Rattle.std.proofs.Common.{◌≡◌, ℕ, ◌*◌, Bool, true, false, cond, not, ◌&&◌, ltb, List, length, refl, ◌∙◌, arith}
 use mathlib.Core.Option.{Option, none, some}
-use Rattle.model.specs.Entry.{Entry, entryOf, isLive}
+use Rattle.model.specs.Entry.{Entry, entry_of, is_live}
 use Rattle.model.specs.Names.{Name, same_name}
 use Rattle.model.specs.Pages.{decoded}
-use Rattle.page.specs.Page.{Read, is_some, pageAt}
+use Rattle.page.specs.Page.{Read, is_some, page_at}
 use Rattle.page.proofs.Laws.{page-length}
-use Rattle.layout.specs.See.{imagePage, pageIn}
+use Rattle.layout.specs.See.{image_page, page_in}
 use Rattle.tree.specs.Scan.{bears, dies, lives}
 use Rattle.tree.proofs.LookLaws.{was_read}
 
@@ -20,25 +20,25 @@ readable {o} k e = k.readable ∙ go o e
     go (some d) h = refl
 
 pub named_live : {o : Option (List ℕ)} {before after : List ℕ} {r : Bool} (n : Name) (a b : Bool) → Read o before r after → r ≡ true
-    → a ≡ isLive (entryOf after) → b ≡ same_name (entryOf after).name n → (a && b) ≡ bears n (decoded o)
+    → a ≡ is_live (entry_of after) → b ≡ same_name (entry_of after).name n → (a && b) ≡ bears n (decoded o)
 named_live n a b k e f g = rw (was_read k e, f, g)
 
 pub shown-live : {o : Option (List ℕ)} {before after : List ℕ} {r : Bool} (a : Bool) → Read o before r after → r ≡ true
-    → a ≡ isLive (entryOf after) → a ≡ lives (decoded o)
+    → a ≡ is_live (entry_of after) → a ≡ lives (decoded o)
 shown-live a k e f = rw (was_read k e, f)
 
 pub shown-dead : {o : Option (List ℕ)} {before after : List ℕ} {r : Bool} (a : Bool) → Read o before r after → r ≡ true
-    → a ≡ isLive (entryOf after) → not a ≡ dies (decoded o)
+    → a ≡ is_live (entry_of after) → not a ≡ dies (decoded o)
 shown-dead a k e f = rw (was_read k e, f)
 
 pub none-lives : {o : Option Entry} → o ≡ none → false ≡ lives o
 none-lives e = rw e
 
 -- a page that the view reads has 512 bytes
-pub view-sized : (geometry : Geometry) (count : ℕ) (image : List ℕ) (p : ℕ) (d : List ℕ) → pageIn geometry count image p ≡ some d → length d ≡ 512
-unfolding pageIn
+pub view-sized : (geometry : Geometry) (count : ℕ) (image : List ℕ) (p : ℕ) (d : List ℕ) → page_in geometry count image p ≡ some d → length d ≡ 512
+unfolding page_in
 view-sized geometry count image p d e = go (ltb p (2 * count)) e
   where
-    go : (b : Bool) → cond b (pageAt geometry.format image (imagePage geometry p)) none ≡ some d → length d ≡ 512
-    go true h = page-length geometry.format image (imagePage geometry p) d h
+    go : (b : Bool) → cond b (page_at geometry.format image (image_page geometry p)) none ≡ some d → length d ≡ 512
+    go true h = page-length geometry.format image (image_page geometry p) d h
     go false h = absurd (let z : ◌≡◌ {A = ℕ} 0 1 = cc in omega arith)

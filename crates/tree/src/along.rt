@@ -1,10 +1,10 @@
 // Along the pages of a directory or a file: the first one that a test takes.
 ghost use Rattle.std.specs.Prelude.{◌≡◌, nat_lt};
-ghost use Rattle.model.specs.Entry.{entryOf};
+ghost use Rattle.model.specs.Entry.{entry_of};
 ghost use Rattle.tree.specs.declared.along.Place.TheVariants.{Nowhere};
-ghost use Rattle.layout.specs.See.{viewBy};
-ghost use Rattle.tree.specs.Slots.{clusterAt, live_before};
-ghost use Rattle.tree.specs.Scan.{FirstFrom, FirstOf, bearing, bears, dies, dying, livingFrom, seeks, unread};
+ghost use Rattle.layout.specs.See.{view_by};
+ghost use Rattle.tree.specs.Slots.{cluster_at, live_before};
+ghost use Rattle.tree.specs.Scan.{FirstFrom, FirstOf, bearing, bears, dies, dying, living_from, seeks, unread};
 
 use crate::slots::{judge_slot, next_of, read_slot, slot_page};
 use fields::kinds::is_live;
@@ -35,7 +35,7 @@ pub(crate) fn named_at(
     page: usize,
     name: &[u8],
 ) -> bool
-    ensures { result ≡ bears name.now ((viewBy geometry table.now image.now).entry page) }
+    ensures { result ≡ bears name.now ((view_by geometry table.now image.now).entry page) }
 {
     let mut d = [0u8; 512];
     if !read_slot(image, geometry, table.len(), page, &mut d) {
@@ -46,7 +46,7 @@ pub(crate) fn named_at(
 
 // Whether slot k is `from` or a later one and a live entry stands in its page.
 fn live_at(image: &[u8], table: &[u32], geometry: Geometry, from: u32, k: u32, page: usize) -> bool
-    ensures { result ≡ livingFrom (viewBy geometry table.now image.now) from k page }
+    ensures { result ≡ living_from (view_by geometry table.now image.now) from k page }
 {
     if k < from {
         return false;
@@ -60,7 +60,7 @@ fn live_at(image: &[u8], table: &[u32], geometry: Geometry, from: u32, k: u32, p
 
 // Whether a dead entry stands in the page.
 fn dead_at(image: &[u8], table: &[u32], geometry: Geometry, page: usize) -> bool
-    ensures { result ≡ dies ((viewBy geometry table.now image.now).entry page) }
+    ensures { result ≡ dies ((view_by geometry table.now image.now).entry page) }
 {
     let mut d = [0u8; 512];
     if !read_slot(image, geometry, table.len(), page, &mut d) {
@@ -71,7 +71,7 @@ fn dead_at(image: &[u8], table: &[u32], geometry: Geometry, page: usize) -> bool
 
 // Whether the page is unreadable.
 fn unreadable_at(image: &[u8], table: &[u32], geometry: Geometry, k: u32, page: usize) -> bool
-    ensures { result ≡ unread (viewBy geometry table.now image.now) k page }
+    ensures { result ≡ unread (view_by geometry table.now image.now) k page }
 {
     !judge_slot(image, geometry, table.len(), page)
 }
@@ -86,7 +86,7 @@ fn is_sought(
     k: u32,
     page: usize,
 ) -> bool
-    ensures { result ≡ seeks (viewBy geometry table.now image.now) sought name.now k page }
+    ensures { result ≡ seeks (view_by geometry table.now image.now) sought name.now k page }
 {
     match sought {
         Sought::Named => named_at(image, table, geometry, page, name),
@@ -107,7 +107,7 @@ fn first_sought(
     sought: Sought,
     name: &[u8],
 ) -> Place
-    ensures { FirstFrom (seeks (viewBy geometry table.now image.now) sought name.now) table.now start low high result }
+    ensures { FirstFrom (seeks (view_by geometry table.now image.now) sought name.now) table.now start low high result }
 {
     let mut c = start;
     let mut k = low;
@@ -136,7 +136,7 @@ pub fn find_name(
     count: u32,
     name: &[u8],
 ) -> Place
-    ensures { FirstOf (bearing (viewBy geometry table.now image.now) name.now) table.now start count result }
+    ensures { FirstOf (bearing (view_by geometry table.now image.now) name.now) table.now start count result }
 {
     first_sought(image, table, geometry, start, 0, count, Sought::Named, name)
 }
@@ -150,7 +150,7 @@ pub fn first_live(
     count: u32,
     from: u32,
 ) -> Place
-    ensures { FirstOf (livingFrom (viewBy geometry table.now image.now) from) table.now start count result }
+    ensures { FirstOf (living_from (view_by geometry table.now image.now) from) table.now start count result }
 {
     first_sought(
         image,
@@ -166,7 +166,7 @@ pub fn first_live(
 
 // The first of them whose entry is dead.
 pub fn first_dead(image: &[u8], table: &[u32], geometry: Geometry, start: u32, count: u32) -> Place
-    ensures { FirstOf (dying (viewBy geometry table.now image.now)) table.now start count result }
+    ensures { FirstOf (dying (view_by geometry table.now image.now)) table.now start count result }
 {
     first_sought(image, table, geometry, start, 0, count, Sought::Dead, b"")
 }
@@ -180,7 +180,7 @@ pub fn first_unreadable(
     low: u32,
     high: u32,
 ) -> Place
-    ensures { FirstFrom (unread (viewBy geometry table.now image.now)) table.now start low high result }
+    ensures { FirstFrom (unread (view_by geometry table.now image.now)) table.now start low high result }
 {
     first_sought(
         image,
@@ -196,7 +196,7 @@ pub fn first_unreadable(
 
 // The cluster of half cluster `count` of the chain that begins with cluster `first`.
 pub fn cluster_at(table: &[u32], first: u32, count: u32) -> u32
-    ensures { result ≡ clusterAt table.now first count }
+    ensures { result ≡ cluster_at table.now first count }
 {
     let mut c = first;
     let mut k: u32 = 0;
@@ -218,7 +218,7 @@ pub(crate) fn name_taken(
     k: u32,
     d: &[u8; 512],
 ) -> bool
-    ensures { result ≡ nat_lt 0 (live_before (viewBy geometry table.now image.now) table.now start k (entryOf d.now).name) }
+    ensures { result ≡ nat_lt 0 (live_before (view_by geometry table.now image.now) table.now start k (entry_of d.now).name) }
 {
     let place = find_name(image, table, geometry, start, k, entry_name(d));
     match place {

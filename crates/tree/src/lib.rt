@@ -6,13 +6,13 @@ mod tasks;
 mod walk;
 
 ghost use Rattle.std.specs.Prelude.{◌≡◌, ◌^◌, ◌<◌, ◌≤◌, length, take};
-ghost use Rattle.layout.specs.Mended.{mendedOf};
-ghost use Rattle.layout.specs.See.{checkImage, onImage, viewBy};
-ghost use Rattle.layout.specs.Table.{openCard, tableAfter, toldOpened};
-ghost use Rattle.model.specs.Check.{checkTree};
-ghost use Rattle.model.specs.View.{mostClusters};
-ghost use Rattle.tree.specs.Counted.{CountsAddUp, checkOf, countsBy, mendedUnless, openedBy, superblockIn, toldCounts, treeBy};
-ghost use Rattle.tree.specs.Mended.{mendedPage};
+ghost use Rattle.layout.specs.Mended.{mended_of};
+ghost use Rattle.layout.specs.See.{check_image, on_image, view_by};
+ghost use Rattle.layout.specs.Table.{open_card, table_after, told_opened};
+ghost use Rattle.model.specs.Check.{check_tree};
+ghost use Rattle.model.specs.View.{most_clusters};
+ghost use Rattle.tree.specs.Counted.{CountsAddUp, check_of, counts_by, mended_unless, opened_by, superblock_in, told_counts, tree_by};
+ghost use Rattle.tree.specs.Mended.{mended_page};
 ghost use Rattle.tree.specs.Walk.{Passes};
 
 use layout::{Geometry, Opened, Refusal, Superblock, Verdict, open_card};
@@ -43,8 +43,8 @@ pub enum Checked {
 // The counts of a card by the words of its table, which come first, each by its own definition; so many chunks were corrected
 // before its tree.
 fn count_card(image: &[u8], table: &[u32], s: Superblock, opening: usize) -> Checked
-    requires { (s.end ≤ length table.now) × (s.end ≤ mostClusters) × (opening < 2 ^ 32) }
-    ensures { toldCounts result ≡ countsBy s opening (take s.end table.now) image.now }
+    requires { (s.end ≤ length table.now) × (s.end ≤ most_clusters) × (opening < 2 ^ 32) }
+    ensures { told_counts result ≡ counts_by s opening (take s.end table.now) image.now }
 {
     let geometry = s.geometry;
     let bad = s.bad;
@@ -72,7 +72,7 @@ fn count_card(image: &[u8], table: &[u32], s: Superblock, opening: usize) -> Che
 
 // The whole check, with room lent for the table: working room, of whose words afterwards nothing is told.
 pub fn check_in(format: Format, image: &[u8], table: &mut [u32; MOST_CLUSTERS]) -> Checked
-    ensures { toldCounts result ≡ checkOf format image.now }
+    ensures { told_counts result ≡ check_of format image.now }
 {
     let opened = open_card(format, image, table);
     let verdict = opened.verdict;
@@ -84,7 +84,7 @@ pub fn check_in(format: Format, image: &[u8], table: &mut [u32; MOST_CLUSTERS]) 
 
 // The whole check: free, reached, orphaned and held back clusters, or the refusal.
 pub fn check(format: Format, image: &[u8]) -> Checked
-    ensures { toldCounts result ≡ checkOf format image.now }
+    ensures { told_counts result ≡ check_of format image.now }
 {
     let mut table = [0u32; MOST_CLUSTERS];
     check_in(format, image, &mut table)
@@ -103,8 +103,8 @@ fn judge_tree(
     geometry: Geometry,
     mended: &mut usize,
 ) -> Verdict
-    requires { (end ≤ length table.now) × (end ≤ mostClusters) }
-    ensures { Passes (mendedPage geometry image.now) mended.old (onImage geometry (checkTree (viewBy geometry (take end table.now) image.now))) result mended.new }
+    requires { (end ≤ length table.now) × (end ≤ most_clusters) }
+    ensures { Passes (mended_page geometry image.now) mended.old (on_image geometry (check_tree (view_by geometry (take end table.now) image.now))) result mended.new }
 {
     let walked = walk_root(image, &table[..end], geometry, mended);
     walked.verdict
@@ -112,9 +112,9 @@ fn judge_tree(
 
 // A card that is open, its tree checked too; so many chunks were corrected before its tree.
 fn open_tree(image: &[u8], table: &[u32], s: Superblock, opening: usize) -> Opened
-    requires { (s.end ≤ length table.now) × (s.end ≤ mostClusters) × (opening < 2 ^ 32) }
-    ensures opened { toldOpened result ≡ openedBy s (take s.end table.now) image.now }
-    ensures mended { result.mended ≡ mendedUnless s image.now opening (treeBy s (take s.end table.now) image.now) }
+    requires { (s.end ≤ length table.now) × (s.end ≤ most_clusters) × (opening < 2 ^ 32) }
+    ensures opened { told_opened result ≡ opened_by s (take s.end table.now) image.now }
+    ensures mended { result.mended ≡ mended_unless s image.now opening (tree_by s (take s.end table.now) image.now) }
 {
     let mut mended = opening;
     let verdict = judge_tree(image, table, s.end as usize, s.geometry, &mut mended);
@@ -135,9 +135,9 @@ fn open_tree(image: &[u8], table: &[u32], s: Superblock, opening: usize) -> Open
 // The whole check, with the superblock for the calls that go on from it. The lent room is working room: it gets the table's
 // words once they are sound, and keeps them where the tree is then refused.
 pub fn open_checked(format: Format, image: &[u8], room: &mut [u32; MOST_CLUSTERS]) -> Opened
-    ensures checked { toldOpened result ≡ superblockIn (checkImage format image.now) }
-    ensures working_room { room.new ≡ tableAfter image.now (openCard format image.now) room.old }
-    ensures mended { (result.mended ≡ mendedOf format image.now) × (result.mended < 2 ^ 32) }
+    ensures checked { told_opened result ≡ superblock_in (check_image format image.now) }
+    ensures working_room { room.new ≡ table_after image.now (open_card format image.now) room.old }
+    ensures mended { (result.mended ≡ mended_of format image.now) × (result.mended < 2 ^ 32) }
 {
     let opened = open_card(format, image, room);
     let verdict = opened.verdict;

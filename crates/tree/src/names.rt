@@ -2,8 +2,8 @@
 // A cell has the page of an entry that was met, and a mark of its name. A name is looked for from cell to cell as its hash
 // goes on; an empty cell ends the search, so a name that was met is found before it.
 ghost use Rattle.std.specs.Prelude.{◌≡◌, ◌^◌, ◌<◌, ◌≤◌, length, drop, slice_index};
-ghost use Rattle.layout.specs.See.{viewBy};
-ghost use Rattle.tree.specs.Met.{Small, hashOf, isMet, isSame, mixed, mostPages, threeOf, withName};
+ghost use Rattle.layout.specs.See.{view_by};
+ghost use Rattle.tree.specs.Met.{Small, hash_of, is_met, is_same, mixed, most_pages, three_of, with_name};
 
 use crate::along::named_at;
 use crate::slots::is_slot;
@@ -58,7 +58,7 @@ fn byte_or_zero(bytes: &[u8], i: usize) -> u64
 // Three bytes of a name from `at` on, as one number.
 fn three_at(name: &[u8], at: usize) -> u64
     requires { at ≤ length name.now }
-    ensures { (result ≡ threeOf (drop at name.now)) × (result < 2 ^ 24) }
+    ensures { (result ≡ three_of (drop at name.now)) × (result < 2 ^ 24) }
 {
     let rest = &name[at..];
     byte_or_zero(rest, 0) + 256 * byte_or_zero(rest, 1) + 65_536 * byte_or_zero(rest, 2)
@@ -67,7 +67,7 @@ fn three_at(name: &[u8], at: usize) -> u64
 // A name's hash in the directory that begins with cluster `first`: the same name goes elsewhere in another directory.
 // Three bytes to a turn, and one turn more, so that the last of them do not lead straight to a cell.
 fn name_hash(first: u32, name: &[u8]) -> Hash
-    ensures { (result ≡ hashOf first name.now) × Small result }
+    ensures { (result ≡ hash_of first name.now) × Small result }
 {
     let mut h = Hash {
         a: first as u64 % 2_139_095_017,
@@ -95,7 +95,7 @@ fn is_same(
     mark: usize,
     word: u32,
 ) -> bool
-    ensures { result ≡ isSame (viewBy geometry table.now image.now) table.now start k name.now mark word }
+    ensures { result ≡ is_same (view_by geometry table.now image.now) table.now start k name.now mark word }
 {
     let whole = word as usize;
     if whole / CELLS != mark {
@@ -120,9 +120,9 @@ pub(crate) fn meet(
     name: &[u8],
     cells: &mut [u32; CELLS],
 ) -> bool
-    requires { page < mostPages }
-    ensures value { result ≡ isMet (viewBy geometry table.now image.now) table.now first start k name.now cells.old }
-    ensures cells_after { cells.new ≡ withName (viewBy geometry table.now image.now) table.now first start k name.now page cells.old }
+    requires { page < most_pages }
+    ensures value { result ≡ is_met (view_by geometry table.now image.now) table.now first start k name.now cells.old }
+    ensures cells_after { cells.new ≡ with_name (view_by geometry table.now image.now) table.now first start k name.now page cells.old }
 {
     let own = name_hash(first, name);
     let mark = (own.a % MARKS) as usize + 1;

@@ -1,10 +1,10 @@
 // The slots of a directory: their pages, and the live names in them.
 ghost use Rattle.std.specs.Prelude.{◌≡◌, ◌+◌, ◌-◌, ◌*◌, ◌<◌, length};
-ghost use Rattle.model.specs.Bytes.{pageLimit};
-ghost use Rattle.layout.specs.See.{pageIn};
+ghost use Rattle.model.specs.Bytes.{page_limit};
+ghost use Rattle.layout.specs.See.{page_in};
 ghost use Rattle.page.specs.Page.{Read, is_some};
-ghost use Rattle.tree.specs.Mended.{countAfter, mendedPage};
-ghost use Rattle.tree.specs.Slots.{clusterAfter, isSlot, next_of, slotPage};
+ghost use Rattle.tree.specs.Mended.{count_after, mended_page};
+ghost use Rattle.tree.specs.Slots.{cluster_after, is_slot, next_of, slot_page};
 
 use layout::{Geometry, image_page};
 use page::{judge_page, page_count, read_page};
@@ -26,7 +26,7 @@ pub fn next_of(table: &[u32], c: u32) -> u32
 
 // The cluster of the slot after slot k, which lies in cluster c.
 pub(crate) fn cluster_after(table: &[u32], c: u32, k: u32) -> u32
-    ensures { result ≡ clusterAfter table.now c k }
+    ensures { result ≡ cluster_after table.now c k }
 {
     if k % 2 == 1 {
         return next_of(table, c);
@@ -36,14 +36,14 @@ pub(crate) fn cluster_after(table: &[u32], c: u32, k: u32) -> u32
 
 // The page of slot k, which lies in cluster c.
 pub fn slot_page(c: u32, k: u32) -> usize
-    ensures { (result ≡ slotPage c k) × (result < pageLimit) }
+    ensures { (result ≡ slot_page c k) × (result < page_limit) }
 {
     c as usize * 2 + (k % 2) as usize
 }
 
 // Whether the page is that of a slot before slot k of the directory whose slots begin in cluster `start`.
 pub(crate) fn is_slot(table: &[u32], start: u32, k: u32, page: usize) -> bool
-    ensures { result ≡ isSlot table.now start k page }
+    ensures { result ≡ is_slot table.now start k page }
 {
     let mut c = start;
     let mut i: u32 = 0;
@@ -77,8 +77,8 @@ pub fn read_needed(
     out: &mut [u8; 512],
     mended: &mut usize,
 ) -> bool
-    ensures read { Read (pageIn geometry count image.now page) out.old result out.new }
-    ensures counted { mended.new ≡ countAfter (pageIn geometry count image.now page) (mendedPage geometry image.now page) mended.old }
+    ensures read { Read (page_in geometry count image.now page) out.old result out.new }
+    ensures counted { mended.new ≡ count_after (page_in geometry count image.now page) (mended_page geometry image.now page) mended.old }
 {
     if count <= page / 2 {
         return false;
@@ -103,7 +103,7 @@ pub fn read_slot(
     page: usize,
     out: &mut [u8; 512],
 ) -> bool
-    ensures { Read (pageIn geometry count image.now page) out.old result out.new }
+    ensures { Read (page_in geometry count image.now page) out.old result out.new }
 {
     let mut mended: usize = 0;
     read_needed(image, geometry, count, page, out, &mut mended)
@@ -111,7 +111,7 @@ pub fn read_slot(
 
 // Whether a page of the allocatable clusters, of which there are `count`, has data.
 pub fn judge_slot(image: &[u8], geometry: Geometry, count: usize, page: usize) -> bool
-    ensures { result ≡ is_some (pageIn geometry count image.now page) }
+    ensures { result ≡ is_some (page_in geometry count image.now page) }
 {
     if count <= page / 2 {
         return false;

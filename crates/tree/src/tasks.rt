@@ -1,6 +1,6 @@
 // What stands in a slot, and what the walk has to do for it.
 ghost use Rattle.std.specs.Prelude.{◌≡◌};
-ghost use Rattle.tree.specs.Walk.{isSound, lookBy, soundBy, taskBy, task_of};
+ghost use Rattle.tree.specs.Walk.{is_sound, look_by, sound_by, task_by, task_of};
 
 use fields::kinds::Kind;
 use layout::{Refusal, Verdict};
@@ -28,7 +28,7 @@ pub(crate) struct Task {
 }
 
 pub(crate) fn is_sound(verdict: Verdict) -> bool
-    ensures { result ≡ isSound verdict }
+    ensures { result ≡ is_sound verdict }
 {
     match verdict {
         Verdict::Sound => true,
@@ -37,7 +37,7 @@ pub(crate) fn is_sound(verdict: Verdict) -> bool
 }
 
 pub(crate) fn look_by(kind: Kind) -> Look
-    ensures { result ≡ lookBy kind }
+    ensures { result ≡ look_by kind }
 {
     match kind {
         Kind::Dead => Look::Dead,
@@ -49,7 +49,7 @@ pub(crate) fn look_by(kind: Kind) -> Look
 
 // A task with no chain.
 pub(crate) fn task_by(verdict: Verdict) -> Task
-    ensures { result ≡ taskBy verdict }
+    ensures { result ≡ task_by verdict }
 {
     Task {
         verdict: verdict,
@@ -100,7 +100,7 @@ pub(crate) fn task_of(look: Look, below: u32) -> Task
 
 // A chain's verdict.
 pub(crate) fn sound_by(sound: bool) -> Verdict
-    ensures { result ≡ soundBy sound }
+    ensures { result ≡ sound_by sound }
 {
     if sound {
         return Verdict::Sound;

@@ -1,16 +1,16 @@
 // The walk of the directory tree, depth first (RULES, "Directories"): the first fault met, or the clusters reached.
 ghost use Rattle.std.specs.Prelude.{◌≡◌, ◌+◌, ◌-◌, ◌*◌, ◌<◌, ◌≤◌, [], ◌∷◌, length};
-ghost use Rattle.model.specs.Bytes.{pageLimit};
-ghost use Rattle.layout.specs.See.{onImage, viewBy};
-ghost use Rattle.model.specs.Check.{checkTree, judgeDots};
-ghost use Rattle.model.specs.View.{mostClusters};
-ghost use Rattle.model.specs.Needed.{totalOver};
-ghost use Rattle.reached.specs.Marks.{Sound, marksOf};
+ghost use Rattle.model.specs.Bytes.{page_limit};
+ghost use Rattle.layout.specs.See.{on_image, view_by};
+ghost use Rattle.model.specs.Check.{check_tree, judge_dots};
+ghost use Rattle.model.specs.View.{most_clusters};
+ghost use Rattle.model.specs.Needed.{total_over};
+ghost use Rattle.reached.specs.Marks.{Sound, marks_of};
 ghost use Rattle.layout.specs.Mended.{Adds};
-ghost use Rattle.tree.specs.Mended.{mendedPage};
-ghost use Rattle.tree.specs.Met.{Grows, Knows, mostPages};
-ghost use Rattle.tree.specs.Slots.{clusterAt, slotPage};
-ghost use Rattle.tree.specs.Walk.{Judges, LookAdds, Tells, dotIn, dotPages, insideOf, lookedIn, rootTallied};
+ghost use Rattle.tree.specs.Mended.{mended_page};
+ghost use Rattle.tree.specs.Met.{Grows, Knows, most_pages};
+ghost use Rattle.tree.specs.Slots.{cluster_at, slot_page};
+ghost use Rattle.tree.specs.Walk.{Judges, LookAdds, Tells, dot_in, dot_pages, inside_of, looked_in, root_tallied};
 
 use crate::along::name_taken;
 use crate::names::{CELLS, meet};
@@ -44,10 +44,10 @@ fn look_at(
     cells: &mut [u32; CELLS],
     mended: &mut usize,
 ) -> Look
-    requires { (length table.now ≤ mostClusters) × (c ≡ clusterAt table.now start k) × Knows (viewBy geometry table.now image.now) table.now first start k cells.old }
-    ensures value { result ≡ lookedIn (viewBy geometry table.now image.now) geometry table.now start c k }
-    ensures knows { Knows (viewBy geometry table.now image.now) table.now first start (k + 1) cells.new × Grows cells.old cells.new }
-    ensures look_adds { LookAdds result mended.old (mendedPage geometry image.now (slotPage c k)) mended.new }
+    requires { (length table.now ≤ most_clusters) × (c ≡ cluster_at table.now start k) × Knows (view_by geometry table.now image.now) table.now first start k cells.old }
+    ensures value { result ≡ looked_in (view_by geometry table.now image.now) geometry table.now start c k }
+    ensures knows { Knows (view_by geometry table.now image.now) table.now first start (k + 1) cells.new × Grows cells.old cells.new }
+    ensures look_adds { LookAdds result mended.old (mended_page geometry image.now (slot_page c k)) mended.new }
 {
     let page = slot_page(c, k);
     if !read_needed(image, geometry, table.len(), page, d, mended) {
@@ -84,9 +84,9 @@ fn judge_dot(
     name: &[u8],
     mended: &mut usize,
 ) -> Verdict
-    requires { page < pageLimit }
-    ensures judged { Judges (onImage geometry (dotIn (viewBy geometry table.now image.now) name.now page)) result }
-    ensures counted { Adds result mended.old (mendedPage geometry image.now page) mended.new }
+    requires { page < page_limit }
+    ensures judged { Judges (on_image geometry (dot_in (view_by geometry table.now image.now) name.now page)) result }
+    ensures counted { Adds result mended.old (mended_page geometry image.now page) mended.new }
 {
     let mut d = [0u8; 512];
     if !read_needed(image, geometry, table.len(), page, &mut d, mended) {
@@ -105,8 +105,8 @@ fn judge_dots(
     first: u32,
     mended: &mut usize,
 ) -> Verdict
-    ensures judged { Judges (onImage geometry (judgeDots (viewBy geometry table.now image.now) (first ∷ []))) result }
-    ensures counted { Adds result mended.old (totalOver (mendedPage geometry image.now) (dotPages first)) mended.new }
+    ensures judged { Judges (on_image geometry (judge_dots (view_by geometry table.now image.now) (first ∷ []))) result }
+    ensures counted { Adds result mended.old (total_over (mended_page geometry image.now) (dot_pages first)) mended.new }
 {
     let page = first as usize * 2;
     let a = judge_dot(image, table, geometry, page, b".", mended);
@@ -130,8 +130,8 @@ fn walk_dir(
     entries: u32,
     below: u32,
 ) -> Walked
-    requires { (length table.now ≤ mostClusters) × Sound reached × (length cells.old ≡ mostPages) }
-    ensures tells { Tells (onImage geometry (insideOf (viewBy geometry table.now image.now) (mendedPage geometry image.now) below table.now first entries (marksOf reached) mended.old)) result.verdict result.reached mended.new }
+    requires { (length table.now ≤ most_clusters) × Sound reached × (length cells.old ≡ most_pages) }
+    ensures tells { Tells (on_image geometry (inside_of (view_by geometry table.now image.now) (mended_page geometry image.now) below table.now first entries (marks_of reached) mended.old)) result.verdict result.reached mended.new }
     ensures grows { Grows cells.old cells.new }
 {
     let mut v = judge_dots(image, table, geometry, first, mended);
@@ -192,8 +192,8 @@ pub(crate) fn walk_root(
     geometry: Geometry,
     mended: &mut usize,
 ) -> Walked
-    requires { length table.now ≤ mostClusters }
-    ensures { Tells (onImage geometry (rootTallied (mendedPage geometry image.now) mended.old (checkTree (viewBy geometry table.now image.now)))) result.verdict result.reached mended.new }
+    requires { length table.now ≤ most_clusters }
+    ensures { Tells (on_image geometry (root_tallied (mended_page geometry image.now) mended.old (check_tree (view_by geometry table.now image.now)))) result.verdict result.reached mended.new }
 {
     let mut d = [0u8; 512];
     if !read_slot(image, geometry, table.len(), 0, &mut d) {

@@ -9,24 +9,24 @@ use borrow.Author.Tests.{leb-true, not-true, not-false}
 use lib.Dec.{eqb, leb}
 use lib.ListN.{length}
 use Rattle.page.specs.declared.Format.{Format}
-use Rattle.page.specs.Page.{clusterBytes}
-use Rattle.model.specs.View.{mostClusters}
+use Rattle.page.specs.Page.{cluster_bytes}
+use Rattle.model.specs.View.{most_clusters}
 use Rattle.model.proofs.Equality.{and_r}
-use Rattle.layout.specs.Superblock.{clustersIn, goodLength, leastClusters}
+use Rattle.layout.specs.Superblock.{clusters_in, good_length, least_clusters}
 use Rattle.layout.specs.Table.{unless}
-use Rattle.convert.specs.Converted.{converted, inFormat}
+use Rattle.convert.specs.Converted.{converted, in_format}
 use Rattle.convert.proofs.judge.Statement.{statement}
 use Rattle.convert.proofs.judge.Tie as tie
 
-few-clusters : (format : Format) (bytes : ℕ) → goodLength format bytes ≡ true → clustersIn format bytes ≤ mostClusters
+few-clusters : (format : Format) (bytes : ℕ) → good_length format bytes ≡ true → clusters_in format bytes ≤ most_clusters
 few-clusters format bytes good =
-    let n = clustersIn format bytes in
-    leb-true n mostClusters (fourth (eqb (bytes % clusterBytes format) 0) (eqb (n % 8) 0) (leb leastClusters n) (leb n mostClusters) good)
+    let n = clusters_in format bytes in
+    leb-true n most_clusters (fourth (eqb (bytes % cluster_bytes format) 0) (eqb (n % 8) 0) (leb least_clusters n) (leb n most_clusters) good)
   where
     fourth : (a b c d : Bool) → (a && (b && (c && d))) ≡ true → d ≡ true
     fourth a b c d e = and_r c d (and_r b (c && d) (and_r a (b && (c && d)) e))
 
-room_fits : (size n : ℕ) → size < 2 ^ 32 → n ≤ mostClusters → size * n < 2 ^ 64
+room_fits : (size n : ℕ) → size < 2 ^ 32 → n ≤ most_clusters → size * n < 2 ^ 64
 room_fits size n h k = omega (arith, mul-le-mul_left size k)
 
 good-length-requires : tie.Need-good-length-requires
@@ -69,7 +69,7 @@ returns-3 c =
     let a = long.before.before.before.args in
     let good = sym long.before.good_length.ensures ∙ not-false _ long.if1.false in
     let room = rw (counted.before.cluster-bytes.ensures.0, counted.clusters-in.ensures) at (not-false (eqb a.room (counted.before.cluster-bytes.result * counted.clusters-in.result)) c.before.if2.false) in
-    c.judge-pages.ensures (inFormat a.from a.to a.image.now) ∙ rw (good, room)
+    c.judge-pages.ensures (in_format a.from a.to a.image.now) ∙ rw (good, room)
 
 pub judge-spec : {M : Type 1} → statement M
 judge-spec =

@@ -5,7 +5,7 @@ use mathlib.Core.Path.{◌≡◌, refl, sym, ◌∙◌}
 use native.Mathlib.Omega.{arith}
 use borrow.Author.Rules.{rules}
 use borrow.Author.Tests.{not-true, not-false}
-use Rattle.page.specs.Page.{pageAt}
+use Rattle.page.specs.Page.{page_at}
 use Rattle.page.proofs.Puts.{judged-none}
 use Rattle.model.specs.Check.{ok}
 use Rattle.layout.proofs.Stages.{there}
@@ -34,7 +34,7 @@ returns c result =
     let judged = c.before.before in
     let turn = judged.before.before in
     let a = turn.before.before.before.args in
-    let gone = judged-none (pageAt a.format a.image.now turn.loop.p) (sym judged.judge-page.ensures.0 ∙ not-true _ c.if1.true) in
+    let gone = judged-none (page_at a.format a.image.now turn.loop.p) (sym judged.judge-page.ensures.0 ∙ not-true _ c.if1.true) in
     sym (turn.loop.invariant.1 result ∙ all-stop a.format a.image.now (ok result) turn.loop.p (omega arith) gone)
 
 add-p : tie.Need-overflow-add-p invariant-loop decreases-loop
@@ -48,7 +48,7 @@ loop-again c =
     let judged = c.before.before in
     let turn = judged.before.before in
     let a = turn.before.before.before.args in
-    let found = there (pageAt a.format a.image.now turn.loop.p) (sym judged.judge-page.ensures.0 ∙ not-false _ c.if1.false) in
+    let found = there (page_at a.format a.image.now turn.loop.p) (sym judged.judge-page.ensures.0 ∙ not-false _ c.if1.false) in
     (omega arith, λ result. turn.loop.invariant.1 result ∙ all_more a.format a.image.now (ok result) turn.loop.p (omega arith) found)
 
 returns-2 : tie.Need-returns-2 invariant-loop decreases-loop

@@ -5,7 +5,7 @@ use mathlib.Core.Path.{◌≡◌, refl, sym, ap, ◌∙◌}
 use native.Mathlib.Omega.{arith}
 use borrow.Author.Rules.{rules}
 use lib.ListN.{length}
-use Rattle.page.specs.Page.{pageAt, pagesIn}
+use Rattle.page.specs.Page.{page_at, pages_in}
 use Rattle.page.proofs.Laws.{length-put, page-length}
 use Rattle.layout.specs.Table.{data_of}
 use Rattle.layout.proofs.Stages.{read-data, there}
@@ -16,7 +16,7 @@ use Rattle.convert.proofs.write_pages.Tie as tie
 
 abbrev invariant-loop : tie.invariant-loop
 invariant-loop from to image out₀ pages page₀ p₀ out page p =
-    (p ≤ pages) × (out ≡ filled to (λ q. data_of (pageAt from image q)) p out₀) × (length out ≡ length out₀)
+    (p ≤ pages) × (out ≡ filled to (λ q. data_of (page_at from image q)) p out₀) × (length out ≡ length out₀)
 
 abbrev decreases-loop : tie.decreases-loop
 decreases-loop from to image out₀ pages page₀ p₀ out page p = pages - p
@@ -47,10 +47,10 @@ loop-again c =
     let start = turn.before.before.before.before in
     let a = start.args in
     let at = turn.loop.p in
-    let found = there (pageAt a.from a.image.now at) (start.requires at (omega arith)) in
-    let page = read.read-page.ensures.0.buffer ∙ read-data (pageAt a.from a.image.now at) _ found in
-    let size = ap length page ∙ page-length a.from a.image.now at (data_of (pageAt a.from a.image.now at)) found in
-    (omega arith, page-more a.to (λ q. data_of (pageAt a.from a.image.now q)) a.out.now at turn.loop.invariant.1 page wrote.write-page.ensures, ap length wrote.write-page.ensures ∙ length-put a.to true at _ _ size ∙ turn.loop.invariant.2)
+    let found = there (page_at a.from a.image.now at) (start.requires at (omega arith)) in
+    let page = read.read-page.ensures.0.buffer ∙ read-data (page_at a.from a.image.now at) _ found in
+    let size = ap length page ∙ page-length a.from a.image.now at (data_of (page_at a.from a.image.now at)) found in
+    (omega arith, page-more a.to (λ q. data_of (page_at a.from a.image.now q)) a.out.now at turn.loop.invariant.1 page wrote.write-page.ensures, ap length wrote.write-page.ensures ∙ length-put a.to true at _ _ size ∙ turn.loop.invariant.2)
 
 same_length : tie.Need-same-length invariant-loop decreases-loop
 same_length c = c.before.loop.invariant.2
@@ -58,7 +58,7 @@ same_length c = c.before.loop.invariant.2
 returns : tie.Need-returns invariant-loop decreases-loop
 returns c =
     let turn = c.before in
-    let all : turn.loop.p ≡ pagesIn turn.before.before.before.before.args.from (length turn.before.before.before.before.args.image.now) = omega arith in
+    let all : turn.loop.p ≡ pages_in turn.before.before.before.before.args.from (length turn.before.before.before.before.args.image.now) = omega arith in
     rw all at turn.loop.invariant.1
 
 pub write-pages-spec : {M : Type 1} → statement M

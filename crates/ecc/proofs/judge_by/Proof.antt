@@ -11,8 +11,8 @@ use lib.ListN.{length}
 use Rattle.ecc.specs.declared.Code.{Code}
 use Rattle.ecc.specs.declared.Verdict.TheVariants.{Good, DataBit, CodeBit, Unreadable}
 use Rattle.ecc.specs.Code.{◌⊕◌, code_of}
-use Rattle.ecc.specs.Judge.{noBits, counted, same, judge}
-use Rattle.ecc.proofs.Syndrome.{syndrome, locate, columnPairs, linePairs, oneBit}
+use Rattle.ecc.specs.Judge.{no_bits, counted, same, judge}
+use Rattle.ecc.proofs.Syndrome.{syndrome, locate, column_pairs, line_pairs, one_bit}
 use Rattle.ecc.proofs.Laws.{judge-is}
 use Rattle.ecc.proofs.judge_by.Statement.{statement}
 use Rattle.ecc.proofs.judge_by.Tie as tie
@@ -26,20 +26,20 @@ count s = ones s.byte0 + ones s.byte1 + ones s.byte2
 
 -- `locate`, by the tests that lead to each answer
 module _ (s : Code) where
-  when-good : same s noBits ≡ true → Good ≡ locate s
+  when-good : same s no_bits ≡ true → Good ≡ locate s
   unfolding locate
   when-good p = rw p
 
-  when-data : same s noBits ≡ false → (columnPairs s && linePairs s) ≡ true → DataBit s.byte2 (s.byte0 / 16) ≡ locate s
+  when-data : same s no_bits ≡ false → (column_pairs s && line_pairs s) ≡ true → DataBit s.byte2 (s.byte0 / 16) ≡ locate s
   unfolding locate
   when-data p q = rw (p, q)
 
-  when-code : same s noBits ≡ false → (columnPairs s && linePairs s) ≡ false → count s ≡ 1 → CodeBit ≡ locate s
-  unfolding locate oneBit
+  when-code : same s no_bits ≡ false → (column_pairs s && line_pairs s) ≡ false → count s ≡ 1 → CodeBit ≡ locate s
+  unfolding locate one_bit
   when-code p q n = rw (p, q, eq-eqb (count s) 1 n)
 
-  when-nothing : same s noBits ≡ false → (columnPairs s && linePairs s) ≡ false → (count s ≡ 1 → ⊥) → Unreadable ≡ locate s
-  unfolding locate oneBit
+  when-nothing : same s no_bits ≡ false → (column_pairs s && line_pairs s) ≡ false → (count s ≡ 1 → ⊥) → Unreadable ≡ locate s
+  unfolding locate one_bit
   when-nothing p q n = rw (p, q, ne_eqb (count s) 1 n)
 
 located : (d : List ℕ) (r t : Code) → length d ≡ 128 → r ≡ code_of d → locate (unmatched r t) ≡ judge d t
@@ -80,7 +80,7 @@ cast-t15 c =
     omega (arith, and_le_r (bit_xor args.right.byte2 args.stored.byte2) 0x7F)
 
 returns-2 : tie.Need-returns-2
-unfolding same columnPairs linePairs
+unfolding same column_pairs line_pairs
 returns-2 c d size right =
     let args = c.before.before.before.before.before.before.before.before.args in
     when-data (unmatched args.right args.stored) c.before.if1.false c.if2.true ∙ located d args.right args.stored size right
@@ -96,14 +96,14 @@ add-if3-2 c =
     omega (arith, few-unmatched args.right args.stored)
 
 returns-3 : tie.Need-returns-3
-unfolding same columnPairs linePairs
+unfolding same column_pairs line_pairs
 returns-3 c d size right =
     let args = c.before.before.before.before.before.before.before.before.before.args in
     when-code (unmatched args.right args.stored) c.before.before.if1.false c.before.if2.false c.if3.true
     ∙ located d args.right args.stored size right
 
 returns-4 : tie.Need-returns-4
-unfolding same columnPairs linePairs
+unfolding same column_pairs line_pairs
 returns-4 c d size right =
     let args = c.before.before.before.before.before.before.before.before.before.args in
     when-nothing (unmatched args.right args.stored) c.before.before.if1.false c.before.if2.false c.if3.false

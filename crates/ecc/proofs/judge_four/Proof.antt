@@ -8,7 +8,7 @@ use lib.ListN.{length}
 use Rattle.ecc.specs.declared.FourCodes.{FourCodes}
 use Rattle.ecc.specs.declared.FourVerdicts.{FourVerdicts}
 use Rattle.ecc.specs.declared.Verdict.{Verdict}
-use Rattle.ecc.specs.Judge.{judgeSlice}
+use Rattle.ecc.specs.Judge.{judge_slice}
 use Rattle.ecc.proofs.Laws.{slice-by}
 use Rattle.ecc.proofs.Tests.{T_true, and_left, and_right}
 use Rattle.ecc.proofs.judge_four.Statement.{statement}
@@ -104,10 +104,10 @@ returns-2 c =
     let judged0 = judged1.before.before in
     let args = judged0.before.before.before.before.before.before.before.before.args in
     four
-    (judged0.judge-chunk.ensures ∙ ap (judgeSlice args.chunk0.now) judged0.before.code-at5.ensures)
-    (judged1.judge-chunk2.ensures ∙ ap (judgeSlice args.chunk1.now) judged1.before.code-at6.ensures)
-    (judged2.judge-chunk3.ensures ∙ ap (judgeSlice args.chunk2.now) judged2.before.code-at7.ensures)
-    (c.judge-chunk4.ensures ∙ ap (judgeSlice args.chunk3.now) c.before.code-at8.ensures)
+    (judged0.judge-chunk.ensures ∙ ap (judge_slice args.chunk0.now) judged0.before.code-at5.ensures)
+    (judged1.judge-chunk2.ensures ∙ ap (judge_slice args.chunk1.now) judged1.before.code-at6.ensures)
+    (judged2.judge-chunk3.ensures ∙ ap (judge_slice args.chunk2.now) judged2.before.code-at7.ensures)
+    (c.judge-chunk4.ensures ∙ ap (judge_slice args.chunk3.now) c.before.code-at8.ensures)
 
 pub judge-four-spec : {M : Type 1} → statement M
 judge-four-spec =

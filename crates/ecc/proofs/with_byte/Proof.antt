@@ -5,7 +5,7 @@ use native.Mathlib.Omega.{arith}
 use borrow.Author.Rules.{rules}
 use lib.Bits.{bit_and, bit_xor}
 use Rattle.ecc.specs.Parities.{code_in}
-use Rattle.ecc.proofs.Sums.{indexMask, with-entry}
+use Rattle.ecc.proofs.Sums.{index_mask, with-entry}
 use Rattle.ecc.proofs.with_byte.Statement.{statement}
 use Rattle.ecc.proofs.with_byte.Tie as tie
 
@@ -28,7 +28,7 @@ returns : tie.Need-returns
 returns c =
     let start = c.before in
     let entry = c.parities-in.ensures ∙ start.requires.0.entries start.args.byte (omega arith) in
-    ap (λ (e : ℕ). code_in (bit_xor start.args.sums (bit_and e (indexMask start.args.i)))) entry
+    ap (λ (e : ℕ). code_in (bit_xor start.args.sums (bit_and e (index_mask start.args.i)))) entry
     ∙ with-entry start.args.sums start.args.i start.args.byte start.requires.1
 
 pub with-byte-spec : {M : Type 1} → statement M

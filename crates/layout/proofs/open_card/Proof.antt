@@ -4,9 +4,9 @@ use Rattle.page.specs.declared.Format.{Format}
 use Rattle.model.specs.Check.{Result}
 use Rattle.layout.specs.declared.Superblock.{Superblock}
 use Rattle.layout.specs.declared.Verdict.{Verdict}
-use Rattle.layout.specs.Mended.{Adds, mendedOver, openingMended}
-use Rattle.layout.specs.Needed.{openingPages}
-use Rattle.layout.specs.Table.{told, tableAfter}
+use Rattle.layout.specs.Mended.{Adds, mended_over, opening_mended}
+use Rattle.layout.specs.Needed.{opening_pages}
+use Rattle.layout.specs.Table.{told, table_after}
 use Rattle.layout.proofs.MendedLaws.{opening-counted}
 use Rattle.layout.proofs.OpenFacts.{open-facts, own-format}
 use Rattle.layout.proofs.open_card.Statement.{statement}
@@ -18,8 +18,8 @@ opened card page s e known same = rw (same, ← known) (sym e)
 
 -- and the count that was made on the way
 counted : (format : Format) (image : List ℕ) {v w : Verdict} (page s : Superblock) (before after n : ℕ)
-    → Adds v before (mendedOver format image (openingPages image page)) after → v ≡ w → s ≡ page → n ≡ after
-    → Adds w before (mendedOver format image (openingPages image s)) n
+    → Adds v before (mended_over format image (opening_pages image page)) after → v ≡ w → s ≡ page → n ≡ after
+    → Adds w before (mended_over format image (opening_pages image s)) n
 counted format image page s before after n h known same settled = rw (same, settled, ← known) h
 
 judge-card-requires : tie.Need-judge-card-requires
@@ -54,7 +54,7 @@ returns c =
     let total = counted a.format a.image.now _ _ 0 _ _ judged.judge-card.ensures.1 known c.before.before.before.before.before.superblock-of.ensures c.settled.ensures.0 in (
       sym e,
       (
-        c.before.load-table.ensures ∙ sym (ap (λ (r : Result Superblock). tableAfter a.image.now r a.table.now) e),
+        c.before.load-table.ensures ∙ sym (ap (λ (r : Result Superblock). table_after a.image.now r a.table.now) e),
         opening-counted a.format a.image.now _ c.settled.ensures.1 (sym e) total,
       ),
     )
@@ -66,8 +66,8 @@ returns-2 c =
     let e = opened _ _ _ judged.judge-card.ensures.0 c.before.verdict.given.1 c.before.before.before.superblock-of.ensures in (
       sym e,
       (
-        sym (ap (λ (r : Result Superblock). tableAfter a.image.now r a.table.now) e),
-        sym (ap (openingMended a.format a.image.now) e),
+        sym (ap (λ (r : Result Superblock). table_after a.image.now r a.table.now) e),
+        sym (ap (opening_mended a.format a.image.now) e),
       ),
     )
 

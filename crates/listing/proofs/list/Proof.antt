@@ -4,9 +4,9 @@ use mir.Syntax.{w32}
 use mir.ValLaws.{to_z-of_z}
 use borrow.Author.Tests.{not-false, not-true}
 use Rattle.layout.specs.Refusal.{number_of, page_of}
-use Rattle.model.specs.Calendar.{isShift}
-use Rattle.tree.specs.Counted.{toldCounts}
-use Rattle.listing.specs.Text.{listingOf}
+use Rattle.model.specs.Calendar.{is_shift}
+use Rattle.tree.specs.Counted.{told_counts}
+use Rattle.listing.specs.Text.{listing_of}
 use Rattle.listing.proofs.EmitLaws.{wrote_as, wrote-listing}
 use Rattle.listing.proofs.ListingLaws.{listing-elsewhere, listing-refused}
 use Rattle.listing.proofs.SizeLaws.{listing-short}
@@ -26,7 +26,7 @@ same_length c = search rules
 returns : tie.Need-returns
 returns c =
     let a = c.before.before.before.before.before.before.before.before.args in
-    let shift = ap isShift (sym (to_z-of_z w32 a.minutes c.before.before.before.before.before.before.before.before.ranges.minutes)) ∙ sym c.before.before.before.before.before.is-shift.ensures ∙ not-true _ c.before.before.before.before.if1.true in
+    let shift = ap is_shift (sym (to_z-of_z w32 a.minutes c.before.before.before.before.before.before.before.before.ranges.minutes)) ∙ sym c.before.before.before.before.before.is-shift.ensures ∙ not-true _ c.before.before.before.before.if1.true in
     wrote-listing (listing-short a.format a.image.now a.minutes) (wrote_as (listing-elsewhere a.format a.image.now a.minutes shift) c.before.before.put-refusal.ensures)
 
 check-in-requires : tie.Need-check-in-requires
@@ -45,7 +45,7 @@ list-card-requires : tie.Need-list-card-requires
 list-card-requires c κs =
     let a = c.before.before.before.before.before.before.before.before.before.before.before.args in
     let s = to_z-of_z w32 a.minutes c.before.before.before.before.before.before.before.before.before.before.before.ranges.minutes in
-    (sym (ap toldCounts c.before.before.before.checked2.given.1) ∙ c.before.before.before.before.before.check-in.ensures, sym c.before.before.before.before.before.before.before.before.is-shift.ensures ∙ not-false _ c.before.before.before.before.before.before.before.if1.false)
+    (sym (ap told_counts c.before.before.before.checked2.given.1) ∙ c.before.before.before.before.before.check-in.ensures, sym c.before.before.before.before.before.before.before.before.is-shift.ensures ∙ not-false _ c.before.before.before.before.before.before.before.if1.false)
 
 same-length-2 : tie.Need-same-length-2
 same-length-2 c = search rules
@@ -53,9 +53,9 @@ same-length-2 c = search rules
 returns-2 : tie.Need-returns-2
 returns-2 c =
     let a = c.before.before.before.before.before.before.before.before.before.before.before.before.before.args in
-    let shift = ap isShift (sym (to_z-of_z w32 a.minutes c.before.before.before.before.before.before.before.before.before.before.before.before.before.ranges.minutes)) ∙ sym c.before.before.before.before.before.before.before.before.before.before.is-shift.ensures ∙ not-false _ c.before.before.before.before.before.before.before.before.before.if1.false in
+    let shift = ap is_shift (sym (to_z-of_z w32 a.minutes c.before.before.before.before.before.before.before.before.before.before.before.before.before.ranges.minutes)) ∙ sym c.before.before.before.before.before.before.before.before.before.before.is-shift.ensures ∙ not-false _ c.before.before.before.before.before.before.before.before.before.if1.false in
     let r = c.before.before.before.before.before.checked.given.0.0 in
-    let text = listing-refused a.format a.image.now a.minutes shift (number_of r) (page_of r) (sym (ap toldCounts c.before.before.before.before.before.checked.given.1) ∙ c.before.before.before.before.before.before.before.check-in.ensures) in
+    let text = listing-refused a.format a.image.now a.minutes shift (number_of r) (page_of r) (sym (ap told_counts c.before.before.before.before.before.checked.given.1) ∙ c.before.before.before.before.before.before.before.check-in.ensures) in
     wrote-listing (listing-short a.format a.image.now a.minutes) (wrote_as text c.before.before.put-refusal2.ensures)
 
 same-length-3 : tie.Need-same-length-3
@@ -65,7 +65,7 @@ returns-3 : tie.Need-returns-3
 returns-3 c =
     let a = c.before.before.before.before.before.before.before.before.before.before.before.before.before.before.args in
     let s = to_z-of_z w32 a.minutes c.before.before.before.before.before.before.before.before.before.before.before.before.before.before.ranges.minutes in
-    wrote-listing (listing-short a.format a.image.now a.minutes) (wrote_as (ap (listingOf a.format a.image.now) s) c.before.before.list-card.ensures)
+    wrote-listing (listing-short a.format a.image.now a.minutes) (wrote_as (ap (listing_of a.format a.image.now) s) c.before.before.list-card.ensures)
 
 pub list-spec : {M : Type 1} → statement M
 list-spec =

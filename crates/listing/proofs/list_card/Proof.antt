@@ -6,7 +6,7 @@ use mir.Syntax.{w32}
 use mir.ValLaws.{to_z-of_z}
 use Rattle.layout.proofs.Stages.{as-told}
 use Rattle.lookup.proofs.CardLaws.{accepted, words-fit, words-hold}
-use Rattle.listing.specs.Text.{treeText}
+use Rattle.listing.specs.Text.{tree_text}
 use Rattle.listing.proofs.EmitLaws.{wrote-append, wrote_as}
 use Rattle.listing.proofs.ListingLaws.{listing-card, opens, passes}
 use borrow.Author.Rules.{rules}
@@ -57,7 +57,7 @@ returns-2 c =
     let root = (accepted format image s passed).root in
     let tree = c.before.before.list-words.ensures root (words-hold format image s passed _ _ c.before.before.before.before.before.before.before.before.before.before.open-card.ensures.1.0) in
     wrote_as (listing-card format image a.minutes c.before.before.before.before.before.before.before.before.before.before.before.before.before.before.before.before.before.before.requires.1 a.counts c.before.before.before.before.before.before.before.before.before.before.before.before.before.before.before.before.before.before.requires.0 s opened)
-    (wrote-append (omega (arith, c.before.before.before.before.before.before.before.before.before.before.before.before.before.before.before.before.before.before.well-formed.1.1.1.1.1.0)) c.before.before.before.before.before.before.before.before.before.before.before.before.before.before.put-counts.ensures (wrote_as (ap (λ y. treeText y [] root.slots) (to_z-of_z w32 a.minutes c.before.before.before.before.before.before.before.before.before.before.before.before.before.before.before.before.before.before.ranges.minutes)) tree))
+    (wrote-append (omega (arith, c.before.before.before.before.before.before.before.before.before.before.before.before.before.before.before.before.before.before.well-formed.1.1.1.1.1.0)) c.before.before.before.before.before.before.before.before.before.before.before.before.before.before.put-counts.ensures (wrote_as (ap (λ y. tree_text y [] root.slots) (to_z-of_z w32 a.minutes c.before.before.before.before.before.before.before.before.before.before.before.before.before.before.before.before.before.before.ranges.minutes)) tree))
 
 pub list-card-spec : {M : Type 1} → statement M
 list-card-spec =

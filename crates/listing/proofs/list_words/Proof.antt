@@ -4,7 +4,7 @@ use mathlib.Core.Path.{ap, sym}
 use lib.Seq.{length-take-le}
 use mir.Syntax.{w32}
 use mir.ValLaws.{to_z-of_z}
-use Rattle.listing.specs.Text.{treeText}
+use Rattle.listing.specs.Text.{tree_text}
 use Rattle.listing.proofs.EmitLaws.{wrote_as}
 use borrow.Author.Rules.{rules}
 use Rattle.listing.proofs.list_words.Statement.{statement}
@@ -23,7 +23,7 @@ same_length c = search rules
 returns : tie.Need-returns
 returns c =
     let a = c.before.before.before.before.before.before.before.before.args in
-    λ root card. wrote_as (ap (λ s. treeText s [] root.slots) (to_z-of_z w32 a.minutes c.before.before.before.before.before.before.before.before.ranges.minutes)) (c.before.before.list-tree.ensures root card)
+    λ root card. wrote_as (ap (λ s. tree_text s [] root.slots) (to_z-of_z w32 a.minutes c.before.before.before.before.before.before.before.before.ranges.minutes)) (c.before.before.list-tree.ensures root card)
 
 pub list-words-spec : {M : Type 1} → statement M
 list-words-spec =

@@ -1,4 +1,4 @@
--- `check::same` is true just where the lists are equal, as `sameBytes` is.
+-- `check::same` is true just where the lists are equal, as `same_bytes` is.
 use Rattle.page.proofs.Puts.{same_by}
 use Rattle.std.proofs.Common.{rules}
 use Rattle.page.proofs.same_data.Statement.{statement}

@@ -2,23 +2,23 @@
 use Rattle.std.proofs.Common.{◌≡◌, ℕ, ◌+◌, ◌-◌, true, List, length, take, drop, sym, ap, ◌∙◌, rules}
 use borrow.Rule.Slice.PartMut.{put_mid}
 use Rattle.page.specs.declared.Format.{Format}
-use Rattle.page.specs.Page.{pageBytes, pageStart, put_at, storedAs, storedPage, written}
+use Rattle.page.specs.Page.{page_bytes, page_start, put_at, stored_as, stored_page, written}
 use Rattle.page.proofs.Lists.{length_part, lent-part, lent_back}
 use Rattle.page.proofs.Formats.{length-stored}
 use Rattle.page.proofs.Puts.{Whole, counted-whole, lent-whole, put_written, put-outside}
 use Rattle.page.proofs.write_page.Statement.{statement}
 use Rattle.page.proofs.write_page.Tie as tie
 
-wrote-lent : (format : Format) (image : List ℕ) (p : ℕ) (bytes m : List ℕ) {from size : ℕ} → from ≡ pageStart format p → size ≡ pageBytes format
+wrote-lent : (format : Format) (image : List ℕ) (p : ℕ) (bytes m : List ℕ) {from size : ℕ} → from ≡ page_start format p → size ≡ page_bytes format
     → Whole format image p → length bytes ≡ 512
-    → m ≡ storedAs format (take (from + size - from) (drop from image)) bytes
+    → m ≡ stored_as format (take (from + size - from) (drop from image)) bytes
     → put_mid from (from + size - from) image m ≡ written format image p bytes
 wrote-lent format image p bytes m e f h hb w =
-    let start = pageStart format p in
-    let size = pageBytes format in
-    let stored : m ≡ storedAs format (storedPage format image p) bytes = w ∙ rw (e, f) (ap (λ (old : List ℕ). storedAs format old bytes) (lent-part image start size)) in
+    let start = page_start format p in
+    let size = page_bytes format in
+    let stored : m ≡ stored_as format (stored_page format image p) bytes = w ∙ rw (e, f) (ap (λ (old : List ℕ). stored_as format old bytes) (lent-part image start size)) in
     rw (e, f)
-    (lent_back image start size m (ap length stored ∙ length-stored format (storedPage format image p) bytes hb (length_part image start size h))
+    (lent_back image start size m (ap length stored ∙ length-stored format (stored_page format image p) bytes hb (length_part image start size h))
     ∙ ap (put_at image start) stored ∙ sym (put_written format p bytes image h))
 
 page-count-requires : tie.Need-page-count-requires

@@ -1,7 +1,7 @@
 -- What the check of the image in its format tells, in numbers.
 use mathlib.Core.Path.{◌∙◌, ap, refl, sym}
 use Rattle.model.specs.Check.{fault}
-use Rattle.tree.specs.Counted.{checkOf, toldCounts}
+use Rattle.tree.specs.Counted.{check_of, told_counts}
 use Rattle.ps2card.proofs.FormatLaws.{known_so, unknown-so}
 use borrow.Author.Rules.{rules}
 use Rattle.ps2card.proofs.ps2card_check.Statement.{statement}
@@ -33,16 +33,16 @@ enum-known-counts c = search rules
 
 returns : tie.Need-returns
 returns c =
-    rw (unknown-so (fault 1 0) (λ f. checkOf f c.before.before.before.before.before.before.args.image.now) c.before.before.before.before.before.before.args.format c.before.before.before.before.format-of.ensures c.before.before.enum_told.given.1) (c.tell-refusal.ensures.0, (c.tell-refusal.ensures.1, (refl, (refl, (refl, (refl, (refl, refl)))))))
+    rw (unknown-so (fault 1 0) (λ f. check_of f c.before.before.before.before.before.before.args.image.now) c.before.before.before.before.before.before.args.format c.before.before.before.before.format-of.ensures c.before.before.enum_told.given.1) (c.tell-refusal.ensures.0, (c.tell-refusal.ensures.1, (refl, (refl, (refl, (refl, (refl, refl)))))))
 
 returns-2 : tie.Need-returns-2
 returns-2 c =
-    let e = known_so (fault 1 0) (λ f. checkOf f c.before.before.before.before.before.before.before.before.before.before.before.args.image.now) c.before.before.before.before.before.before.before.before.before.before.before.args.format c.before.before.before.before.before.before.before.before.before.format-of.ensures c.before.before.before.before.before.before.before.named.given.1 ∙ sym (sym (ap toldCounts c.before.before.before.refusal.given.1) ∙ c.before.before.before.before.before.check.ensures) in
+    let e = known_so (fault 1 0) (λ f. check_of f c.before.before.before.before.before.before.before.before.before.before.before.args.image.now) c.before.before.before.before.before.before.before.before.before.before.before.args.format c.before.before.before.before.before.before.before.before.before.format-of.ensures c.before.before.before.before.before.before.before.named.given.1 ∙ sym (sym (ap told_counts c.before.before.before.refusal.given.1) ∙ c.before.before.before.before.before.check.ensures) in
     rw e (c.tell-refusal2.ensures.0, (c.tell-refusal2.ensures.1, (refl, (refl, (refl, (refl, (refl, refl)))))))
 
 returns-3 : tie.Need-returns-3
 returns-3 c =
-    let e = known_so (fault 1 0) (λ f. checkOf f c.before.before.before.before.before.before.before.before.before.args.image.now) c.before.before.before.before.before.before.before.before.before.args.format c.before.before.before.before.before.before.before.format-of.ensures c.before.before.before.before.before.named.given.1 ∙ sym (sym (ap toldCounts c.before.counts.given.1) ∙ c.before.before.before.check.ensures) in
+    let e = known_so (fault 1 0) (λ f. check_of f c.before.before.before.before.before.before.before.before.before.args.image.now) c.before.before.before.before.before.before.before.before.before.args.format c.before.before.before.before.before.before.before.format-of.ensures c.before.before.before.before.before.named.given.1 ∙ sym (sym (ap told_counts c.before.counts.given.1) ∙ c.before.before.before.check.ensures) in
     rw e (refl, (refl, (refl, (refl, (refl, (refl, (refl, refl)))))))
 
 pub ps2card-check-spec : {M : Type 1} → statement M

@@ -6,14 +6,14 @@ use native.Mathlib.Omega.{arith}
 use borrow.Author.Rules.{rules}
 use lib.ListN.{length}
 use mathlib.Core.Bool.{false, true}
-use Rattle.model.specs.Counts.{totalBelow}
-use Rattle.reached.proofs.CountLaws.{orphan-test, orphanIn, total-same, total-step}
+use Rattle.model.specs.Counts.{total_below}
+use Rattle.reached.proofs.CountLaws.{orphan-test, orphan_in, total-same, total-step}
 use Rattle.reached.proofs.count_orphans.Statement.{statement}
 use Rattle.reached.proofs.count_orphans.Tie as tie
 
 abbrev invariant-loop : tie.invariant-loop
 invariant-loop table words n₀ i₀ n i =
-    (i ≤ length table) × (n ≡ totalBelow (orphanIn table words) i) × (n ≤ i)
+    (i ≤ length table) × (n ≡ total_below (orphan_in table words) i) × (n ≤ i)
 
 abbrev decreases-loop : tie.decreases-loop
 decreases-loop table words n₀ i₀ n i = length table - i
@@ -50,8 +50,8 @@ loop-again c =
     let inside : l.i < length t = omega arith in (
       omega arith,
       ⊎_elim
-          (λ w. w.1 ∙ total-step (orphanIn t words) l.n 1 l.i l.invariant.1 (orphan-test t l.i inside words true (rw (← c.before.has-mark.ensures) w.0.taken)))
-          (λ w. w.1 ∙ total-same (orphanIn t words) l.n l.i l.invariant.1 (orphan-test t l.i inside words false (rw (← c.before.has-mark.ensures) w.0.left)))
+          (λ w. w.1 ∙ total-step (orphan_in t words) l.n 1 l.i l.invariant.1 (orphan-test t l.i inside words true (rw (← c.before.has-mark.ensures) w.0.taken)))
+          (λ w. w.1 ∙ total-same (orphan_in t words) l.n l.i l.invariant.1 (orphan-test t l.i inside words false (rw (← c.before.has-mark.ensures) w.0.left)))
           c.if1.branch,
       ⊎_elim (λ w. omega (arith, w.1)) (λ w. omega (arith, w.1)) c.if1.branch,
     )
@@ -60,7 +60,7 @@ returns : tie.Need-returns invariant-loop decreases-loop
 returns c =
     let t = c.before.before.before.before.args.table.now in
     let all : c.before.loop.i ≡ length t = omega arith in
-    rw c.before.before.All-words.ensures at (c.before.loop.invariant.1 ∙ ap (totalBelow (orphanIn t c.before.before.All-words.result)) all)
+    rw c.before.before.All-words.ensures at (c.before.loop.invariant.1 ∙ ap (total_below (orphan_in t c.before.before.All-words.result)) all)
 
 pub count-orphans-spec : {M : Type 1} → statement M
 count-orphans-spec =

@@ -1,12 +1,12 @@
 -- Past the last mark the answer is false, and else it is the bit of the cluster's word.
 use borrow.Author.Rules.{rules}
 use borrow.Author.Tests.{le-ltb, lt-ltb}
-use Rattle.reached.specs.Marks.{markedIn}
+use Rattle.reached.specs.Marks.{marked_in}
 use Rattle.reached.proofs.has_mark.Statement.{statement}
 use Rattle.reached.proofs.has_mark.Tie as tie
 
 returns : tie.Need-returns
-unfolding markedIn
+unfolding marked_in
 returns c = simp (le-ltb _ _ c.if1.true)
 
 mul-result : tie.Need-overflow-mul-result
@@ -19,7 +19,7 @@ shr-result : tie.Need-overflow-shr-result
 shr-result c = search rules
 
 returns-2 : tie.Need-returns-2
-unfolding markedIn
+unfolding marked_in
 returns-2 c = simp (lt-ltb _ _ c.before.if1.false)
 
 pub has-mark-spec : {M : Type 1} → statement M

@@ -7,7 +7,7 @@ use borrow.Author.Rules.{rules}
 use borrow.Author.Tests.{eq-eqb, le-ltb, lt-ltb, ne_eqb}
 use lib.ListN.{get_or, length}
 use Rattle.model.specs.View.{top_bit}
-use Rattle.reached.specs.Marks.{currentMark}
+use Rattle.reached.specs.Marks.{current_mark}
 use Rattle.reached.proofs.step_at.Statement.{statement}
 use Rattle.reached.proofs.step_at.Tie as tie
 
@@ -37,7 +37,7 @@ returns-3 c =
     let a = c.before.before.before.before.before.before.args in
     let inside : a.c < length a.table.now = omega arith in
     let used : top_bit ≤ get_or a.table.now a.c 0 = omega arith in
-    let seen : currentMark a.current a.c ≡ true = sym c.before.has-current.ensures ∙ c.if3.true in
+    let seen : current_mark a.current a.c ≡ true = sym c.before.has-current.ensures ∙ c.if3.true in
     rw (lt-ltb _ _ inside, le-ltb _ _ used, seen)
 
 returns-4 : tie.Need-returns-4
@@ -45,7 +45,7 @@ returns-4 c =
     let a = c.before.before.before.before.before.before.before.args in
     let inside : a.c < length a.table.now = omega arith in
     let used : top_bit ≤ get_or a.table.now a.c 0 = omega arith in
-    let fresh : currentMark a.current a.c ≡ false = sym c.before.before.has-current.ensures ∙ c.before.if3.false in
+    let fresh : current_mark a.current a.c ≡ false = sym c.before.before.has-current.ensures ∙ c.before.if3.false in
     rw (lt-ltb _ _ inside, le-ltb _ _ used, fresh, eq-eqb _ _ c.if4.true)
 
 returns-5 : tie.Need-returns-5
@@ -53,7 +53,7 @@ returns-5 c =
     let a = c.before.before.before.before.before.before.before.args in
     let inside : a.c < length a.table.now = omega arith in
     let used : top_bit ≤ get_or a.table.now a.c 0 = omega arith in
-    let fresh : currentMark a.current a.c ≡ false = sym c.before.before.has-current.ensures ∙ c.before.if3.false in
+    let fresh : current_mark a.current a.c ≡ false = sym c.before.before.has-current.ensures ∙ c.before.if3.false in
     rw (lt-ltb _ _ inside, le-ltb _ _ used, fresh, ne_eqb _ _ c.if4.false)
 
 pub step-at-spec : {M : Type 1} → statement M

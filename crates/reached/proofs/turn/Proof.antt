@@ -3,7 +3,7 @@ use mathlib.Core.Logic.{⊎_elim}
 use mathlib.Core.Path.{◌∙◌, ◌≡◌}
 use borrow.Author.Rules.{rules}
 use borrow.Author.Tests.{le-ltb, lt-ltb}
-use Rattle.reached.specs.Marks.{markWords, putWord}
+use Rattle.reached.specs.Marks.{mark_words, put_word}
 use Rattle.reached.proofs.turn.Statement.{statement}
 use Rattle.reached.proofs.turn.Tie as tie
 
@@ -22,8 +22,8 @@ element-copy-out-result c = search rules
 returns : tie.Need-returns
 returns c =
     let a = c.before.before.args in
-    let put : c.before.if1.words ≡ putWord a.words.now a.at a.current =
-    ⊎_elim (λ w. w.1 ∙ rw (lt-ltb a.at markWords w.0.taken)) (λ w. w.1 ∙ rw (le-ltb a.at markWords w.0.left)) c.before.if1.branch in
+    let put : c.before.if1.words ≡ put_word a.words.now a.at a.current =
+    ⊎_elim (λ w. w.1 ∙ rw (lt-ltb a.at mark_words w.0.taken)) (λ w. w.1 ∙ rw (le-ltb a.at mark_words w.0.left)) c.before.if1.branch in
     (put, rw put)
 
 pub turn_spec : {M : Type 1} → statement M

@@ -10,7 +10,7 @@ use borrow.Author.Rules.{rules}
 use borrow.Author.Tests.{lt-ltb, ltb-false, ltb-true, ne_eqb}
 use lib.Dec.{ltb}
 use Rattle.model.proofs.Equality.{and_l, and_r}
-use Rattle.model.specs.View.{mostClusters}
+use Rattle.model.specs.View.{most_clusters}
 use Rattle.reached.specs.Marks.{turned}
 use Rattle.reached.specs.declared.Reached.{Reached}
 use Rattle.reached.proofs.ChainSteps.{chain-past}
@@ -28,7 +28,7 @@ abbrev decreases-loop : tie.decreases-loop
 decreases-loop table first clusters r₀ sound₀ c₀ left₀ r sound c left = left
 
 -- the loop is over where no cluster is left, or the next lies past the last mark
-over : (t : List ℕ) (r : Reached) (sound : Bool) (c left : ℕ) → (0 < left → sound ≡ false) → (ltb 0 left && ltb c mostClusters) ≡ false
+over : (t : List ℕ) (r : Reached) (sound : Bool) (c left : ℕ) → (0 < left → sound ≡ false) → (ltb 0 left && ltb c most_clusters) ≡ false
     → record { sound = sound; reached = r } ≡ rest_of t (record { reached = r; sound = sound; next = c; left = left })
 over t r sound c left untold h = go (ℕ_discrete left 0)
   where
@@ -36,7 +36,7 @@ over t r sound c left untold h = go (ℕ_discrete left 0)
     go (yes z) = rw z
     go (no z) =
         let more : 0 < left = omega arith in
-        let past : mostClusters ≤ c = ltb-false _ _ (rw (lt-ltb 0 left more) at h) in
+        let past : most_clusters ≤ c = ltb-false _ _ (rw (lt-ltb 0 left more) at h) in
         rw (untold more, ne_eqb left 0 z, chain-past t r c left more past)
 
 loop-holds : tie.Need-loop-init invariant-loop decreases-loop
@@ -51,7 +51,7 @@ cast-k c = omega arith
 turn-requires : tie.Need-turn-requires invariant-loop decreases-loop
 turn-requires c κs =
     let l = c.before.before.before.loop in
-    let small : l.c < mostClusters = ltb-true _ _ (and_r (ltb 0 l.left) _ c.before.before.loop-test.true) in
+    let small : l.c < most_clusters = ltb-true _ _ (and_r (ltb 0 l.left) _ c.before.before.loop-test.true) in
     omega arith
 
 walk-near-requires : tie.Need-walk-near-requires invariant-loop decreases-loop

@@ -1,4 +1,4 @@
--- What is left to do gives the whole answer: the loop keeps `nearFrom` of its locals equal to that at the start.
+-- What is left to do gives the whole answer: the loop keeps `near_from` of its locals equal to that at the start.
 use Prim.Native.Nat.{◌/◌, ◌<◌, ◌^◌}
 use mathlib.Core.Path.{◌∙◌, ◌≡◌, refl, sym}
 use native.Mathlib.Omega.{arith}
@@ -6,13 +6,13 @@ use borrow.Author.Rules.{rules}
 use borrow.Author.Tests.{eq-eqb, eqb-true, lt-ltb, ltb-true}
 use lib.Dec.{ltb}
 use Rattle.model.proofs.Equality.{and_l, and_r, tf}
-use Rattle.reached.specs.Chain.{nearFrom}
+use Rattle.reached.specs.Chain.{near_from}
 use Rattle.reached.proofs.NearLaws.{near-over, near_step, step_less}
 use Rattle.reached.proofs.walk_near.Statement.{statement}
 use Rattle.reached.proofs.walk_near.Tie as tie
 
 abbrev invariant-loop : tie.invariant-loop
-invariant-loop table first clusters r₀ sound₀ c₀ left₀ r sound c left = (nearFrom table r₀ sound₀ c₀ left₀ ≡ nearFrom table r sound c left) × (c < 2 ^ 32)
+invariant-loop table first clusters r₀ sound₀ c₀ left₀ r sound c left = (near_from table r₀ sound₀ c₀ left₀ ≡ near_from table r sound c left) × (c < 2 ^ 32)
 
 abbrev decreases-loop : tie.decreases-loop
 decreases-loop table first clusters r₀ sound₀ c₀ left₀ r sound c left = left

@@ -3,8 +3,8 @@ use mathlib.Core.Path.{sym}
 use lib.Seq.{length-take-le}
 use Rattle.layout.proofs.Stages.{as-told}
 use Rattle.lookup.proofs.CardLaws.{words-fit}
-use Rattle.change.specs.Changed.{pathIn}
-use Rattle.change.specs.Kinds.{changeOf}
+use Rattle.change.specs.Changed.{path_in}
+use Rattle.change.specs.Kinds.{change_of}
 use Rattle.change.proofs.CallLaws.{leaves, leaves-as}
 use Rattle.change.proofs.CallSteps.{check-refused, in-own-format, words-loaded}
 use borrow.Author.Rules.{rules}
@@ -57,7 +57,7 @@ returns-2 : tie.Need-returns-2
 returns-2 c =
     let a = c.before.before.before.before.before.before.before.before.before.before.before.before.before.before.before.before.before.args in
     let s = c.before.before.before.before.before.before.before.before.before.before.open-checked.result.superblock in
-    leaves-as (in-own-format a.format a.image.now s (as-told s c.before.before.before.before.before.before.before.before.enum_told.given.1 c.before.before.before.before.before.before.before.before.before.before.open-checked.ensures.0) (changeOf a.kind (pathIn a.path.now) a.time.now a.bytes.now))
+    leaves-as (in-own-format a.format a.image.now s (as-told s c.before.before.before.before.before.before.before.before.enum_told.given.1 c.before.before.before.before.before.before.before.before.before.before.open-checked.ensures.0) (change_of a.kind (path_in a.path.now) a.time.now a.bytes.now))
     c.before.before.before.change-card.ensures
 
 pub change-spec : {M : Type 1} → statement M

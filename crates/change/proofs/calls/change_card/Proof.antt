@@ -4,8 +4,8 @@ use mathlib.Core.Path.{◌∙◌, ◌≡◌, ap, subst, sym}
 use borrow.Author.Tests.{not-false, not-true}
 use lib.ListN.{length}
 use Rattle.fields.proofs.PathLaws.{of-malformed, of-names}
-use Rattle.fields.specs.PathBytes.{pathOf}
-use Rattle.change.specs.Kinds.{Ready, takesNames}
+use Rattle.fields.specs.PathBytes.{path_of}
+use Rattle.change.specs.Kinds.{Ready, takes_names}
 use Rattle.change.proofs.CallLaws.{leaves}
 use Rattle.change.proofs.CallSteps.{bad-path, bad-time, malformed, ready, takes-some}
 use borrow.Author.Rules.{rules}
@@ -30,8 +30,8 @@ returns c =
     let split = named.before.before in
     let start = split.before.before.before.before.before.before in
     let a = start.args in
-    let n = of-names (pathOf a.path.now) _ (sym split.parse-path.ensures ∙ named.parsed.given.1) in
-    leaves (bad-path a.image.now a.s a.table.now start.requires a.kind a.path.now a.time.now a.bytes.now n.0 n.1 (ap (takesNames a.kind) n.2 ∙ sym c.before.takes-names.ensures ∙ not-true _ c.if1.true))
+    let n = of-names (path_of a.path.now) _ (sym split.parse-path.ensures ∙ named.parsed.given.1) in
+    leaves (bad-path a.image.now a.s a.table.now start.requires a.kind a.path.now a.time.now a.bytes.now n.0 n.1 (ap (takes_names a.kind) n.2 ∙ sym c.before.takes-names.ensures ∙ not-true _ c.if1.true))
 
 takes-time-requires : tie.Need-takes-time-requires
 takes-time-requires c κs = search rules
@@ -43,8 +43,8 @@ returns-2 c =
     let split = named.before.before in
     let start = split.before.before.before.before.before.before in
     let a = start.args in
-    let n = of-names (pathOf a.path.now) _ (sym split.parse-path.ensures ∙ named.parsed.given.1) in
-    let t : takesNames a.kind (length n.0) ≡ true = ap (takesNames a.kind) n.2 ∙ sym judged.takes-names.ensures ∙ not-false _ c.before.before.if1.false in
+    let n = of-names (path_of a.path.now) _ (sym split.parse-path.ensures ∙ named.parsed.given.1) in
+    let t : takes_names a.kind (length n.0) ≡ true = ap (takes_names a.kind) n.2 ∙ sym judged.takes-names.ensures ∙ not-false _ c.before.before.if1.false in
     leaves (bad-time a.image.now a.s a.table.now start.requires a.kind a.path.now a.time.now a.bytes.now n.0 n.1 (takes-some a.kind _ t) t (sym c.before.takes-time.ensures ∙ not-true _ c.if2.true))
 
 change-at-requires : tie.Need-change-at-requires
@@ -54,8 +54,8 @@ change-at-requires c κs =
     let split = named.before.before in
     let start = split.before.before.before.before.before.before in
     let a = start.args in
-    let n = of-names (pathOf a.path.now) _ (sym split.parse-path.ensures ∙ named.parsed.given.1) in
-    let t : takesNames a.kind (length n.0) ≡ true = ap (takesNames a.kind) n.2 ∙ sym judged.takes-names.ensures ∙ not-false _ c.before.before.before.before.if1.false in
+    let n = of-names (path_of a.path.now) _ (sym split.parse-path.ensures ∙ named.parsed.given.1) in
+    let t : takes_names a.kind (length n.0) ≡ true = ap (takes_names a.kind) n.2 ∙ sym judged.takes-names.ensures ∙ not-false _ c.before.before.before.before.if1.false in
     subst (λ i. Ready a.image.now a.s a.table.now a.kind a.path.now i a.time.now a.bytes.now) n.2
     (ready a.image.now a.s a.table.now start.requires a.kind a.path.now a.time.now a.bytes.now n.0 n.1 (takes-some a.kind _ t) t (sym c.before.before.before.takes-time.ensures ∙ not-false _ c.before.before.if2.false))
 
@@ -64,7 +64,7 @@ returns-3 c =
     let split = c.before.before in
     let start = split.before.before.before.before.before.before in
     let a = start.args in
-    leaves (malformed a.image.now a.s a.table.now start.requires a.kind a.path.now a.time.now a.bytes.now (of-malformed (pathOf a.path.now) (sym split.parse-path.ensures ∙ c.enum_told.given.1)))
+    leaves (malformed a.image.now a.s a.table.now start.requires a.kind a.path.now a.time.now a.bytes.now (of-malformed (path_of a.path.now) (sym split.parse-path.ensures ∙ c.enum_told.given.1)))
 
 same_length : tie.Need-same-length
 same_length c = search rules

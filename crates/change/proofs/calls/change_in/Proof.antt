@@ -1,6 +1,6 @@
 -- Each kind is its own function's outcome.
 use mathlib.Core.Path.{ap, subst}
-use Rattle.change.specs.Kinds.{CanChange, changedIn}
+use Rattle.change.specs.Kinds.{CanChange, changed_in}
 use Rattle.change.proofs.CallLaws.{leaves-as}
 use borrow.Author.Rules.{rules}
 use Rattle.change.proofs.calls.change_in.Statement.{statement}
@@ -61,7 +61,7 @@ returns : tie.Need-returns
 returns c =
     let start = c.before.before.before.before.before.before.before.before.before.before.before.before.before.before in
     let a = start.args in
-    leaves-as (ap (changedIn a.s a.image.now a.table.now a.directory a.name.now a.time.now a.bytes.now) c.before.before.before.before.before.before.before.enum_told.given.1) c.before.before.before.before.add-in.ensures
+    leaves-as (ap (changed_in a.s a.image.now a.table.now a.directory a.name.now a.time.now a.bytes.now) c.before.before.before.before.before.before.before.enum_told.given.1) c.before.before.before.before.add-in.ensures
 
 same-length-3 : tie.Need-same-length-3
 same-length-3 c = search rules
@@ -73,7 +73,7 @@ returns-2 : tie.Need-returns-2
 returns-2 c =
     let start = c.before.before.before.before.before.before.before.before.before.before.before.before.before.before in
     let a = start.args in
-    leaves-as (ap (changedIn a.s a.image.now a.table.now a.directory a.name.now a.time.now a.bytes.now) c.before.before.before.before.before.before.before.enum-told2.given.1) c.before.before.before.before.add-in2.ensures
+    leaves-as (ap (changed_in a.s a.image.now a.table.now a.directory a.name.now a.time.now a.bytes.now) c.before.before.before.before.before.before.before.enum-told2.given.1) c.before.before.before.before.add-in2.ensures
 
 same-length-5 : tie.Need-same-length-5
 same-length-5 c = search rules
@@ -85,7 +85,7 @@ returns-3 : tie.Need-returns-3
 returns-3 c =
     let start = c.before.before.before.before.before.before.before.before.before.before.before.before.before.before in
     let a = start.args in
-    leaves-as (ap (changedIn a.s a.image.now a.table.now a.directory a.name.now a.time.now a.bytes.now) c.before.before.before.before.before.before.before.enum-told3.given.1) c.before.before.before.before.edit-in.ensures
+    leaves-as (ap (changed_in a.s a.image.now a.table.now a.directory a.name.now a.time.now a.bytes.now) c.before.before.before.before.before.before.before.enum-told3.given.1) c.before.before.before.before.edit-in.ensures
 
 same-length-7 : tie.Need-same-length-7
 same-length-7 c = search rules
@@ -97,7 +97,7 @@ returns-4 : tie.Need-returns-4
 returns-4 c =
     let start = c.before.before.before.before.before.before.before.before.before.before.before.before.before.before in
     let a = start.args in
-    leaves-as (ap (changedIn a.s a.image.now a.table.now a.directory a.name.now a.time.now a.bytes.now) c.before.before.before.before.before.before.before.enum-told4.given.1) c.before.before.before.before.edit-in2.ensures
+    leaves-as (ap (changed_in a.s a.image.now a.table.now a.directory a.name.now a.time.now a.bytes.now) c.before.before.before.before.before.before.before.enum-told4.given.1) c.before.before.before.before.edit-in2.ensures
 
 same-length-9 : tie.Need-same-length-9
 same-length-9 c = search rules
@@ -109,7 +109,7 @@ returns-5 : tie.Need-returns-5
 returns-5 c =
     let start = c.before.before.before.before.before.before.before.before.before.before.before.before.before.before in
     let a = start.args in
-    leaves-as (ap (changedIn a.s a.image.now a.table.now a.directory a.name.now a.time.now a.bytes.now) c.before.before.before.before.before.before.before.enum-told5.given.1) c.before.before.before.before.edit-in3.ensures
+    leaves-as (ap (changed_in a.s a.image.now a.table.now a.directory a.name.now a.time.now a.bytes.now) c.before.before.before.before.before.before.before.enum-told5.given.1) c.before.before.before.before.edit-in3.ensures
 
 pub change-in-spec : {M : Type 1} → statement M
 change-in-spec =

@@ -1,7 +1,7 @@
 -- The flag decides which of the two writes is done.
 use mathlib.Core.Path.{◌∙◌, ◌≡◌, ap₂, sym}
 use native.Mathlib.Omega.{arith}
-use Rattle.layout.specs.See.{imagePage}
+use Rattle.layout.specs.See.{image_page}
 use Rattle.page.specs.Page.{put}
 use borrow.Author.Rules.{rules}
 use Rattle.change.proofs.deeds.write_entry.Statement.{statement}
@@ -24,7 +24,7 @@ returns c =
     let place = c.before.before.before.before.before.before.before in
     let start = place.before.before in
     let a = start.args in
-    let there : place.image-page.result ≡ imagePage a.geometry a.t3.at = omega (arith, place.image-page.ensures, start.requires) in
+    let there : place.image-page.result ≡ image_page a.geometry a.t3.at = omega (arith, place.image-page.ensures, start.requires) in
     c.before.before.write-page.ensures ∙ ap₂ (λ b p. put a.geometry.format b p a.t3.page a.image.now) (sym c.before.before.before.before.before.before.if1.true) there
 
 same-length-2 : tie.Need-same-length-2
@@ -35,7 +35,7 @@ returns-2 c =
     let place = c.before.before.before.before.before.before.before in
     let start = place.before.before in
     let a = start.args in
-    let there : place.image-page.result ≡ imagePage a.geometry a.t3.at = omega (arith, place.image-page.ensures, start.requires) in
+    let there : place.image-page.result ≡ image_page a.geometry a.t3.at = omega (arith, place.image-page.ensures, start.requires) in
     c.before.before.rewrite-page.ensures ∙ ap₂ (λ b p. put a.geometry.format b p a.t3.page a.image.now) (sym c.before.before.before.before.before.before.if1.false) there
 
 pub write-entry-spec : {M : Type 1} → statement M

@@ -1,6 +1,6 @@
 -- Writes one after the other are the writes of the joined list.
 use Rattle.change.proofs.DeedSteps.{all-written}
-use Rattle.change.specs.Deeds.{writeOf}
+use Rattle.change.specs.Deeds.{write_of}
 use borrow.Author.Rules.{rules}
 use Rattle.change.proofs.deeds.write_pages.Statement.{statement}
 use Rattle.change.proofs.deeds.write_pages.Tie as tie
@@ -23,7 +23,7 @@ same_length c = search rules
 returns : tie.Need-returns
 returns c =
     let a = c.before.before.before.before.before.before.before.before.before.before.before.before.before.before.before.before.before.before.before.before.args in
-    all-written a.geometry a.image.now a.growth.now a.taken.now a.bytes.now (writeOf a.directory) (writeOf a.own)
+    all-written a.geometry a.image.now a.growth.now a.taken.now a.bytes.now (write_of a.directory) (write_of a.own)
     c.before.before.before.before.before.before.before.before.before.before.before.before.before.before.write-zeros.ensures c.before.before.before.before.before.before.before.before.before.before.write-data.ensures c.before.before.before.before.before.before.write-entry.ensures c.before.before.write-entry2.ensures
 
 pub write-pages-spec : {M : Type 1} → statement M

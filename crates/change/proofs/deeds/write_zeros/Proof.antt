@@ -3,7 +3,7 @@ use Prim.Native.Nat.{◌*◌}
 use mathlib.Core.Path.{◌≡◌}
 use native.Mathlib.Omega.{arith}
 use lib.ListN.{get_or}
-use Rattle.layout.specs.See.{imagePage}
+use Rattle.layout.specs.See.{image_page}
 use Rattle.change.proofs.DeedSteps.{no-zeros, zeros-written}
 use borrow.Author.Rules.{rules}
 use Rattle.change.proofs.deeds.write_zeros.Statement.{statement}
@@ -49,7 +49,7 @@ returns-2 c =
     let zeros = place.before.before in
     let start = zeros.before.before.before.before in
     let a = start.args in
-    let there : place.image-page.result ≡ imagePage a.geometry (2 * get_or a.growth.now 0 0) = omega (arith, place.image-page.ensures, place.before.shared-slice-known2.given 0) in
+    let there : place.image-page.result ≡ image_page a.geometry (2 * get_or a.growth.now 0 0) = omega (arith, place.image-page.ensures, place.before.shared-slice-known2.given 0) in
     zeros-written a.geometry a.image.now a.growth.now (λ z. omega arith) start.requires zeros.zero-page.ensures there first.write-page.ensures c.before.before.write-page2.ensures
 
 pub write-zeros-spec : {M : Type 1} → statement M

@@ -1,8 +1,8 @@
 -- Refused on a file, where a live entry is in the directory, and by a lock; otherwise it is taken away with its whole chain.
 use mathlib.Core.Path.{◌∙◌, sym}
 use borrow.Author.Tests.{not-false, not-true}
-use Rattle.layout.specs.See.{viewBy}
-use Rattle.tree.specs.Scan.{livingFrom}
+use Rattle.layout.specs.See.{view_by}
+use Rattle.tree.specs.Scan.{living_from}
 use Rattle.change.proofs.CallLaws.{leaves, scan-so}
 use Rattle.change.proofs.EditAnswers.{removed-done, removed-kind, removed-live, removed-locked}
 use borrow.Author.Rules.{rules}
@@ -53,8 +53,8 @@ returns-2 c =
     let kind = scanned.before.before.before.before.before.before.before.before.before.before in
     let start = kind.before.before.before.before.before in
     let a = start.args in
-    let v = viewBy a.s.geometry a.table.now a.image.now in
-    let live = scan-so a.table.now a.t5 scanned.before.before.before.before.next_of.ensures scanned.before.slots-of.ensures scanned.before.before.before.before.before.before.word_at.ensures (livingFrom v 0) scanned.first_live.ensures.0 in
+    let v = view_by a.s.geometry a.table.now a.image.now in
+    let live = scan-so a.table.now a.t5 scanned.before.before.before.before.next_of.ensures scanned.before.slots-of.ensures scanned.before.before.before.before.before.before.word_at.ensures (living_from v 0) scanned.first_live.ensures.0 in
     leaves (removed-locked a.s a.image.now a.table.now a.t4 a.t5 scanned.before.before.before.before.before.before.word_at.ensures (sym kind.is-directory.ensures ∙ not-false _ scanned.before.before.before.before.before.before.before.before.before.if1.false) (live ∙ locks.before.before.before.before.before.enum-told2.given.1) (sym locks.either-locked.ensures ∙ c.if2.true))
 
 directory-clusters-requires : tie.Need-directory-clusters-requires
@@ -67,8 +67,8 @@ take-away-requires c κs =
     let kind = scanned.before.before.before.before.before.before.before.before.before.before in
     let start = kind.before.before.before.before.before in
     let a = start.args in
-    let v = viewBy a.s.geometry a.table.now a.image.now in
-    let live = scan-so a.table.now a.t5 scanned.before.before.before.before.next_of.ensures scanned.before.slots-of.ensures scanned.before.before.before.before.before.before.word_at.ensures (livingFrom v 0) scanned.first_live.ensures.0 in
+    let v = view_by a.s.geometry a.table.now a.image.now in
+    let live = scan-so a.table.now a.t5 scanned.before.before.before.before.next_of.ensures scanned.before.slots-of.ensures scanned.before.before.before.before.before.before.word_at.ensures (living_from v 0) scanned.first_live.ensures.0 in
     (start.requires.card, start.requires.lands (sym kind.is-directory.ensures ∙ not-false _ scanned.before.before.before.before.before.before.before.before.before.if1.false) (live ∙ locks.before.before.before.before.before.enum-told2.given.1) (sym locks.either-locked.ensures ∙ c.before.before.before.if2.false))
 
 same-length-3 : tie.Need-same-length-3
@@ -83,8 +83,8 @@ returns-3 c =
     let kind = scanned.before.before.before.before.before.before.before.before.before.before in
     let start = kind.before.before.before.before.before in
     let a = start.args in
-    let v = viewBy a.s.geometry a.table.now a.image.now in
-    let live = scan-so a.table.now a.t5 scanned.before.before.before.before.next_of.ensures scanned.before.slots-of.ensures scanned.before.before.before.before.before.before.word_at.ensures (livingFrom v 0) scanned.first_live.ensures.0 in
+    let v = view_by a.s.geometry a.table.now a.image.now in
+    let live = scan-so a.table.now a.t5 scanned.before.before.before.before.next_of.ensures scanned.before.slots-of.ensures scanned.before.before.before.before.before.before.word_at.ensures (living_from v 0) scanned.first_live.ensures.0 in
     leaves (removed-live a.s a.image.now a.table.now a.t4 a.t5 scanned.before.before.before.before.before.before.word_at.ensures (sym kind.is-directory.ensures ∙ not-false _ scanned.before.before.before.before.before.before.before.before.before.if1.false) _ _ (live ∙ c.enum_told.given.1))
 
 same-length-5 : tie.Need-same-length-5
@@ -101,8 +101,8 @@ returns-4 c =
     let kind = scanned.before.before.before.before.before.before.before.before.before.before in
     let start = kind.before.before.before.before.before in
     let a = start.args in
-    let v = viewBy a.s.geometry a.table.now a.image.now in
-    let live = scan-so a.table.now a.t5 scanned.before.before.before.before.next_of.ensures scanned.before.slots-of.ensures scanned.before.before.before.before.before.before.word_at.ensures (livingFrom v 0) scanned.first_live.ensures.0 in
+    let v = view_by a.s.geometry a.table.now a.image.now in
+    let live = scan-so a.table.now a.t5 scanned.before.before.before.before.next_of.ensures scanned.before.slots-of.ensures scanned.before.before.before.before.before.before.word_at.ensures (living_from v 0) scanned.first_live.ensures.0 in
     leaves (removed-done a.s a.image.now a.table.now a.t4 a.t5 scanned.before.before.before.before.before.before.word_at.ensures (sym kind.is-directory.ensures ∙ not-false _ scanned.before.before.before.before.before.before.before.before.before.if1.false) (live ∙ locks.before.before.before.before.before.enum-told2.given.1) (sym locks.either-locked.ensures ∙ counted.before.before.before.if2.false) counted.directory-clusters.ensures c.before.before.before.before.take-away.ensures)
 
 pub remove-entry-spec : {M : Type 1} → statement M

@@ -1,7 +1,7 @@
 -- All but the mode is as read.
 use Prim.Native.Nat.{◌-◌}
 use mathlib.Core.Path.{◌∙◌, ap}
-use Rattle.model.specs.Entry.{entryOf}
+use Rattle.model.specs.Entry.{entry_of}
 use Rattle.change.proofs.PageParts.{altered-so}
 use borrow.Author.Rules.{rules}
 use Rattle.change.proofs.pages.killed_page.Statement.{statement}
@@ -28,7 +28,7 @@ altered-page-requires c κs = search rules
 returns : tie.Need-returns
 returns c =
     let page = c.before.before.before.before.before.before.before.args.page.now in
-    altered-so page ((entryOf page).mode - 0x8000) (entryOf page).length (entryOf page).firstCluster (entryOf page).modified (c.before.before.before.before.before.without-bit.ensures ∙ ap (λ n. n - 0x8000) c.before.before.before.before.before.before.half_at.ensures) c.before.before.before.before.word_at.ensures c.before.before.before.word-at2.ensures c.before.modified-of.ensures c.altered-page.ensures
+    altered-so page ((entry_of page).mode - 0x8000) (entry_of page).length (entry_of page).first_cluster (entry_of page).modified (c.before.before.before.before.before.without-bit.ensures ∙ ap (λ n. n - 0x8000) c.before.before.before.before.before.before.half_at.ensures) c.before.before.before.before.word_at.ensures c.before.before.before.word-at2.ensures c.before.modified-of.ensures c.altered-page.ensures
 
 pub killed-page-spec : {M : Type 1} → statement M
 killed-page-spec =

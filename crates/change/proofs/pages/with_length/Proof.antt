@@ -1,6 +1,6 @@
 -- All but the length is as read.
 use mathlib.Core.Path.{refl}
-use Rattle.model.specs.Entry.{entryOf}
+use Rattle.model.specs.Entry.{entry_of}
 use Rattle.change.proofs.PageParts.{altered-so}
 use borrow.Author.Rules.{rules}
 use Rattle.change.proofs.pages.with_length.Statement.{statement}
@@ -22,7 +22,7 @@ returns : tie.Need-returns
 returns c =
     let a = c.before.before.before.before.before.args in
     let page = a.page.now in
-    altered-so page (entryOf page).mode a.length (entryOf page).firstCluster (entryOf page).modified c.before.before.before.before.half_at.ensures refl c.before.before.before.word_at.ensures c.before.modified-of.ensures c.altered-page.ensures
+    altered-so page (entry_of page).mode a.length (entry_of page).first_cluster (entry_of page).modified c.before.before.before.before.half_at.ensures refl c.before.before.before.word_at.ensures c.before.modified-of.ensures c.altered-page.ensures
 
 pub with-length-spec : {M : Type 1} → statement M
 with-length-spec =

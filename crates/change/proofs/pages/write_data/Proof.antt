@@ -4,14 +4,14 @@ use mathlib.Core.Path.{◌∙◌, ◌≡◌, refl, sym}
 use native.Mathlib.Omega.{arith}
 use borrow.Author.Rules.{rules}
 use lib.ListN.{get_or, length}
-use Rattle.layout.specs.See.{imagePage}
-use Rattle.change.proofs.PageSteps.{all_left, leftFrom, none_left, one_less}
+use Rattle.layout.specs.See.{image_page}
+use Rattle.change.proofs.PageSteps.{all_left, left_from, none_left, one_less}
 use Rattle.change.proofs.pages.write_data.Statement.{statement}
 use Rattle.change.proofs.pages.write_data.Tie as tie
 
 abbrev invariant-loop : tie.invariant-loop
 invariant-loop image₀ geometry clusters bytes format count k₀ image k =
-    (k ≤ 2 * length clusters) × (length image ≡ length image₀) × (leftFrom geometry clusters bytes k image ≡ leftFrom geometry clusters bytes 0 image₀)
+    (k ≤ 2 * length clusters) × (length image ≡ length image₀) × (left_from geometry clusters bytes k image ≡ left_from geometry clusters bytes 0 image₀)
 
 abbrev decreases-loop : tie.decreases-loop
 decreases-loop image₀ geometry clusters bytes format count k₀ image k = 2 * length clusters - k
@@ -60,7 +60,7 @@ loop-again c =
     let l = page.before.before.before.loop in
     let start = page.before.before.before.before.before.before.before in
     let a = start.args in
-    let there : place.image-page.result ≡ imagePage a.geometry (2 * get_or a.clusters.now (l.k / 2) 0 + l.k % 2) = omega (arith, start.well-formed.1.0.1, place.image-page.ensures, page.before.shared-slice-known3.given (l.k / 2)) in
+    let there : place.image-page.result ≡ image_page a.geometry (2 * get_or a.clusters.now (l.k / 2) 0 + l.k % 2) = omega (arith, start.well-formed.1.0.1, place.image-page.ensures, page.before.shared-slice-known3.given (l.k / 2)) in
     (omega arith, search rules, one_less a.geometry a.clusters.now a.bytes.now l.k l.image start.requires (omega arith) page.data-page.ensures there written.write-page.ensures ∙ l.invariant.2)
 
 same_length : tie.Need-same-length invariant-loop decreases-loop

@@ -1,11 +1,11 @@
 -- A page of zeros, by its definition.
 use mathlib.Core.Path.{refl}
-use Rattle.model.specs.Pages.{zeroPage}
+use Rattle.model.specs.Pages.{zero_page}
 use Rattle.change.proofs.pages.zero_page.Statement.{statement}
 use Rattle.change.proofs.pages.zero_page.Tie as tie
 
 returns : tie.Need-returns
-unfolding zeroPage
+unfolding zero_page
 returns c = refl
 
 pub zero-page-spec : {M : Type 1} → statement M

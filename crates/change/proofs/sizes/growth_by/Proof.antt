@@ -1,7 +1,7 @@
 -- The place is the one of its arm.
 use mathlib.Core.Path.{ap, sym}
 use Rattle.tree.specs.declared.along.Place.{Place}
-use Rattle.change.specs.Deeds.{growthBy}
+use Rattle.change.specs.Deeds.{growth_by}
 use borrow.Author.Rules.{rules}
 use Rattle.change.proofs.sizes.growth_by.Statement.{statement}
 use Rattle.change.proofs.sizes.growth_by.Tie as tie
@@ -23,7 +23,7 @@ returns c = search rules
 
 returns-2 : tie.Need-returns-2
 returns-2 c =
-    ap (λ (d : Place). growthBy d c.before.before.args.length) (sym c.enum-told2.given.1)
+    ap (λ (d : Place). growth_by d c.before.before.args.length) (sym c.enum-told2.given.1)
 
 pub growth-by-spec : {M : Type 1} → statement M
 growth-by-spec =

@@ -1,7 +1,7 @@
 -- The place is the one of its arm.
 use mathlib.Core.Path.{ap, sym}
 use Rattle.tree.specs.declared.along.Place.{Place}
-use Rattle.change.specs.Deeds.{lengthBy}
+use Rattle.change.specs.Deeds.{length_by}
 use borrow.Author.Rules.{rules}
 use Rattle.change.proofs.sizes.length_by.Statement.{statement}
 use Rattle.change.proofs.sizes.length_by.Tie as tie
@@ -20,7 +20,7 @@ returns c = search rules
 
 returns-2 : tie.Need-returns-2
 returns-2 c =
-    ap (λ (d : Place). lengthBy d c.before.before.args.length) (sym c.enum-told2.given.1)
+    ap (λ (d : Place). length_by d c.before.before.args.length) (sym c.enum-told2.given.1)
 
 pub length-by-spec : {M : Type 1} → statement M
 length-by-spec = tie.close (tie.spec enum_told enum-told-2 add-result returns returns-2)

@@ -2,7 +2,7 @@
 use mathlib.Core.Path.{◌∙◌, ap, sym}
 use native.Mathlib.Omega.{arith}
 use Rattle.tree.specs.declared.along.Place.{Place}
-use Rattle.change.specs.Deeds.{pageBy}
+use Rattle.change.specs.Deeds.{page_by}
 use Rattle.change.proofs.SizeSteps.{page-added, page-behind}
 use borrow.Author.Rules.{rules}
 use Rattle.change.proofs.sizes.page_by.Statement.{statement}
@@ -23,7 +23,7 @@ add-result c = search rules
 returns : tie.Need-returns
 returns c =
     let a = c.before.before.before.args in
-    page-behind a.last a.growth.now (omega arith) ∙ ap (λ (d : Place). pageBy d a.last a.growth.now) (sym c.before.enum_told.given.1)
+    page-behind a.last a.growth.now (omega arith) ∙ ap (λ (d : Place). page_by d a.last a.growth.now) (sym c.before.enum_told.given.1)
 
 shared-slice-read-result : tie.Need-shared-slice-read-result
 shared-slice-read-result c = search rules
@@ -40,7 +40,7 @@ returns-2 c = search rules
 returns-3 : tie.Need-returns-3
 returns-3 c =
     let a = c.before.before.before.before.args in
-    page-added a.last a.growth.now (λ z. omega arith) ∙ ap (λ (d : Place). pageBy d a.last a.growth.now) (sym c.before.before.enum_told.given.1)
+    page-added a.last a.growth.now (λ z. omega arith) ∙ ap (λ (d : Place). page_by d a.last a.growth.now) (sym c.before.before.enum_told.given.1)
 
 pub page-by-spec : {M : Type 1} → statement M
 page-by-spec =

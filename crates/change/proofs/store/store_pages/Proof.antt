@@ -5,15 +5,15 @@ use mathlib.Core.Path.{◌≡◌, refl}
 use native.Mathlib.Omega.{arith}
 use borrow.Author.Rules.{rules}
 use lib.ListN.{get_or, length}
-use Rattle.layout.specs.Table.{tableNames}
-use Rattle.change.specs.Image.{storeTable}
+use Rattle.layout.specs.Table.{table_names}
+use Rattle.change.specs.Image.{store_table}
 use Rattle.change.proofs.StoreSteps.{no-pages-yet, page-stored}
 use Rattle.change.proofs.store.store_pages.Statement.{statement}
 use Rattle.change.proofs.store.store_pages.Tie as tie
 
 abbrev invariant-loop : tie.invariant-loop
 invariant-loop format image₀ first second count table t₀ image t =
-    (t ≤ 2 * count) × (length image ≡ length image₀) × (image ≡ storeTable format (tableNames (first ++ second) count) (length table) (λ c. get_or table c 0) t image₀)
+    (t ≤ 2 * count) × (length image ≡ length image₀) × (image ≡ store_table format (table_names (first ++ second) count) (length table) (λ c. get_or table c 0) t image₀)
 
 abbrev decreases-loop : tie.decreases-loop
 decreases-loop format image₀ first second count table t₀ image t = 2 * count - t
@@ -40,7 +40,7 @@ loop-again : tie.Need-loop-preserved invariant-loop decreases-loop
 loop-again c =
     let a = c.before.before.before.before.before.before.before.before.before.args in
     let l = c.before.before.before.before.before.before.loop in
-    (omega arith, search rules, page-stored a.format (tableNames (a.first.now ++ a.second.now) a.count) (length a.table.now) (λ x. get_or a.table.now x 0) a.image.now l.t l.invariant.2 c.before.before.before.table-page.ensures c.before.before.store-page.ensures)
+    (omega arith, search rules, page-stored a.format (table_names (a.first.now ++ a.second.now) a.count) (length a.table.now) (λ x. get_or a.table.now x 0) a.image.now l.t l.invariant.2 c.before.before.before.table-page.ensures c.before.before.store-page.ensures)
 
 same_length : tie.Need-same-length invariant-loop decreases-loop
 same_length c = search rules

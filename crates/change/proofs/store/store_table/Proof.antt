@@ -2,7 +2,7 @@
 use Prim.Native.Nat.{◌*◌, ◌+◌}
 use mathlib.Core.Path.{◌∙◌}
 use lib.ListN.{get_or, length}
-use Rattle.page.specs.Page.{pageAt}
+use Rattle.page.specs.Page.{page_at}
 use Rattle.layout.proofs.Stages.{read-data, there}
 use Rattle.change.proofs.StoreSteps.{by_names}
 use borrow.Author.Rules.{rules}
@@ -39,8 +39,8 @@ same_length c = search rules
 returns : tie.Need-returns
 returns c =
     let a = c.before.before.before.before.before.before.before.before.before.before.before.before.before.before.before.before.before.args in
-    let one = c.before.before.before.before.before.before.before.before.before.before.read-page.ensures.0.buffer ∙ read-data _ _ (there (pageAt a.s.geometry.format a.image.now (2 * a.s.indirect)) c.before.before.before.before.before.before.before.before.before.before.before.before.before.before.before.before.before.requires.2) in
-    let two = c.before.before.before.before.before.before.before.read-page2.ensures.0.buffer ∙ read-data _ _ (there (pageAt a.s.geometry.format a.image.now (2 * a.s.indirect + 1)) c.before.before.before.before.before.before.before.before.before.before.before.before.before.before.before.before.before.requires.3) in
+    let one = c.before.before.before.before.before.before.before.before.before.before.read-page.ensures.0.buffer ∙ read-data _ _ (there (page_at a.s.geometry.format a.image.now (2 * a.s.indirect)) c.before.before.before.before.before.before.before.before.before.before.before.before.before.before.before.before.before.requires.2) in
+    let two = c.before.before.before.before.before.before.before.read-page2.ensures.0.buffer ∙ read-data _ _ (there (page_at a.s.geometry.format a.image.now (2 * a.s.indirect + 1)) c.before.before.before.before.before.before.before.before.before.before.before.before.before.before.before.before.before.requires.3) in
     by_names a.image.now a.s (λ x. get_or a.table.now x 0) (length a.table.now) c.before.before.before.before.before.before.before.before.before.before.before.before.before.before.before.before.before.requires.1 one two c.before.before.store-pages.ensures
 
 pub store-table-spec : {M : Type 1} → statement M

@@ -3,7 +3,7 @@ use Prim.Native.Nat.{◌<◌, ◌^◌}
 use mathlib.Core.Path.{◌∙◌, ◌≡◌, refl, sym, ap}
 use mathlib.Core.Logic.{⊎_elim}
 use lib.ListN.{length, length-set}
-use Rattle.change.specs.Words.{clearedFrom}
+use Rattle.change.specs.Words.{cleared_from}
 use Rattle.change.proofs.WordSteps.{all-freed, freed, freed-past}
 use native.Mathlib.Omega.{arith}
 use borrow.Author.Rules.{rules}
@@ -12,7 +12,7 @@ use Rattle.change.proofs.words.clear_chain.Tie as tie
 
 abbrev invariant-loop : tie.invariant-loop
 invariant-loop table₀ first count c₀ left₀ table c left =
-    (c < 2 ^ 32) × (length table ≡ length table₀) × (clearedFrom c left table ≡ clearedFrom first count table₀)
+    (c < 2 ^ 32) × (length table ≡ length table₀) × (cleared_from c left table ≡ cleared_from first count table₀)
 
 abbrev decreases-loop : tie.decreases-loop
 decreases-loop table₀ first count c₀ left₀ table c left = left

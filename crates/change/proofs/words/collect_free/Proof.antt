@@ -10,19 +10,19 @@ use borrow.Author.Rules.{rules}
 use lib.Dec.{ltb}
 use lib.ListN.{length, length-set, take}
 use lib.Seq.{length-take-le}
-use Rattle.model.specs.Counts.{block_of, isListed}
+use Rattle.model.specs.Counts.{block_of, is_listed}
 use Rattle.reached.specs.Blocks.{Knows}
-use Rattle.change.specs.Words.{freeList}
-use Rattle.change.proofs.WordSteps.{freeUpTo, none_yet, not-one, one_more}
+use Rattle.change.specs.Words.{free_list}
+use Rattle.change.proofs.WordSteps.{free_up_to, none_yet, not-one, one_more}
 use Rattle.change.proofs.words.collect_free.Statement.{statement}
 use Rattle.change.proofs.words.collect_free.Tie as tie
 
-abbrev mayTake : ℕ → ℕ → List ℕ → ℕ → Bool
-mayTake limit offset bad c = ltb c limit && not (isListed bad (block_of (offset + c)))
+abbrev may_take : ℕ → ℕ → List ℕ → ℕ → Bool
+may_take limit offset bad c = ltb c limit && not (is_listed bad (block_of (offset + c)))
 
 abbrev invariant-loop : tie.invariant-loop
 invariant-loop table list₀ offset bad limit last₀ count₀ c₀ list last count c =
-    (c ≤ length table) × (count ≤ c) × (length list ≡ length list₀) × (take count list ≡ freeUpTo (mayTake limit offset bad) table c) × Knows bad last
+    (c ≤ length table) × (count ≤ c) × (length list ≡ length list₀) × (take count list ≡ free_up_to (may_take limit offset bad) table c) × Knows bad last
 
 abbrev decreases-loop : tie.decreases-loop
 decreases-loop table list₀ offset bad limit last₀ count₀ c₀ list last count c = length table - c
@@ -45,7 +45,7 @@ new-requires c κs = search rules
 loop-holds : tie.Need-loop-init invariant-loop decreases-loop
 loop-holds c =
     let a = c.before.before.before.before.before.before.before.before.before.args in
-    (omega arith, omega arith, refl, none_yet (mayTake c.before.before.take_limit.result a.s.geometry.offset a.s.bad) a.table.now, c.new.ensures)
+    (omega arith, omega arith, refl, none_yet (may_take c.before.before.take_limit.result a.s.geometry.offset a.s.bad) a.table.now, c.new.ensures)
 
 slice-aggregate-at : tie.Need-slice-aggregate-at invariant-loop decreases-loop
 slice-aggregate-at c = search rules
@@ -84,7 +84,7 @@ loop-again : tie.Need-loop-preserved invariant-loop decreases-loop
 loop-again c =
     let a = c.before.before.before.before.before.before.before.before.before.before.before.before.before.before.before.before.args in
     let t = a.table.now in
-    let pool = mayTake c.before.before.before.before.before.before.before.before.before.take_limit.result a.s.geometry.offset a.s.bad in
+    let pool = may_take c.before.before.before.before.before.before.before.before.before.take_limit.result a.s.geometry.offset a.s.bad in
     let l = c.before.before.before.before.before.before.loop in
     let known = c.before.before.before.at.ensures.1 l.invariant.4 in
     let may : (ltb l.c c.before.before.before.before.before.before.before.before.before.take_limit.result && not c.before.before.before.at.result.listed) ≡ pool l.c = rw (known, c.before.before.before.at.ensures.0) in
@@ -102,8 +102,8 @@ returns c =
     let a = c.before.before.before.before.before.before.before.before.before.before.before.args in
     let t = a.table.now in
     let all : l.c ≡ length t = omega arith in
-    let found : take l.count l.list ≡ freeUpTo (mayTake c.before.before.before.before.take_limit.result a.s.geometry.offset a.s.bad) t (length t) = rw all at l.invariant.3 in
-    let free : take l.count l.list ≡ freeList a.s t = found ∙ ap (λ n. freeUpTo (mayTake n a.s.geometry.offset a.s.bad) t (length t)) c.before.before.before.before.take_limit.ensures in
+    let found : take l.count l.list ≡ free_up_to (may_take c.before.before.before.before.take_limit.result a.s.geometry.offset a.s.bad) t (length t) = rw all at l.invariant.3 in
+    let free : take l.count l.list ≡ free_list a.s t = found ∙ ap (λ n. free_up_to (may_take n a.s.geometry.offset a.s.bad) t (length t)) c.before.before.before.before.take_limit.ensures in
     (sym (length-take-le l.count l.list (omega arith)) ∙ ap length free, free)
 
 pub collect-free-spec : {M : Type 1} → statement M

@@ -3,7 +3,7 @@ use Prim.Native.Nat.{◌-◌, ◌≤◌}
 use mathlib.Core.Path.{◌∙◌, ◌≡◌, refl, ap}
 use mathlib.Core.Logic.{⊎_elim}
 use lib.ListN.{drop, length, length-set}
-use Rattle.model.specs.Writes.{wordTo}
+use Rattle.model.specs.Writes.{word_to}
 use Rattle.change.specs.Words.{chained}
 use Rattle.change.proofs.WordSteps.{all-linked, each_below, linked, linked-past, nothing-linked, word-to}
 use native.Mathlib.Omega.{arith}
@@ -13,7 +13,7 @@ use Rattle.change.proofs.words.link_chain.Tie as tie
 
 abbrev invariant-loop : tie.invariant-loop
 invariant-loop table₀ clusters word₀ left₀ table word left =
-    (left ≤ length clusters) × (length table ≡ length table₀) × (word ≡ wordTo (drop left clusters)) × (table ≡ chained (drop left clusters) table₀)
+    (left ≤ length clusters) × (length table ≡ length table₀) × (word ≡ word_to (drop left clusters)) × (table ≡ chained (drop left clusters) table₀)
 
 abbrev decreases-loop : tie.decreases-loop
 decreases-loop table₀ clusters word₀ left₀ table word left = left

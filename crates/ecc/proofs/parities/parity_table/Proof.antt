@@ -5,21 +5,21 @@ use Prim.Native.Nat.{ℕ}
 use lib.Count.{ones_in}
 use lib.Dec.{T, eqb, eqb→eq}
 use lib.ListN.{get_or}
-use Rattle.ecc.specs.Code.{parity, columnParities}
-use Rattle.ecc.specs.Parities.{parityEntry, HoldsParities}
+use Rattle.ecc.specs.Code.{parity, column_parities}
+use Rattle.ecc.specs.Parities.{parity_entry, HoldsParities}
 use Rattle.ecc.proofs.Tests.{all_below, all-at}
 use Rattle.ecc.proofs.parities.parity_table.Statement.{statement}
 use Rattle.ecc.proofs.parities.parity_table.Tie as tie
 
 right : List ℕ → ℕ → Bool
-right table byte = eqb (get_or table byte 0) (parityEntry byte)
+right table byte = eqb (get_or table byte 0) (parity_entry byte)
 
 holds : {table : List ℕ} → T (all_below 256 (right table)) → HoldsParities table
 unfolding right
 holds {table} t = record { entries = λ byte h. eqb→eq _ _ (all-at 256 (right table) t byte h) }
 
 returns : tie.Need-returns
-unfolding right columnParities parity ones_in
+unfolding right column_parities parity ones_in
 returns c = holds tt
 
 pub parity-table-spec : {M : Type 1} → statement M

@@ -3,7 +3,7 @@ use mathlib.Core.Path.{◌∙◌, ap}
 use native.Mathlib.Omega.{arith}
 use mir.Syntax.{w32}
 use mir.ValLaws.{to_z-of_z}
-use Rattle.model.specs.Calendar.{isShift}
+use Rattle.model.specs.Calendar.{is_shift}
 use Rattle.model.proofs.Shifts.{minute-below, valid-facts}
 use Rattle.fields.proofs.ShiftLaws.{lands-after, lands-before, lands_within, moment-date, shifts_by}
 use borrow.Author.Rules.{rules}
@@ -20,7 +20,7 @@ add-add-shift c =
 
 add-shift-requires : tie.Need-add-shift-requires
 add-shift-requires c κs =
-    (minute-below c.before.before.before.args.moment (valid-facts c.before.before.before.args.moment c.before.before.before.requires.0), ap isShift (to_z-of_z w32 c.before.before.before.args.minutes c.before.before.before.ranges.minutes) ∙ c.before.before.before.requires.1)
+    (minute-below c.before.before.before.args.moment (valid-facts c.before.before.before.args.moment c.before.before.before.requires.0), ap is_shift (to_z-of_z w32 c.before.before.before.args.minutes c.before.before.before.ranges.minutes) ∙ c.before.before.before.requires.1)
 
 day-before-requires : tie.Need-day-before-requires
 day-before-requires c κs =

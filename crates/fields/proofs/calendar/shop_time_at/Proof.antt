@@ -6,7 +6,7 @@ use mir.Syntax.{w32}
 use mir.ValLaws.{to_z-of_z}
 use Rattle.model.specs.Bytes.{slice}
 use Rattle.model.specs.Calendar.{shown}
-use Rattle.fields.specs.Calendar.{shownAs}
+use Rattle.fields.specs.Calendar.{shown_as}
 use borrow.Author.Rules.{rules}
 use Rattle.fields.proofs.calendar.shop_time_at.Statement.{statement}
 use Rattle.fields.proofs.calendar.shop_time_at.Tie as tie
@@ -30,7 +30,7 @@ returns : tie.Need-returns
 returns c =
     let a = c.before.before.before.args in
     let size : a.from + 8 - a.from ≡ 8 = omega arith in
-    c.shop-time.ensures ∙ ap₂ (λ s n. shownAs (shown s (slice a.page.now a.from n))) (to_z-of_z w32 a.minutes c.before.before.before.ranges.minutes) size
+    c.shop-time.ensures ∙ ap₂ (λ s n. shown_as (shown s (slice a.page.now a.from n))) (to_z-of_z w32 a.minutes c.before.before.before.ranges.minutes) size
 
 pub shop-time-at-spec : {M : Type 1} → statement M
 shop-time-at-spec =

@@ -5,7 +5,7 @@ use borrow.Author.Tests.{ne_eqb}
 use Rattle.fields.specs.Kinds.{kind_of}
 use Rattle.fields.proofs.KindLaws.{kind-bad, kind-directory, kind-file}
 use Rattle.model.specs.Bytes.{half}
-use Rattle.model.specs.Entry.{entryOf}
+use Rattle.model.specs.Entry.{entry_of}
 use Rattle.fields.proofs.kinds.kind_of.Statement.{statement}
 use Rattle.fields.proofs.kinds.kind_of.Tie as tie
 
@@ -28,15 +28,15 @@ name-is-good-requires c κs = search rules
 
 returns-2 : tie.Need-returns-2
 returns-2 c =
-    kind-file (entryOf c.before.before.before.before.before.before.args.page.now) _ _ _ _ c.before.before.before.before.before.half_at.ensures c.before.before.before.word_at.ensures c.before.before.word-at2.ensures c.before.name-is-good.ensures c.before.before.before.before.if1.false c.if2.true
+    kind-file (entry_of c.before.before.before.before.before.before.args.page.now) _ _ _ _ c.before.before.before.before.before.half_at.ensures c.before.before.before.word_at.ensures c.before.before.word-at2.ensures c.before.name-is-good.ensures c.before.before.before.before.if1.false c.if2.true
 
 returns-3 : tie.Need-returns-3
 returns-3 c =
-    kind-directory (entryOf c.before.before.before.before.before.before.before.args.page.now) _ _ _ _ c.before.before.before.before.before.before.half_at.ensures c.before.before.before.before.word_at.ensures c.before.before.before.word-at2.ensures c.before.before.name-is-good.ensures c.before.before.before.before.before.if1.false c.before.if2.false c.if3.true
+    kind-directory (entry_of c.before.before.before.before.before.before.before.args.page.now) _ _ _ _ c.before.before.before.before.before.before.half_at.ensures c.before.before.before.before.word_at.ensures c.before.before.before.word-at2.ensures c.before.before.name-is-good.ensures c.before.before.before.before.before.if1.false c.before.if2.false c.if3.true
 
 returns-4 : tie.Need-returns-4
 returns-4 c =
-    kind-bad (entryOf c.before.before.before.before.before.before.before.args.page.now) _ _ _ _ c.before.before.before.before.before.before.half_at.ensures c.before.before.before.before.word_at.ensures c.before.before.before.word-at2.ensures c.before.before.name-is-good.ensures c.before.before.before.before.before.if1.false c.before.if2.false c.if3.false
+    kind-bad (entry_of c.before.before.before.before.before.before.before.args.page.now) _ _ _ _ c.before.before.before.before.before.before.half_at.ensures c.before.before.before.before.word_at.ensures c.before.before.before.word-at2.ensures c.before.before.name-is-good.ensures c.before.before.before.before.before.if1.false c.before.if2.false c.if3.false
 
 pub kind-of-spec : {M : Type 1} → statement M
 kind-of-spec =

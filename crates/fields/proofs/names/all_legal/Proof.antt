@@ -6,12 +6,12 @@ use borrow.Author.Rules.{rules}
 use borrow.Author.Tests.{not-false, not-true}
 use lib.ListN.{drop, length}
 use Rattle.fields.proofs.NameLaws.{legal-done, legal-more, legal-stop}
-use Rattle.model.specs.Names.{legalBytes}
+use Rattle.model.specs.Names.{legal_bytes}
 use Rattle.fields.proofs.names.all_legal.Statement.{statement}
 use Rattle.fields.proofs.names.all_legal.Tie as tie
 
 abbrev invariant-loop : tie.invariant-loop
-invariant-loop name i₀ i = (i ≤ length name) × (legalBytes name ≡ legalBytes (drop i name))
+invariant-loop name i₀ i = (i ≤ length name) × (legal_bytes name ≡ legal_bytes (drop i name))
 
 abbrev decreases-loop : tie.decreases-loop
 decreases-loop name i₀ i = length name - i

@@ -5,12 +5,12 @@ use native.Mathlib.Omega.{arith}
 use borrow.Author.Rules.{rules}
 use lib.ListN.{drop, length}
 use Rattle.fields.proofs.NameLaws.{zero-found, zero-later, zero-nowhere}
-use Rattle.model.specs.Bytes.{beforeZero}
+use Rattle.model.specs.Bytes.{before_zero}
 use Rattle.fields.proofs.names.count_before_zero.Statement.{statement}
 use Rattle.fields.proofs.names.count_before_zero.Tie as tie
 
 abbrev invariant-loop : tie.invariant-loop
-invariant-loop field i₀ i = (i ≤ length field) × (length (beforeZero field) ≡ i + length (beforeZero (drop i field)))
+invariant-loop field i₀ i = (i ≤ length field) × (length (before_zero field) ≡ i + length (before_zero (drop i field)))
 
 abbrev decreases-loop : tie.decreases-loop
 decreases-loop field i₀ i = length field - i

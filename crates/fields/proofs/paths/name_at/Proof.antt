@@ -5,13 +5,13 @@ use mathlib.Core.Path.{◌∙◌, ◌≡◌, sym}
 use native.Mathlib.Omega.{arith}
 use borrow.Author.Rules.{rules}
 use lib.ListN.{drop, get_or, length}
-use Rattle.fields.specs.PathBytes.{name_at, splitNames}
+use Rattle.fields.specs.PathBytes.{name_at, split_names}
 use Rattle.fields.proofs.PathLaws.{end-inside, name-here, name-later, name-nowhere, name-past, rest-empty}
 use Rattle.fields.proofs.paths.name_at.Statement.{statement}
 use Rattle.fields.proofs.paths.name_at.Tie as tie
 
 abbrev invariant-loop : tie.invariant-loop
-invariant-loop path index from₀ left₀ from left = (from ≤ length path) × (name_at path index ≡ get_or (splitNames (drop from path)) left [])
+invariant-loop path index from₀ left₀ from left = (from ≤ length path) × (name_at path index ≡ get_or (split_names (drop from path)) left [])
 
 abbrev decreases-loop : tie.decreases-loop
 decreases-loop path index from₀ left₀ from left = left

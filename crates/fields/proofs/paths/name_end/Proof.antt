@@ -4,13 +4,13 @@ use mathlib.Core.Path.{◌∙◌, ◌≡◌, refl, sym}
 use native.Mathlib.Omega.{arith}
 use borrow.Author.Rules.{rules}
 use lib.ListN.{drop, length}
-use Rattle.fields.proofs.PathLaws.{end-last, end_more, end-slash, firstName}
+use Rattle.fields.proofs.PathLaws.{end-last, end_more, end-slash, first_name}
 use Rattle.fields.proofs.paths.name_end.Statement.{statement}
 use Rattle.fields.proofs.paths.name_end.Tie as tie
 
 abbrev invariant-loop : tie.invariant-loop
 invariant-loop path from end₀ end =
-    (from ≤ end) × (end ≤ length path) × (from + length (firstName (drop from path)) ≡ end + length (firstName (drop end path)))
+    (from ≤ end) × (end ≤ length path) × (from + length (first_name (drop from path)) ≡ end + length (first_name (drop end path)))
 
 abbrev decreases-loop : tie.decreases-loop
 decreases-loop path from end₀ end = length path - end

@@ -5,19 +5,19 @@ use native.Mathlib.Omega.{arith}
 use borrow.Author.Rules.{rules}
 use borrow.Author.Tests.{not-false, not-true}
 use lib.ListN.{drop, length}
-use Rattle.fields.specs.PathBytes.{splitNames}
+use Rattle.fields.specs.PathBytes.{split_names}
 use Rattle.fields.proofs.PathLaws.{bad-first, end-inside, names-last, names_more, names-some, parse-bad, parse-good, parse-many, parse-nothing, parse-relative, parse-root}
-use Rattle.model.specs.Holds.{mostNames}
-use Rattle.model.specs.Names.{Path, goodNames}
+use Rattle.model.specs.Holds.{most_names}
+use Rattle.model.specs.Names.{Path, good_names}
 use Rattle.fields.proofs.paths.parse_path.Statement.{statement}
 use Rattle.fields.proofs.paths.parse_path.Tie as tie
 
 abbrev invariant-loop : tie.invariant-loop
 invariant-loop path from₀ count₀ from count =
-    (from ≤ length path) × (length (splitNames (drop 1 path)) ≡ count + length (splitNames (drop from path))) × (goodNames (splitNames (drop 1 path)) ≡ goodNames (splitNames (drop from path)))
+    (from ≤ length path) × (length (split_names (drop 1 path)) ≡ count + length (split_names (drop from path))) × (good_names (split_names (drop 1 path)) ≡ good_names (split_names (drop from path)))
 
 abbrev decreases-loop : tie.decreases-loop
-decreases-loop path from₀ count₀ from count = mostNames - count
+decreases-loop path from₀ count₀ from count = most_names - count
 
 -- a name ends inside the bytes
 inside : (c : tie.After-name-end invariant-loop decreases-loop) → c.name-end.result ≤ length c.before.before.before.before.before.before.before.before.args.path.now
@@ -69,7 +69,7 @@ returns-5 c =
     let loop = c.before.before.before.before.before.before.loop in
     let good = not-false c.before.before.is-good-name.result c.before.if4.false in
     let only = names-last _ _ _ loop.invariant.0 c.before.before.before.before.name-end.ensures c.if5.true in
-    parse-good c.before.before.before.before.before.before.before.before.before.before.before.before.args.path.now c.before.before.before.before.before.before.before.before.if2.false (omega arith) _ (loop.invariant.1 ∙ ap (λ (p : Path). loop.count + length p) only) (omega arith) (omega arith) (loop.invariant.2 ∙ ap goodNames only ∙ rw (← c.before.before.is-good-name.ensures, good))
+    parse-good c.before.before.before.before.before.before.before.before.before.before.before.before.args.path.now c.before.before.before.before.before.before.before.before.if2.false (omega arith) _ (loop.invariant.1 ∙ ap (λ (p : Path). loop.count + length p) only) (omega arith) (omega arith) (loop.invariant.2 ∙ ap good_names only ∙ rw (← c.before.before.is-good-name.ensures, good))
 
 add-from : tie.Need-overflow-add-from invariant-loop decreases-loop
 add-from c = omega (arith, inside c.before.before.before.before)
@@ -82,7 +82,7 @@ loop-again c =
     let loop = c.before.before.before.before.before.before.loop in
     let good = not-false c.before.before.is-good-name.result c.before.if4.false in
     let more = names_more _ _ _ loop.invariant.0 c.before.before.before.before.name-end.ensures c.if5.false in
-    (omega (arith, inside c.before.before.before.before), omega (arith, loop.invariant.1 ∙ ap (λ (p : Path). loop.count + length p) more), loop.invariant.2 ∙ ap goodNames more ∙ rw (← c.before.before.is-good-name.ensures, good))
+    (omega (arith, inside c.before.before.before.before), omega (arith, loop.invariant.1 ∙ ap (λ (p : Path). loop.count + length p) more), loop.invariant.2 ∙ ap good_names more ∙ rw (← c.before.before.is-good-name.ensures, good))
 
 returns-6 : tie.Need-returns-6 invariant-loop decreases-loop
 returns-6 c =

@@ -4,12 +4,12 @@ use borrow.Author.Rules.{rules}
 use borrow.Author.Tests.{eq-eqb, le-leb, ne_eqb}
 use lib.ListN.{get_or, length}
 use Rattle.fields.proofs.TimeLaws.{month-early, month-late}
-use Rattle.model.specs.Time.{validTime}
+use Rattle.model.specs.Time.{valid_time}
 use Rattle.fields.proofs.times.is_valid_time.Statement.{statement}
 use Rattle.fields.proofs.times.is_valid_time.Tie as tie
 
 returns : tie.Need-returns
-unfolding validTime
+unfolding valid_time
 returns c = rw (ne_eqb (length c.before.before.args.time.now) 8 c.if1.true)
 
 shared-slice-read-month : tie.Need-shared-slice-read-month
@@ -52,7 +52,7 @@ in-years-requires : tie.Need-in-years-requires
 in-years-requires c κs = search rules
 
 returns-4 : tie.Need-returns-4
-unfolding validTime
+unfolding valid_time
 returns-4 c =
     let t = c.before.before.before.before.before.before.before.before.before.before.before.before.before.before.args.time.now in
     rw (c.in-years.ensures, c.before.before.before.before.before.days.ensures, c.before.before.before.before.before.before.is-leap.ensures, c.before.before.before.before.before.before.before.half_in.ensures, eq-eqb (length t) 8 c.before.before.before.before.before.before.before.before.before.before.before.before.if1.false, le-leb 1 (get_or t 5 0) c.before.before.before.before.before.before.before.before.before.before.if2.false, le-leb (get_or t 5 0) 12 c.before.before.before.before.before.before.before.before.before.if3.false)

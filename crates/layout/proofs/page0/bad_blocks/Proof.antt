@@ -1,19 +1,19 @@
 -- The loop's invariant: the first words of the list are read, the others zero.
 use Rattle.std.proofs.Common.{◌≡◌, ℕ, ◌+◌, ◌-◌, ◌*◌, ◌≤◌, List, replicate, sym, refl, ◌∙◌, arith, rules}
 use Rattle.model.specs.Bytes.{word}
-use Rattle.model.specs.Counts.{listWords}
+use Rattle.model.specs.Counts.{list_words}
 use Rattle.layout.proofs.UpTo.{filled, filled_more, filled_none, filled-whole}
 use Rattle.layout.proofs.page0.bad_blocks.Statement.{statement}
 use Rattle.layout.proofs.page0.bad_blocks.Tie as tie
 
 abbrev zeros : List ℕ
-zeros = replicate listWords 0
+zeros = replicate list_words 0
 
 abbrev invariant-loop : tie.invariant-loop
-invariant-loop page bad₀ i₀ bad i = (i ≤ listWords) × (bad ≡ filled (λ j. word page (0xD0 + 4 * j)) zeros i)
+invariant-loop page bad₀ i₀ bad i = (i ≤ list_words) × (bad ≡ filled (λ j. word page (0xD0 + 4 * j)) zeros i)
 
 abbrev decreases-loop : tie.decreases-loop
-decreases-loop page bad₀ i₀ bad i = listWords - i
+decreases-loop page bad₀ i₀ bad i = list_words - i
 
 loop-holds : tie.Need-loop-init invariant-loop decreases-loop
 loop-holds c = (omega arith, sym (filled_none (λ j. word c.args.page.now (0xD0 + 4 * j)) zeros))
@@ -49,8 +49,8 @@ returns : tie.Need-returns invariant-loop decreases-loop
 returns c =
     let page = c.before.before.args.page.now in
     let l = c.before.loop in
-    let all : l.i ≡ listWords = omega arith in
-    l.invariant.1 ∙ rw all (filled-whole (λ j. word page (0xD0 + 4 * j)) zeros listWords refl)
+    let all : l.i ≡ list_words = omega arith in
+    l.invariant.1 ∙ rw all (filled-whole (λ j. word page (0xD0 + 4 * j)) zeros list_words refl)
 
 pub bad-blocks-spec : {M : Type 1} → statement M
 bad-blocks-spec =

@@ -1,13 +1,13 @@
 -- The loop's invariant: judging the words from i on is judging them all.
 use Rattle.std.proofs.Common.{◌≡◌, ◌-◌, ◌≤◌, length, drop, sym, refl, ◌∙◌, arith, rules}
 use borrow.Author.Tests.{not-false, not-true}
-use Rattle.layout.specs.Superblock.{goodBadBlocks}
+use Rattle.layout.specs.Superblock.{good_bad_blocks}
 use Rattle.layout.proofs.ListLaws.{list_done, list-more, list-stop}
 use Rattle.layout.proofs.page0.good_bad_blocks.Statement.{statement}
 use Rattle.layout.proofs.page0.good_bad_blocks.Tie as tie
 
 abbrev invariant-loop : tie.invariant-loop
-invariant-loop n bad i₀ i = (i ≤ length bad) × (goodBadBlocks n bad ≡ goodBadBlocks n (drop i bad))
+invariant-loop n bad i₀ i = (i ≤ length bad) × (good_bad_blocks n bad ≡ good_bad_blocks n (drop i bad))
 
 abbrev decreases-loop : tie.decreases-loop
 decreases-loop n bad i₀ i = length bad - i

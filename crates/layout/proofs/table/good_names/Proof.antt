@@ -2,17 +2,17 @@
 use Rattle.std.proofs.Common.{◌≡◌, ℕ, ◌-◌, ◌*◌, ◌≤◌, Bool, ◌&&◌, List, ◌++◌, sym, refl, ◌∙◌, arith, rules}
 use borrow.Author.Tests.{not-true, not-false}
 use Rattle.model.specs.Bytes.{word}
-use Rattle.layout.specs.Table.{goodName}
-use Rattle.layout.proofs.Names.{isNew, goodFrom, goodAt, names-stop, names_more, names-done}
+use Rattle.layout.specs.Table.{good_name}
+use Rattle.layout.proofs.Names.{is_new, good_from, good_at, names-stop, names_more, names-done}
 use Rattle.layout.proofs.table.good_names.Statement.{statement}
 use Rattle.layout.proofs.table.good_names.Tie as tie
 
-tested : (f : ℕ → ℕ) (indirect offset : ℕ) (bad : List ℕ) (count i name : ℕ) (a b : Bool) → name ≡ f i → a ≡ goodName offset bad name → b ≡ isNew f indirect name i
-    → goodAt f indirect offset bad count i ≡ a && b
+tested : (f : ℕ → ℕ) (indirect offset : ℕ) (bad : List ℕ) (count i name : ℕ) (a b : Bool) → name ≡ f i → a ≡ good_name offset bad name → b ≡ is_new f indirect name i
+    → good_at f indirect offset bad count i ≡ a && b
 tested f indirect offset bad count i name a b n r w = rw (r, w, n)
 
 abbrev invariant-loop : tie.invariant-loop
-invariant-loop first second offset bad indirect count i₀ i = (i ≤ count) × (goodFrom (λ j. word (first ++ second) (4 * j)) indirect offset bad count 0 ≡ goodFrom (λ j. word (first ++ second) (4 * j)) indirect offset bad count i)
+invariant-loop first second offset bad indirect count i₀ i = (i ≤ count) × (good_from (λ j. word (first ++ second) (4 * j)) indirect offset bad count 0 ≡ good_from (λ j. word (first ++ second) (4 * j)) indirect offset bad count i)
 
 abbrev decreases-loop : tie.decreases-loop
 decreases-loop first second offset bad indirect count i₀ i = count - i

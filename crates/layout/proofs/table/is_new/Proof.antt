@@ -1,12 +1,12 @@
 -- From the last name down: a name that is met is not new, one that differs leaves the question as it was.
 use Rattle.std.proofs.Common.{◌≡◌, ◌*◌, ◌≤◌, ◌++◌, sym, refl, ◌∙◌, arith}
 use Rattle.model.specs.Bytes.{word}
-use Rattle.layout.proofs.Names.{isNew, new_none, new-not, new-later}
+use Rattle.layout.proofs.Names.{is_new, new_none, new-not, new-later}
 use Rattle.layout.proofs.table.is_new.Statement.{statement}
 use Rattle.layout.proofs.table.is_new.Tie as tie
 
 abbrev invariant-loop : tie.invariant-loop
-invariant-loop first second indirect count name left₀ left = (left ≤ 256) × (isNew (λ i. word (first ++ second) (4 * i)) indirect name count ≡ isNew (λ i. word (first ++ second) (4 * i)) indirect name left)
+invariant-loop first second indirect count name left₀ left = (left ≤ 256) × (is_new (λ i. word (first ++ second) (4 * i)) indirect name count ≡ is_new (λ i. word (first ++ second) (4 * i)) indirect name left)
 
 abbrev decreases-loop : tie.decreases-loop
 decreases-loop first second indirect count name left₀ left = left

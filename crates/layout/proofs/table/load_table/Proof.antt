@@ -1,20 +1,20 @@
 -- On a card that passed the check both indirect pages are read, so the names are the card's, and every table page is there.
 use Rattle.std.proofs.Common.{◌≡◌, ℕ, ◌+◌, ◌*◌, ◌<◌, true, List, ◌++◌, drop, ap, ◌∙◌, arith, rules}
-use Rattle.page.specs.Page.{pageAt, is_some}
+use Rattle.page.specs.Page.{page_at, is_some}
 use Rattle.layout.specs.declared.Superblock.{Superblock}
 use Rattle.layout.specs.Superblock.{up_to}
-use Rattle.layout.specs.Table.{tableClusters, tableNames, data_of, tablePage, tableWord, table_of}
+use Rattle.layout.specs.Table.{table_clusters, table_names, data_of, table_page, table_word, table_of}
 use Rattle.layout.proofs.Stages.{read-data}
 use Rattle.layout.proofs.OpenFacts.{OpenFacts, open-facts}
 use Rattle.layout.proofs.table.load_table.Statement.{statement}
 use Rattle.layout.proofs.table.load_table.Tie as tie
 
 module _ (image : List ℕ) (s : Superblock) (g : OpenFacts image s) (first second : List ℕ)
-    (one : first ≡ data_of (pageAt s.geometry.format image (2 * s.indirect))) (two : second ≡ data_of (pageAt s.geometry.format image (2 * s.indirect + 1))) where
-  found : (t : ℕ) → t < 2 * tableClusters s.end → is_some (pageAt s.geometry.format image (tablePage (tableNames (first ++ second) (tableClusters s.end)) t)) ≡ true
+    (one : first ≡ data_of (page_at s.geometry.format image (2 * s.indirect))) (two : second ≡ data_of (page_at s.geometry.format image (2 * s.indirect + 1))) where
+  found : (t : ℕ) → t < 2 * table_clusters s.end → is_some (page_at s.geometry.format image (table_page (table_names (first ++ second) (table_clusters s.end)) t)) ≡ true
   found t h = rw (one, two) (ap is_some (g.table-read t h))
 
-  loaded : (before after : List ℕ) → after ≡ up_to (tableWord s.geometry.format image (tableNames (first ++ second) (tableClusters s.end))) s.end ++ drop s.end before
+  loaded : (before after : List ℕ) → after ≡ up_to (table_word s.geometry.format image (table_names (first ++ second) (table_clusters s.end))) s.end ++ drop s.end before
       → after ≡ table_of image s ++ drop s.end before
   unfolding table_of
   loaded before after e = rw (one, two) at e

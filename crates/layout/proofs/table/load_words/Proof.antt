@@ -1,6 +1,6 @@
 -- The loop's invariant: the first c words are the table's, the others as they were; the buffer has the page of word c, but where word c starts a page.
 use Rattle.std.proofs.Common.{◌≡◌, ◌-◌, ◌/◌, ◌%◌, ◌≤◌, ◌++◌, length, sym, refl, ◌∙◌, ⊎_elim, arith, length-set, rules}
-use Rattle.layout.specs.Table.{tableClusters, tableNames, tableWord}
+use Rattle.layout.specs.Table.{table_clusters, table_names, table_word}
 use Rattle.layout.proofs.UpTo.{filled, filled_none}
 use Rattle.layout.proofs.TableLaws.{Holding, just-read, word_more, still-held}
 use Rattle.layout.proofs.table.load_words.Statement.{statement}
@@ -8,8 +8,8 @@ use Rattle.layout.proofs.table.load_words.Tie as tie
 
 abbrev invariant-loop : tie.invariant-loop
 invariant-loop format image first second end table₀ count page₀ c₀ table page c =
-    (c ≤ end) × (table ≡ filled (tableWord format image (tableNames (first ++ second) (tableClusters end))) table₀ c) × (length table ≡ length table₀)
-    × ((c % 128 ≡ 0 → ⊥) → Holding format image (tableNames (first ++ second) (tableClusters end)) c page)
+    (c ≤ end) × (table ≡ filled (table_word format image (table_names (first ++ second) (table_clusters end))) table₀ c) × (length table ≡ length table₀)
+    × ((c % 128 ≡ 0 → ⊥) → Holding format image (table_names (first ++ second) (table_clusters end)) c page)
 
 abbrev decreases-loop : tie.decreases-loop
 decreases-loop format image first second end table₀ count page₀ c₀ table page c = end - c
@@ -52,7 +52,7 @@ loop-again c =
     let joined = c.before.before.if1 in
     let format = a.format in
     let image = a.image.now in
-    let names = tableNames (a.first.now ++ a.second.now) (tableClusters a.end) in
+    let names = table_names (a.first.now ++ a.second.now) (table_clusters a.end) in
     let here : Holding format image names l.c joined.page =
     ⊎_elim (λ w. just-read format image names l.c w.1.ensures (start.requires.2 (l.c / 128) (omega arith)) w.3.ensures.0 w.4)
     (λ w. w.1 ∙ l.invariant.3 w.0.left) joined.branch in (

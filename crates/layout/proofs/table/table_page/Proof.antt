@@ -2,16 +2,16 @@
 use Rattle.std.proofs.Common.{◌*◌, ◌/◌, ◌++◌, arith, rules}
 use lib.ListN.{get_or-eq_default}
 use Rattle.model.specs.Bytes.{word}
-use Rattle.layout.specs.Table.{tableNames}
-use Rattle.layout.proofs.UpTo.{getD-upTo, length-upTo}
+use Rattle.layout.specs.Table.{table_names}
+use Rattle.layout.proofs.UpTo.{get_or-up_to, length-up_to}
 use Rattle.layout.proofs.table.table_page.Statement.{statement}
 use Rattle.layout.proofs.table.table_page.Tie as tie
 
 returns : tie.Need-returns
 returns c =
     let a = c.before.args in
-    let names = tableNames (a.first.now ++ a.second.now) a.count in
-    omega (arith, get_or-eq_default names 0 {n = a.t / 2} (omega (arith, length-upTo (λ i. word (a.first.now ++ a.second.now) (4 * i)) a.count)))
+    let names = table_names (a.first.now ++ a.second.now) a.count in
+    omega (arith, get_or-eq_default names 0 {n = a.t / 2} (omega (arith, length-up_to (λ i. word (a.first.now ++ a.second.now) (4 * i)) a.count)))
 
 name-at-requires : tie.Need-name-at-requires
 name-at-requires c κs = search rules
@@ -28,7 +28,7 @@ add-result c = search rules
 returns-2 : tie.Need-returns-2
 returns-2 c =
     let a = c.before.before.args in
-    rw (c.name-at.ensures, getD-upTo (λ i. word (a.first.now ++ a.second.now) (4 * i)) a.count (a.t / 2) (omega arith))
+    rw (c.name-at.ensures, get_or-up_to (λ i. word (a.first.now ++ a.second.now) (4 * i)) a.count (a.t / 2) (omega arith))
 
 pub table-page-spec : {M : Type 1} → statement M
 table-page-spec =

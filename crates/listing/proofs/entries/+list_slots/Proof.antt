@@ -7,12 +7,12 @@ use lib.ListN.{length}
 use mir.Syntax.{w32}
 use mir.Val.{of_z, to_z}
 use mir.ValLaws.{to_z-of_z}
-use Rattle.layout.specs.See.{viewBy}
+use Rattle.layout.specs.See.{view_by}
 use Rattle.tree.proofs.LookLaws.{step-even, step-odd}
-use Rattle.tree.specs.Slots.{slotPages, clusterAfter}
+use Rattle.tree.specs.Slots.{slot_pages, cluster_after}
 use Rattle.listing.specs.Emit.{most}
-use Rattle.listing.specs.Paths.{pathBytes}
-use Rattle.listing.specs.Render.{slotsText}
+use Rattle.listing.specs.Paths.{path_bytes}
+use Rattle.listing.specs.Render.{slots_text}
 use Rattle.listing.proofs.EmitLaws.{wrote_as, wrote-length, wrote_none}
 use Rattle.listing.proofs.RenderLaws.{Remains, left, left-all, left-none, remains-as, turn-deep, turn-flat}
 use Prim.Native.Nat.{ℕ, ◌-◌, ◌<◌, ◌≤◌, ◌^◌}
@@ -45,7 +45,7 @@ calls t = (slot-page-reads.Asked, slot-page-reads.Learnt, list-entry-reads.Asked
 abbrev list-slots-Inv-loop : list-slots-lts.invariant-loop
 list-slots-Inv-loop image table geometry minutes out₀ at path start count below next₀ c₀ k₀ out next c k =
     (k ≤ count) × (c < 2 ^ 32) × (next ≤ most) × (length out ≡ length out₀)
-    × Remains out₀ at (slotsText (to_z w32 minutes) (viewBy geometry table image) table below (pathBytes path) (slotPages table start 0 count)) out next (left (to_z w32 minutes) (viewBy geometry table image) table below (pathBytes path) c k count)
+    × Remains out₀ at (slots_text (to_z w32 minutes) (view_by geometry table image) table below (path_bytes path) (slot_pages table start 0 count)) out next (left (to_z w32 minutes) (view_by geometry table image) table below (path_bytes path) c k count)
 
 abbrev list-slots-μ-loop : list-slots-lts.decreases-loop
 list-slots-μ-loop image table geometry minutes out₀ at path start count below next₀ c₀ k₀ out next c k = count - k
@@ -53,8 +53,8 @@ list-slots-μ-loop image table geometry minutes out₀ at path start count below
 list-slots-loop-holds : (t : ℕ) → list-slots-lts.Need-loop-init (calls t) (list-slots-at t) list-slots.Post list-slots-Inv-loop list-slots-μ-loop
 list-slots-loop-holds t c =
     let a = c.before.before.before.args in
-    let v = viewBy a.geometry a.table.now a.image.now in
-    (omega arith, omega arith, omega arith, refl, λ after end w. wrote_as (left-all (to_z w32 (of_z w32 a.minutes)) v a.table.now a.below (pathBytes a.path) a.start a.count) w)
+    let v = view_by a.geometry a.table.now a.image.now in
+    (omega arith, omega arith, omega arith, refl, λ after end w. wrote_as (left-all (to_z w32 (of_z w32 a.minutes)) v a.table.now a.below (path_bytes a.path) a.start a.count) w)
 
 list-slots-slot-page-requires : (t : ℕ) → list-slots-lts.Need-slot-page-requires (calls t) (list-slots-at t) list-slots.Post list-slots-Inv-loop list-slots-μ-loop
 list-slots-slot-page-requires t c κs = search rules
@@ -83,19 +83,19 @@ list-slots-loop-again : (t : ℕ) → list-slots-lts.Need-loop-preserved (calls 
 list-slots-loop-again t c =
     let a = c.before.before.before.before.before.before.before.before.before.before.before.before.args in
     let t = a.table.now in
-    let v = viewBy a.geometry t a.image.now in
+    let v = view_by a.geometry t a.image.now in
     let w = c.before.before.before.before.before.before.before.before.loop in
     let line = c.before.before.before.before.list-entry.ensures.0 in
     let fits : length w.out ≤ most = omega arith in
-    let x : c.if2.c ≡ clusterAfter t w.c w.k =
+    let x : c.if2.c ≡ cluster_after t w.c w.k =
     ⊎_elim (λ z. step-odd t w.c w.k _ z.0.taken (z.2 ∙ z.1.ensures)) (λ z. step-even t w.c w.k _ z.0.left z.1) c.if2.branch in (
       omega arith,
       ⊎_elim (λ z. omega (arith, z.2, z.1.ensures, c.before.before.before.before.before.before.before.before.before.before.shared-slice-known2.given w.c)) (λ z. omega (arith, z.1)) c.if2.branch,
       ⊎_elim (λ z. omega (arith, z.7, z.3.ensures.place)) (λ z. omega (arith, z.2, line.place)) c.before.if1.branch,
       ⊎_elim (λ z. ap length z.6 ∙ wrote-length z.3.ensures ∙ wrote-length line ∙ w.invariant.3) (λ z. ap length z.1 ∙ wrote-length line ∙ w.invariant.3) c.before.if1.branch,
       ⊎_elim
-          (λ z. remains-as z.6 z.7 (turn-deep (to_z w32 (of_z w32 a.minutes)) v t a.below (pathBytes a.path) w.c w.k a.count _ _ c.before.before.before.before.before.before.before.loop-test.true c.before.before.before.before.before.slot-page.ensures.0 x fits w.invariant.4 line z.0.taken c.before.before.before.before.list-entry.ensures.1 z.3.ensures))
-          (λ z. remains-as z.1 z.2 (turn-flat (to_z w32 (of_z w32 a.minutes)) v t a.below (pathBytes a.path) w.c w.k a.count _ _ c.before.before.before.before.before.before.before.loop-test.true c.before.before.before.before.before.slot-page.ensures.0 x fits w.invariant.4 line (omega (arith, z.0.left))))
+          (λ z. remains-as z.6 z.7 (turn-deep (to_z w32 (of_z w32 a.minutes)) v t a.below (path_bytes a.path) w.c w.k a.count _ _ c.before.before.before.before.before.before.before.loop-test.true c.before.before.before.before.before.slot-page.ensures.0 x fits w.invariant.4 line z.0.taken c.before.before.before.before.list-entry.ensures.1 z.3.ensures))
+          (λ z. remains-as z.1 z.2 (turn-flat (to_z w32 (of_z w32 a.minutes)) v t a.below (path_bytes a.path) w.c w.k a.count _ _ c.before.before.before.before.before.before.before.loop-test.true c.before.before.before.before.before.slot-page.ensures.0 x fits w.invariant.4 line (omega (arith, z.0.left))))
           c.before.if1.branch,
     )
 
@@ -106,10 +106,10 @@ list-slots-returns : (t : ℕ) → list-slots-lts.Need-returns (calls t) (list-s
 list-slots-returns t c =
     let a = c.before.before.before.before.before.args in
     let w = c.before.loop in
-    let v = viewBy a.geometry a.table.now a.image.now in
+    let v = view_by a.geometry a.table.now a.image.now in
     let same = to_z-of_z w32 a.minutes c.before.before.before.before.before.ranges.minutes in
-    let whole = w.invariant.4 w.out w.next (wrote_as (sym (left-none (to_z w32 (of_z w32 a.minutes)) v a.table.now a.below (pathBytes a.path) w.c w.k a.count (omega (arith, c.loop-test.false)))) (wrote_none _ _ w.invariant.2)) in
-    wrote_as (ap (λ s. slotsText s v a.table.now a.below (pathBytes a.path) (slotPages a.table.now a.start 0 a.count)) same) whole
+    let whole = w.invariant.4 w.out w.next (wrote_as (sym (left-none (to_z w32 (of_z w32 a.minutes)) v a.table.now a.below (path_bytes a.path) w.c w.k a.count (omega (arith, c.loop-test.false)))) (wrote_none _ _ w.invariant.2)) in
+    wrote_as (ap (λ s. slots_text s v a.table.now a.below (path_bytes a.path) (slot_pages a.table.now a.start 0 a.count)) same) whole
 
 pub +list-slots-spec : {M : Type 1} → statement M
 +list-slots-spec = close μ-list-slots λ t. list-slots-lts.spec (calls t)

@@ -5,14 +5,14 @@ use native.Mathlib.Omega.{arith}
 use borrow.Author.Tests.{not-false, not-true}
 use mir.Syntax.{w32}
 use mir.ValLaws.{to_z-of_z}
-use Rattle.fields.specs.Calendar.{shownAs}
+use Rattle.fields.specs.Calendar.{shown_as}
 use Rattle.model.specs.Calendar.{shown}
-use Rattle.model.specs.Entry.{entryOf}
-use Rattle.layout.specs.See.{viewBy}
+use Rattle.model.specs.Entry.{entry_of}
+use Rattle.layout.specs.See.{view_by}
 use Rattle.tree.specs.Scan.{lives}
 use Rattle.tree.proofs.PageReads.{none-lives, shown-live}
 use Rattle.tree.proofs.LookLaws.{unread, was_read}
-use Rattle.listing.specs.Paths.{pathBytes}
+use Rattle.listing.specs.Paths.{path_bytes}
 use Rattle.listing.proofs.EmitLaws.{wrote_as, wrote_none}
 use Rattle.listing.proofs.EntryLaws.{directory-leads, directory-line, file-leads, file-line, leads-nowhere, name-fits, no_line, seen_by}
 use borrow.Author.Rules.{rules}
@@ -25,9 +25,9 @@ read-slot-requires c κs = search rules
 returns : tie.Need-returns
 returns c =
     let a = c.before.before.before.before.before.before.args in
-    let o = (viewBy a.geometry a.table.now a.image.now).entry a.page in
+    let o = (view_by a.geometry a.table.now a.image.now).entry a.page in
     let quiet : false ≡ lives o = none-lives (unread c.before.read-slot.ensures (not-true _ c.if1.true)) in
-    (wrote_as (no_line (pathBytes a.path) o quiet a.minutes) (wrote_none _ _ (omega arith)), leads-nowhere a.table.now o a.at 0 a.path quiet)
+    (wrote_as (no_line (path_bytes a.path) o quiet a.minutes) (wrote_none _ _ (omega arith)), leads-nowhere a.table.now o a.at 0 a.path quiet)
 
 is-live-requires : tie.Need-is-live-requires
 is-live-requires c κs = search rules
@@ -35,9 +35,9 @@ is-live-requires c κs = search rules
 returns-2 : tie.Need-returns-2
 returns-2 c =
     let a = c.before.before.before.before.before.before.before.before.before.args in
-    let o = (viewBy a.geometry a.table.now a.image.now).entry a.page in
+    let o = (view_by a.geometry a.table.now a.image.now).entry a.page in
     let quiet : false ≡ lives o = sym (not-true _ c.if2.true) ∙ shown-live _ c.before.before.before.before.read-slot.ensures (not-false _ c.before.before.before.if1.false) c.before.is_live.ensures in
-    (wrote_as (no_line (pathBytes a.path) o quiet a.minutes) (wrote_none _ _ (omega arith)), leads-nowhere a.table.now o a.at 0 a.path quiet)
+    (wrote_as (no_line (path_bytes a.path) o quiet a.minutes) (wrote_none _ _ (omega arith)), leads-nowhere a.table.now o a.at 0 a.path quiet)
 
 word-at-requires : tie.Need-word-at-requires
 word-at-requires c κs = search rules
@@ -66,9 +66,9 @@ returns-3 : tie.Need-returns-3
 returns-3 c =
     let a = c.before.before.before.before.before.before.before.before.before.before.before.before.before.before.before.before.before.before.before.before.before.before.before.args in
     let seen =
-    seen_by (pathBytes a.path) a.path.len ((viewBy a.geometry a.table.now a.image.now).entry a.page) c.before.before.before.before.before.before.before.before.before.before.before.before.before.before.before.before.before.before.read-slot.new.1.1.1.1.0 _ _ _ (was_read c.before.before.before.before.before.before.before.before.before.before.before.before.before.before.before.before.before.before.read-slot.ensures (not-false _ c.before.before.before.before.before.before.before.before.before.before.before.before.before.before.before.before.before.if1.false)) (sym (not-false _ c.before.before.before.before.before.before.before.before.before.before.before.before.before.before.if2.false) ∙ c.before.before.before.before.before.before.before.before.before.before.before.before.before.before.before.is_live.ensures) c.before.before.before.before.before.before.before.before.before.before.before.before.word_at.ensures c.before.before.before.before.before.before.before.before.before.before.entry-name.ensures c.before.before.before.before.before.before.before.before.before.with-name.ensures in
+    seen_by (path_bytes a.path) a.path.len ((view_by a.geometry a.table.now a.image.now).entry a.page) c.before.before.before.before.before.before.before.before.before.before.before.before.before.before.before.before.before.before.read-slot.new.1.1.1.1.0 _ _ _ (was_read c.before.before.before.before.before.before.before.before.before.before.before.before.before.before.before.before.before.before.read-slot.ensures (not-false _ c.before.before.before.before.before.before.before.before.before.before.before.before.before.before.before.before.before.if1.false)) (sym (not-false _ c.before.before.before.before.before.before.before.before.before.before.before.before.before.before.if2.false) ∙ c.before.before.before.before.before.before.before.before.before.before.before.before.before.before.before.is_live.ensures) c.before.before.before.before.before.before.before.before.before.before.before.before.word_at.ensures c.before.before.before.before.before.before.before.before.before.before.entry-name.ensures c.before.before.before.before.before.before.before.before.before.with-name.ensures in
     let kind = sym (not-true _ c.before.before.before.before.if3.true) ∙ c.before.before.before.before.before.is-directory.ensures in
-    let stamp = c.before.before.before.before.before.before.before.modified-at.ensures ∙ ap (λ s. shownAs (shown s (entryOf c.before.before.before.before.before.before.before.before.before.before.before.before.before.before.before.before.before.before.read-slot.new.1.1.1.1.0).modified)) (to_z-of_z w32 a.minutes c.before.before.before.before.before.before.before.before.before.before.before.before.before.before.before.before.before.before.before.before.before.before.before.ranges.minutes) in
+    let stamp = c.before.before.before.before.before.before.before.modified-at.ensures ∙ ap (λ s. shown_as (shown s (entry_of c.before.before.before.before.before.before.before.before.before.before.before.before.before.before.before.before.before.before.read-slot.new.1.1.1.1.0).modified)) (to_z-of_z w32 a.minutes c.before.before.before.before.before.before.before.before.before.before.before.before.before.before.before.before.before.before.before.before.before.before.before.ranges.minutes) in
     (wrote_as (file-line seen a.minutes _ stamp kind) c.before.before.put-entry.ensures, file-leads seen a.table.now c.before.before.put-entry.result 0 kind)
 
 put-entry-requires-2 : tie.Need-put-entry-requires-2
@@ -91,9 +91,9 @@ returns-4 : tie.Need-returns-4
 returns-4 c =
     let a = c.before.before.before.before.before.before.before.before.before.before.before.before.before.before.before.before.before.before.before.before.before.before.before.before.before.before.before.args in
     let seen =
-    seen_by (pathBytes a.path) a.path.len ((viewBy a.geometry a.table.now a.image.now).entry a.page) c.before.before.before.before.before.before.before.before.before.before.before.before.before.before.before.before.before.before.before.before.before.before.read-slot.new.1.1.1.1.0 _ _ _ (was_read c.before.before.before.before.before.before.before.before.before.before.before.before.before.before.before.before.before.before.before.before.before.before.read-slot.ensures (not-false _ c.before.before.before.before.before.before.before.before.before.before.before.before.before.before.before.before.before.before.before.before.before.if1.false)) (sym (not-false _ c.before.before.before.before.before.before.before.before.before.before.before.before.before.before.before.before.before.before.if2.false) ∙ c.before.before.before.before.before.before.before.before.before.before.before.before.before.before.before.before.before.before.before.is_live.ensures) c.before.before.before.before.before.before.before.before.before.before.before.before.before.before.before.before.word_at.ensures c.before.before.before.before.before.before.before.before.before.before.before.before.before.before.entry-name.ensures c.before.before.before.before.before.before.before.before.before.before.before.before.before.with-name.ensures in
+    seen_by (path_bytes a.path) a.path.len ((view_by a.geometry a.table.now a.image.now).entry a.page) c.before.before.before.before.before.before.before.before.before.before.before.before.before.before.before.before.before.before.before.before.before.before.read-slot.new.1.1.1.1.0 _ _ _ (was_read c.before.before.before.before.before.before.before.before.before.before.before.before.before.before.before.before.before.before.before.before.before.before.read-slot.ensures (not-false _ c.before.before.before.before.before.before.before.before.before.before.before.before.before.before.before.before.before.before.before.before.before.if1.false)) (sym (not-false _ c.before.before.before.before.before.before.before.before.before.before.before.before.before.before.before.before.before.before.if2.false) ∙ c.before.before.before.before.before.before.before.before.before.before.before.before.before.before.before.before.before.before.before.is_live.ensures) c.before.before.before.before.before.before.before.before.before.before.before.before.before.before.before.before.word_at.ensures c.before.before.before.before.before.before.before.before.before.before.before.before.before.before.entry-name.ensures c.before.before.before.before.before.before.before.before.before.before.before.before.before.with-name.ensures in
     let kind = sym (not-false _ c.before.before.before.before.before.before.before.before.if3.false) ∙ c.before.before.before.before.before.before.before.before.before.is-directory.ensures in
-    let stamp = c.before.before.before.before.before.before.before.before.before.before.before.modified-at.ensures ∙ ap (λ s. shownAs (shown s (entryOf c.before.before.before.before.before.before.before.before.before.before.before.before.before.before.before.before.before.before.before.before.before.before.read-slot.new.1.1.1.1.0).modified)) (to_z-of_z w32 a.minutes c.before.before.before.before.before.before.before.before.before.before.before.before.before.before.before.before.before.before.before.before.before.before.before.before.before.before.before.ranges.minutes) in
+    let stamp = c.before.before.before.before.before.before.before.before.before.before.before.modified-at.ensures ∙ ap (λ s. shown_as (shown s (entry_of c.before.before.before.before.before.before.before.before.before.before.before.before.before.before.before.before.before.before.before.before.before.before.read-slot.new.1.1.1.1.0).modified)) (to_z-of_z w32 a.minutes c.before.before.before.before.before.before.before.before.before.before.before.before.before.before.before.before.before.before.before.before.before.before.before.before.before.before.before.ranges.minutes) in
     (wrote_as (directory-line seen a.minutes _ stamp kind) c.before.before.before.before.before.before.put-entry2.ensures, directory-leads seen a.table.now c.before.before.before.before.before.before.put-entry2.result _ _ _ kind c.before.before.word-at2.ensures c.before.next_of.ensures c.slots-of.ensures)
 
 pub list-entry-spec : {M : Type 1} → statement M

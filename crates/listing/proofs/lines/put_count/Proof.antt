@@ -1,6 +1,6 @@
 -- `put_count` writes the parts of a line one after the other.
 use native.Mathlib.Omega.{arith}
-use Rattle.listing.specs.Text.{countLine}
+use Rattle.listing.specs.Text.{count_line}
 use Rattle.listing.proofs.EmitLaws.{wrote-append}
 use borrow.Author.Rules.{rules}
 use Rattle.listing.proofs.lines.put_count.Statement.{statement}
@@ -19,7 +19,7 @@ same_length : tie.Need-same-length
 same_length c = search rules
 
 returns : tie.Need-returns
-unfolding countLine
+unfolding count_line
 returns c =
     wrote-append (omega arith) (wrote-append (omega arith) c.before.before.before.before.before.before.before.before.before.before.put.ensures c.before.before.before.before.before.before.put-number.ensures) c.before.before.put_byte.ensures
 

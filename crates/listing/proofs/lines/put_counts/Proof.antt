@@ -1,6 +1,6 @@
 -- `put_counts` writes a line for each count.
 use native.Mathlib.Omega.{arith}
-use Rattle.listing.specs.Text.{countsText}
+use Rattle.listing.specs.Text.{counts_text}
 use Rattle.listing.proofs.EmitLaws.{wrote-append}
 use borrow.Author.Rules.{rules}
 use Rattle.listing.proofs.lines.put_counts.Statement.{statement}
@@ -49,7 +49,7 @@ same_length : tie.Need-same-length
 same_length c = search rules
 
 returns : tie.Need-returns
-unfolding countsText
+unfolding counts_text
 returns c =
     let mended = c.before.before in
     let held = mended.before.before.before.before.before in

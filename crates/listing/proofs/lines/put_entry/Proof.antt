@@ -1,6 +1,6 @@
 -- `put_entry` writes the parts of a line one after the other.
 use native.Mathlib.Omega.{arith}
-use Rattle.listing.specs.Text.{entryLine}
+use Rattle.listing.specs.Text.{entry_line}
 use Rattle.listing.proofs.EmitLaws.{wrote-append}
 use borrow.Author.Rules.{rules}
 use Rattle.listing.proofs.lines.put_entry.Statement.{statement}
@@ -34,7 +34,7 @@ same_length : tie.Need-same-length
 same_length c = search rules
 
 returns : tie.Need-returns
-unfolding entryLine
+unfolding entry_line
 returns c =
     let known = c.before.before.before.before.before.before.before.before.before.before.before.before.before.before.before.before.before.before.before.before.before.before.before.before.before.before.before.before.before.before.before.before.before.well-formed in
     wrote-append (omega (arith, known.0))

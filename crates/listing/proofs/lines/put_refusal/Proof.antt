@@ -1,7 +1,7 @@
 -- `put_refusal` writes the parts of a line one after the other.
 use mathlib.Core.Path.{ap, ap₂}
 use native.Mathlib.Omega.{arith}
-use Rattle.listing.specs.Text.{decimalOf, pageText, refusalText}
+use Rattle.listing.specs.Text.{decimal_of, page_text, refusal_text}
 use Rattle.listing.proofs.EmitLaws.{wrote-append, wrote_as}
 use borrow.Author.Rules.{rules}
 use Rattle.listing.proofs.lines.put_refusal.Statement.{statement}
@@ -35,12 +35,12 @@ same_length : tie.Need-same-length
 same_length c = search rules
 
 returns : tie.Need-returns
-unfolding refusalText
+unfolding refusal_text
 returns c =
     let page = c.before.before.before.before.before.before.before.before.before.before.before.before.before.before.before.before.before.page.ensures in
     let number = c.before.before.before.before.before.before.before.before.before.before.before.before.before.before.before.before.before.before.number.ensures in
     wrote-append (omega arith)
-    (wrote-append (omega arith) (wrote-append (omega arith) c.before.before.before.before.before.before.before.before.before.before.before.before.before.before.put.ensures (wrote_as (ap decimalOf number) c.before.before.before.before.before.before.before.before.before.before.put-number.ensures)) (wrote_as (ap₂ pageText number page) c.before.before.before.before.before.before.put-page.ensures))
+    (wrote-append (omega arith) (wrote-append (omega arith) c.before.before.before.before.before.before.before.before.before.before.before.before.before.before.put.ensures (wrote_as (ap decimal_of number) c.before.before.before.before.before.before.before.before.before.before.put-number.ensures)) (wrote_as (ap₂ page_text number page) c.before.before.before.before.before.before.put-page.ensures))
     c.before.before.put_byte.ensures
 
 pub put-refusal-spec : {M : Type 1} → statement M

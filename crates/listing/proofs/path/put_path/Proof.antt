@@ -4,16 +4,16 @@ use native.Mathlib.Omega.{arith}
 use lib.ListN.{length}
 use lib.Seq.{length-take-le}
 use borrow.Author.Rules.{rules}
-use Rattle.listing.specs.Paths.{pathRoom}
+use Rattle.listing.specs.Paths.{path_room}
 use Rattle.listing.proofs.path.put_path.Statement.{statement}
 use Rattle.listing.proofs.path.put_path.Tie as tie
 
 array-share-prefix-bytes : tie.Need-array-share-prefix-bytes
-array-share-prefix-bytes c = let l : length c.before.before.before.args.path.bytes ≡ pathRoom = search rules in omega arith
+array-share-prefix-bytes c = let l : length c.before.before.before.args.path.bytes ≡ path_room = search rules in omega arith
 
 slice-aggregate-put : tie.Need-slice-aggregate-put
 slice-aggregate-put c =
-    let l : length c.before.before.before.before.args.path.bytes ≡ pathRoom = search rules in
+    let l : length c.before.before.before.before.args.path.bytes ≡ path_room = search rules in
     sym (length-take-le _ _ (omega arith))
 
 put-requires : tie.Need-put-requires

@@ -4,7 +4,7 @@ use mathlib.Core.Path.{◌≡◌}
 use native.Mathlib.Omega.{arith}
 use lib.ListN.{length}
 use borrow.Author.Rules.{rules}
-use Rattle.listing.specs.Paths.{pathRoom}
+use Rattle.listing.specs.Paths.{path_room}
 use Rattle.listing.proofs.EmitLaws.{wrote-append, wrote-fits}
 use Rattle.listing.proofs.path.with_name.Statement.{statement}
 use Rattle.listing.proofs.path.with_name.Tie as tie
@@ -24,7 +24,7 @@ put-requires c κs = search rules
 returns : tie.Need-returns
 returns c =
     let a = c.before.before.before.before.before.before.before.before.args in
-    let l : length a.path.bytes ≡ pathRoom = search rules in
+    let l : length a.path.bytes ≡ path_room = search rules in
     let w = wrote-fits {s = 0x2F ∷ a.name.now} (omega arith) (omega arith) (wrote-append (omega arith) c.before.before.before.before.put_byte.ensures c.before.put.ensures) in
     (w.0, omega (arith, w.1))
 

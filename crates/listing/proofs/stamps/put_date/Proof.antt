@@ -1,6 +1,6 @@
 -- The parts of a date one after the other.
 use native.Mathlib.Omega.{arith}
-use Rattle.listing.specs.Text.{dateText}
+use Rattle.listing.specs.Text.{date_text}
 use Rattle.listing.proofs.EmitLaws.{wrote-append}
 use borrow.Author.Rules.{rules}
 use Rattle.listing.proofs.stamps.put_date.Statement.{statement}
@@ -25,7 +25,7 @@ same_length : tie.Need-same-length
 same_length c = search rules
 
 returns : tie.Need-returns
-unfolding dateText
+unfolding date_text
 returns c =
     wrote-append (omega arith)
     (wrote-append (omega arith)

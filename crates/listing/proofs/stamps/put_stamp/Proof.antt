@@ -1,6 +1,6 @@
 -- The word, or the time.
 use mathlib.Core.Path.{ap, sym}
-use Rattle.listing.specs.Stamps.{shownText}
+use Rattle.listing.specs.Stamps.{shown_text}
 use Rattle.listing.proofs.EmitLaws.{wrote_as}
 use borrow.Author.Rules.{rules}
 use Rattle.listing.proofs.stamps.put_stamp.Statement.{statement}
@@ -26,14 +26,14 @@ same_length c = search rules
 
 returns : tie.Need-returns
 returns c =
-    wrote_as (ap shownText (sym c.before.before.before.before.before.enum_told.given.1)) c.before.before.put.ensures
+    wrote_as (ap shown_text (sym c.before.before.before.before.before.enum_told.given.1)) c.before.before.put.ensures
 
 same-length-2 : tie.Need-same-length-2
 same-length-2 c = search rules
 
 returns-2 : tie.Need-returns-2
 returns-2 c =
-    wrote_as (ap shownText (sym c.before.before.before.before.before.changed.given.1)) c.before.before.put-time.ensures
+    wrote_as (ap shown_text (sym c.before.before.before.before.before.changed.given.1)) c.before.before.put-time.ensures
 
 pub put-stamp-spec : {M : Type 1} → statement M
 put-stamp-spec =

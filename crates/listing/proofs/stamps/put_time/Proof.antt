@@ -1,6 +1,6 @@
 -- The date, and the parts of the clock one after the other.
 use native.Mathlib.Omega.{arith}
-use Rattle.listing.specs.Text.{timeText}
+use Rattle.listing.specs.Text.{time_text}
 use Rattle.listing.proofs.EmitLaws.{wrote-append}
 use borrow.Author.Rules.{rules}
 use Rattle.listing.proofs.stamps.put_time.Statement.{statement}
@@ -31,7 +31,7 @@ same_length : tie.Need-same-length
 same_length c = search rules
 
 returns : tie.Need-returns
-unfolding timeText
+unfolding time_text
 returns c =
     wrote-append (omega arith)
     (wrote-append (omega arith)

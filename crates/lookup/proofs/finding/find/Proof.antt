@@ -1,8 +1,8 @@
 -- The answer of `stand`, asked for the entry.
 use mathlib.Core.Path.{◌∙◌}
-use Rattle.layout.specs.Mended.{mendedOf}
-use Rattle.model.specs.Entry.{entryOf}
-use Rattle.lookup.specs.Find.{foundEntry}
+use Rattle.layout.specs.Mended.{mended_of}
+use Rattle.model.specs.Entry.{entry_of}
+use Rattle.lookup.specs.Find.{found_entry}
 use Rattle.lookup.proofs.AnswerLaws.{find_at, find-refused}
 use Rattle.lookup.proofs.AskLaws.{ask-at, ask-refused}
 use Rattle.lookup.proofs.MendedLaws.{reports}
@@ -30,16 +30,16 @@ returns c =
     let way = c.before.before.before.before in
     let a = way.before.before.before.before.before.args in
     let refusal = c.before.before.standing.given.0.0 in
-    let answer = find-refused _ refusal _ (ask-refused (λ geometry. foundEntry) a.format _ a.image.now a.path.now way.stand.result way.stand.ensures.0 refusal c.before.before.standing.given.1) c.no-entry.ensures in
-    (answer, reports _ (λ e. tt) (mendedOf a.format a.image.now) a.mended.now answer.refusal)
+    let answer = find-refused _ refusal _ (ask-refused (λ geometry. found_entry) a.format _ a.image.now a.path.now way.stand.result way.stand.ensures.0 refusal c.before.before.standing.given.1) c.no-entry.ensures in
+    (answer, reports _ (λ e. tt) (mended_of a.format a.image.now) a.mended.now answer.refusal)
 
 returns-2 : tie.Need-returns-2
 returns-2 c =
     let way = c.before.before.before.before.before in
     let a = way.before.before.before.before.before.args in
     let at = c.before.before.before.enum_told.given in
-    let answer = find_at _ _ _ (entryOf way.stand.result.page) _ (ask-at (λ geometry. foundEntry) a.format _ a.image.now a.path.now way.stand.result way.stand.ensures.0 at.0.0 at.0.1.0 at.0.1.1.0 at.1) c.entry_of.ensures in
-    (answer, way.stand.ensures.1.1.1.0 ∙ reports _ (λ e. tt) (mendedOf a.format a.image.now) a.mended.now answer.refusal)
+    let answer = find_at _ _ _ (entry_of way.stand.result.page) _ (ask-at (λ geometry. found_entry) a.format _ a.image.now a.path.now way.stand.result way.stand.ensures.0 at.0.0 at.0.1.0 at.0.1.1.0 at.1) c.entry_of.ensures in
+    (answer, way.stand.ensures.1.1.1.0 ∙ reports _ (λ e. tt) (mended_of a.format a.image.now) a.mended.now answer.refusal)
 
 pub find_spec : {M : Type 1} → statement M
 find_spec =

@@ -2,11 +2,11 @@
 use mathlib.Core.Path.{◌∙◌, sym}
 use Prim.Native.Nat.{ℕ}
 use native.Mathlib.Omega.{arith}
-use Rattle.model.specs.View.{mostClusters}
+use Rattle.model.specs.View.{most_clusters}
 use lib.ListN.{length, length-replicate}
-use Rattle.layout.specs.See.{onImage}
-use Rattle.lookup.specs.Mended.{readMended}
-use Rattle.lookup.specs.Read.{readFrom}
+use Rattle.layout.specs.See.{on_image}
+use Rattle.lookup.specs.Mended.{read_mended}
+use Rattle.lookup.specs.Read.{read_from}
 use Rattle.lookup.proofs.CardLaws.{read-unopened}
 use Rattle.lookup.proofs.AskLaws.{ask-refused, fits-at, read-so, room-length, stood-at}
 use Rattle.lookup.proofs.ReadCounts.{read-reports, read-there}
@@ -27,7 +27,7 @@ enum-known-standing-2 c = search rules
 slice-aggregate-read-words : tie.Need-slice-aggregate-read-words
 slice-aggregate-read-words c =
     let way = c.before.before.before.before.before in
-    sym (room-length c.before.before.before.before.before.before.before.before.before.before.before.args.format c.before.before.before.before.before.before.before.before.before.before.before.args.image.now _ _ way.stand.ensures.1.0 (length-replicate {A = ℕ} mostClusters 0))
+    sym (room-length c.before.before.before.before.before.before.before.before.before.before.before.args.format c.before.before.before.before.before.before.before.before.before.before.before.args.image.now _ _ way.stand.ensures.1.0 (length-replicate {A = ℕ} most_clusters 0))
 
 cast-read-words : tie.Need-overflow-cast-read-words
 cast-read-words c = search rules
@@ -35,7 +35,7 @@ cast-read-words c = search rules
 read-words-requires : tie.Need-read-words-requires
 read-words-requires c κs =
     let way = c.before.before.before.before.before.before.before.before in
-    omega (arith, room-length c.before.before.before.before.before.before.before.before.before.before.before.before.before.before.args.format c.before.before.before.before.before.before.before.before.before.before.before.before.before.before.args.image.now _ _ way.stand.ensures.1.0 (length-replicate {A = ℕ} mostClusters 0), fits-at way.stand.result.standing c.before.before.before.before.before.before.standing2.given.0.0 c.before.before.before.before.before.before.standing2.given.0.1.0 c.before.before.before.before.before.before.standing2.given.0.1.1.0 way.stand.ensures.1.1.0 c.before.before.before.before.before.before.standing2.given.1)
+    omega (arith, room-length c.before.before.before.before.before.before.before.before.before.before.before.before.before.before.args.format c.before.before.before.before.before.before.before.before.before.before.before.before.before.before.args.image.now _ _ way.stand.ensures.1.0 (length-replicate {A = ℕ} most_clusters 0), fits-at way.stand.result.standing c.before.before.before.before.before.before.standing2.given.0.0 c.before.before.before.before.before.before.standing2.given.0.1.0 c.before.before.before.before.before.before.standing2.given.0.1.1.0 way.stand.ensures.1.1.0 c.before.before.before.before.before.before.standing2.given.1)
 
 settled-requires : tie.Need-settled-requires
 settled-requires c κs = search rules
@@ -49,8 +49,8 @@ returns c =
     let a = way.before.before.before.before.before.before.args in
     let refusal = c.before.standing.given.0.0 in
     let room = length a.out.now in
-    let answer = read-unopened _ refusal a.out.now (read-so a.format a.image.now a.path.now a.from room ∙ ask-refused (λ geometry h t. onImage geometry (readFrom a.from room h t)) a.format _ a.image.now a.path.now way.stand.result way.stand.ensures.0 refusal c.before.standing.given.1) in
-    (answer, reports _ length (readMended a.format a.image.now a.path.now a.from room) a.mended.now answer.count)
+    let answer = read-unopened _ refusal a.out.now (read-so a.format a.image.now a.path.now a.from room ∙ ask-refused (λ geometry h t. on_image geometry (read_from a.from room h t)) a.format _ a.image.now a.path.now way.stand.result way.stand.ensures.0 refusal c.before.standing.given.1) in
+    (answer, reports _ length (read_mended a.format a.image.now a.path.now a.from room) a.mended.now answer.count)
 
 same_length : tie.Need-same-length
 same_length c = search rules

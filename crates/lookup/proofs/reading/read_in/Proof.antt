@@ -4,12 +4,12 @@ use Prim.Native.Nat.{◌%◌, ◌-◌, ◌<◌, ℕ}
 use native.Mathlib.Omega.{arith}
 use lib.ListN.{length}
 use Rattle.page.proofs.Mending.{mended-most}
-use Rattle.layout.specs.See.{viewBy}
+use Rattle.layout.specs.See.{view_by}
 use Rattle.layout.specs.declared.Refusal.TheVariants.{BadOffset, WrongKind}
-use Rattle.model.specs.Entry.{entryOf}
-use Rattle.tree.specs.Mended.{mendedPage}
+use Rattle.model.specs.Entry.{entry_of}
+use Rattle.tree.specs.Mended.{mended_page}
 use Rattle.tree.proofs.ScanLaws.{within}
-use Rattle.lookup.specs.Descend.{pagesFor}
+use Rattle.lookup.specs.Descend.{pages_for}
 use Rattle.tree.proofs.PageReads.{view-sized}
 use Rattle.lookup.proofs.ReadLaws.{read-beyond, read-directory, read-refused}
 use Rattle.lookup.proofs.ReadSteps.{copy-ready, counted-bytes, counted_none, least-within, tells-bytes, tells_none, tells-unreadable}
@@ -25,7 +25,7 @@ is-directory-requires c κs = search rules
 
 returns : tie.Need-returns
 returns c =
-    (λ h s x. read-refused c.before.before.before.before.before.args.geometry _ 10 0 WrongKind _ _ (read-directory (viewBy c.before.before.before.before.before.args.geometry c.before.before.before.before.before.args.table.now c.before.before.before.before.before.args.image.now) c.before.before.before.before.before.args.table.now (λ a. refl) c.before.before.before.before.before.args.first c.before.before.before.before.before.args.from (length c.before.before.before.before.before.args.out.now) (entryOf c.before.before.before.before.before.args.page.now) h s x (sym c.before.is-directory.ensures ∙ c.if1.true)) refl refl, λ h s x. tt)
+    (λ h s x. read-refused c.before.before.before.before.before.args.geometry _ 10 0 WrongKind _ _ (read-directory (view_by c.before.before.before.before.before.args.geometry c.before.before.before.before.before.args.table.now c.before.before.before.before.before.args.image.now) c.before.before.before.before.before.args.table.now (λ a. refl) c.before.before.before.before.before.args.first c.before.before.before.before.before.args.from (length c.before.before.before.before.before.args.out.now) (entry_of c.before.before.before.before.before.args.page.now) h s x (sym c.before.is-directory.ensures ∙ c.if1.true)) refl refl, λ h s x. tt)
 
 word-at-requires : tie.Need-word-at-requires
 word-at-requires c κs = search rules
@@ -35,7 +35,7 @@ cast-size c = search rules
 
 returns-2 : tie.Need-returns-2
 returns-2 c =
-    (λ h s x. read-refused c.before.before.before.before.before.before.before.args.geometry _ 15 0 BadOffset _ _ (read-beyond (viewBy c.before.before.before.before.before.before.before.args.geometry c.before.before.before.before.before.before.before.args.table.now c.before.before.before.before.before.before.before.args.image.now) c.before.before.before.before.before.before.before.args.table.now (λ a. refl) c.before.before.before.before.before.before.before.args.first c.before.before.before.before.before.before.before.args.from (length c.before.before.before.before.before.before.before.args.out.now) (entryOf c.before.before.before.before.before.before.before.args.page.now) h s x (sym c.before.before.before.is-directory.ensures ∙ c.before.before.if1.false) (omega (arith, c.before.word_at.ensures, c.if2.true))) refl refl, λ h s x. tt)
+    (λ h s x. read-refused c.before.before.before.before.before.before.before.args.geometry _ 15 0 BadOffset _ _ (read-beyond (view_by c.before.before.before.before.before.before.before.args.geometry c.before.before.before.before.before.before.before.args.table.now c.before.before.before.before.before.before.before.args.image.now) c.before.before.before.before.before.before.before.args.table.now (λ a. refl) c.before.before.before.before.before.before.before.args.first c.before.before.before.before.before.before.before.args.from (length c.before.before.before.before.before.before.before.args.out.now) (entry_of c.before.before.before.before.before.before.before.args.page.now) h s x (sym c.before.before.before.is-directory.ensures ∙ c.before.before.if1.false) (omega (arith, c.before.word_at.ensures, c.if2.true))) refl refl, λ h s x. tt)
 
 least-requires : tie.Need-least-requires
 least-requires c κs = search rules
@@ -44,8 +44,8 @@ returns-3 : tie.Need-returns-3
 returns-3 c =
     let a = c.before.before.before.before.before.before.before.before.before.args in
     let file = sym c.before.before.before.before.before.is-directory.ensures ∙ c.before.before.before.before.if1.false in (
-      λ h s x. tells_none (viewBy a.geometry a.table.now a.image.now) a.table.now (λ z. refl) (view-sized _ _ _) a.geometry a.first a.from (length a.out.now) c.before.before.before.word_at.result c.before.least.result (entryOf a.page.now) c.before.before.before.word_at.ensures c.before.least.ensures h s x file (omega (arith, c.before.before.if2.false)) c.if3.true _,
-      λ h s x. counted_none (viewBy a.geometry a.table.now a.image.now) a.table.now (λ z. refl) (view-sized _ _ _) a.geometry a.first a.from (length a.out.now) c.before.before.before.word_at.result c.before.least.result (entryOf a.page.now) c.before.before.before.word_at.ensures c.before.least.ensures (mendedPage a.geometry a.image.now) h s x file (omega (arith, c.before.before.if2.false)) c.if3.true _,
+      λ h s x. tells_none (view_by a.geometry a.table.now a.image.now) a.table.now (λ z. refl) (view-sized _ _ _) a.geometry a.first a.from (length a.out.now) c.before.before.before.word_at.result c.before.least.result (entry_of a.page.now) c.before.before.before.word_at.ensures c.before.least.ensures h s x file (omega (arith, c.before.before.if2.false)) c.if3.true _,
+      λ h s x. counted_none (view_by a.geometry a.table.now a.image.now) a.table.now (λ z. refl) (view-sized _ _ _) a.geometry a.first a.from (length a.out.now) c.before.before.before.word_at.result c.before.least.result (entry_of a.page.now) c.before.before.before.word_at.ensures c.before.least.ensures (mended_page a.geometry a.image.now) h s x file (omega (arith, c.before.before.if2.false)) c.if3.true _,
     )
 
 cast-low : tie.Need-overflow-cast-low
@@ -85,7 +85,7 @@ copy-pages-requires c κs =
       omega arith,
       within-file.0,
       omega (arith, within-file.1, c.before.before.before.before.before.before.before.before.if2.false),
-      copy-ready (viewBy a.geometry a.table.now a.image.now) a.table.now (λ z. refl) (view-sized _ _ _) a.geometry a.first a.from (length a.out.now) c.before.before.before.before.before.before.before.before.before.word_at.result c.before.before.before.before.before.before.before.least.result (entryOf a.page.now) c.before.before.before.before.before.before.before.before.before.word_at.ensures c.before.before.before.before.before.before.before.least.ensures _ c.before.before.before.before.before.cluster-at.ensures _ c.before.before.before.before.first-unreadable.ensures.0 c.before.before.enum_told.given.1,
+      copy-ready (view_by a.geometry a.table.now a.image.now) a.table.now (λ z. refl) (view-sized _ _ _) a.geometry a.first a.from (length a.out.now) c.before.before.before.before.before.before.before.before.before.word_at.result c.before.before.before.before.before.before.before.least.result (entry_of a.page.now) c.before.before.before.before.before.before.before.before.before.word_at.ensures c.before.before.before.before.before.before.before.least.ensures _ c.before.before.before.before.before.cluster-at.ensures _ c.before.before.before.before.first-unreadable.ensures.0 c.before.before.enum_told.given.1,
       positive _ c.before.before.before.before.before.before.if3.false,
     )
 
@@ -93,7 +93,7 @@ returns-4 : tie.Need-returns-4
 returns-4 c =
     let known = c.before.before.before.before.before.before.before.before.before.before.before.before.before.before.before.well-formed in
     let a = c.before.before.before.before.before.before.before.before.before.before.before.before.before.before.before.args in (
-      λ h s x. tells-unreadable (viewBy a.geometry a.table.now a.image.now) a.table.now (λ z. refl) (view-sized _ _ _) a.geometry a.first a.from (length a.out.now) c.before.before.before.before.before.before.before.before.before.word_at.result c.before.before.before.before.before.before.before.least.result (entryOf a.page.now) c.before.before.before.before.before.before.before.before.before.word_at.ensures c.before.before.before.before.before.before.before.least.ensures _ c.before.before.before.before.before.cluster-at.ensures _ c.before.before.before.before.first-unreadable.ensures.0 h s x (sym c.before.before.before.before.before.before.before.before.before.before.before.is-directory.ensures ∙ c.before.before.before.before.before.before.before.before.before.before.if1.false) (omega (arith, c.before.before.before.before.before.before.before.before.if2.false)) c.before.before.before.before.before.before.if3.false _ _ _ c.before.before.bad.given.1 (omega (arith, c.image-page.ensures, (within _ _ _ _ c.before.before.before.before.first-unreadable.ensures.1 c.before.before.bad.given.1).0)) _,
+      λ h s x. tells-unreadable (view_by a.geometry a.table.now a.image.now) a.table.now (λ z. refl) (view-sized _ _ _) a.geometry a.first a.from (length a.out.now) c.before.before.before.before.before.before.before.before.before.word_at.result c.before.before.before.before.before.before.before.least.result (entry_of a.page.now) c.before.before.before.before.before.before.before.before.before.word_at.ensures c.before.before.before.before.before.before.before.least.ensures _ c.before.before.before.before.before.cluster-at.ensures _ c.before.before.before.before.first-unreadable.ensures.0 h s x (sym c.before.before.before.before.before.before.before.before.before.before.before.is-directory.ensures ∙ c.before.before.before.before.before.before.before.before.before.before.if1.false) (omega (arith, c.before.before.before.before.before.before.before.before.if2.false)) c.before.before.before.before.before.before.if3.false _ _ _ c.before.before.bad.given.1 (omega (arith, c.image-page.ensures, (within _ _ _ _ c.before.before.before.before.first-unreadable.ensures.1 c.before.before.bad.given.1).0)) _,
       λ h s x. tt,
     )
 
@@ -105,9 +105,9 @@ returns-5 c =
     let a = c.before.before.before.before.before.before.before.before.before.before.before.before.before.before.before.before.before.before.args in
     let file = sym c.before.before.before.before.before.before.before.before.before.before.before.before.before.before.is-directory.ensures ∙ c.before.before.before.before.before.before.before.before.before.before.before.before.before.if1.false in
     let within-file = least-within c.before.before.before.before.before.before.before.before.before.before.least.result (length a.out.now) (c.before.before.before.before.before.before.before.before.before.before.before.before.word_at.result - a.from) c.before.before.before.before.before.before.before.before.before.before.least.ensures in
-    let few : pagesFor (a.from % 512) c.before.before.before.before.before.before.before.before.before.before.least.result < 4294967296 = omega (arith, within-file.1, c.before.before.before.before.before.before.before.before.before.before.before.if2.false) in (
-      λ h s x. tells-bytes (viewBy a.geometry a.table.now a.image.now) a.table.now (λ z. refl) (view-sized _ _ _) a.geometry a.first a.from (length a.out.now) c.before.before.before.before.before.before.before.before.before.before.before.before.word_at.result c.before.before.before.before.before.before.before.before.before.before.least.result (entryOf a.page.now) c.before.before.before.before.before.before.before.before.before.before.before.before.word_at.ensures c.before.before.before.before.before.before.before.before.before.before.least.ensures _ c.before.before.before.before.before.before.before.before.cluster-at.ensures _ c.before.before.before.before.before.before.before.first-unreadable.ensures.0 h s x file (omega (arith, c.before.before.before.before.before.before.before.before.before.before.before.if2.false)) c.before.before.before.before.before.before.before.before.before.if3.false c.before.before.before.before.before.enum_told.given.1 _ _ refl c.before.before.copy-pages.ensures.0,
-      λ h s x. counted-bytes (viewBy a.geometry a.table.now a.image.now) a.table.now (λ z. refl) (view-sized _ _ _) a.geometry a.first a.from (length a.out.now) c.before.before.before.before.before.before.before.before.before.before.before.before.word_at.result c.before.before.before.before.before.before.before.before.before.before.least.result (entryOf a.page.now) c.before.before.before.before.before.before.before.before.before.before.before.before.word_at.ensures c.before.before.before.before.before.before.before.before.before.before.least.ensures _ c.before.before.before.before.before.before.before.before.cluster-at.ensures _ c.before.before.before.before.before.before.before.first-unreadable.ensures.0 h s x file (omega (arith, c.before.before.before.before.before.before.before.before.before.before.before.if2.false)) c.before.before.before.before.before.before.before.before.before.if3.false (mendedPage a.geometry a.image.now) (λ p. mended-most a.geometry.format a.image.now _) _ _ few c.before.before.copy-pages.ensures.1,
+    let few : pages_for (a.from % 512) c.before.before.before.before.before.before.before.before.before.before.least.result < 4294967296 = omega (arith, within-file.1, c.before.before.before.before.before.before.before.before.before.before.before.if2.false) in (
+      λ h s x. tells-bytes (view_by a.geometry a.table.now a.image.now) a.table.now (λ z. refl) (view-sized _ _ _) a.geometry a.first a.from (length a.out.now) c.before.before.before.before.before.before.before.before.before.before.before.before.word_at.result c.before.before.before.before.before.before.before.before.before.before.least.result (entry_of a.page.now) c.before.before.before.before.before.before.before.before.before.before.before.before.word_at.ensures c.before.before.before.before.before.before.before.before.before.before.least.ensures _ c.before.before.before.before.before.before.before.before.cluster-at.ensures _ c.before.before.before.before.before.before.before.first-unreadable.ensures.0 h s x file (omega (arith, c.before.before.before.before.before.before.before.before.before.before.before.if2.false)) c.before.before.before.before.before.before.before.before.before.if3.false c.before.before.before.before.before.enum_told.given.1 _ _ refl c.before.before.copy-pages.ensures.0,
+      λ h s x. counted-bytes (view_by a.geometry a.table.now a.image.now) a.table.now (λ z. refl) (view-sized _ _ _) a.geometry a.first a.from (length a.out.now) c.before.before.before.before.before.before.before.before.before.before.before.before.word_at.result c.before.before.before.before.before.before.before.before.before.before.least.result (entry_of a.page.now) c.before.before.before.before.before.before.before.before.before.before.before.before.word_at.ensures c.before.before.before.before.before.before.before.before.before.before.least.ensures _ c.before.before.before.before.before.before.before.before.cluster-at.ensures _ c.before.before.before.before.before.before.before.first-unreadable.ensures.0 h s x file (omega (arith, c.before.before.before.before.before.before.before.before.before.before.before.if2.false)) c.before.before.before.before.before.before.before.before.before.if3.false (mended_page a.geometry a.image.now) (λ p. mended-most a.geometry.format a.image.now _) _ _ few c.before.before.copy-pages.ensures.1,
     )
 
 pub read-in-spec : {M : Type 1} → statement M

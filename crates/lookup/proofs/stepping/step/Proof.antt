@@ -1,13 +1,13 @@
 -- The answer of `stand`, asked for a step.
-use Rattle.model.specs.Entry.{entryOf}
+use Rattle.model.specs.Entry.{entry_of}
 use mathlib.Core.Path.{◌∙◌, sym}
-use Rattle.layout.specs.Mended.{mendedOf}
-use Rattle.lookup.specs.Answers.{slotIn}
+use Rattle.layout.specs.Mended.{mended_of}
+use Rattle.lookup.specs.Answers.{slot_in}
 use Prim.Native.Nat.{ℕ}
 use native.Mathlib.Omega.{arith}
-use Rattle.model.specs.View.{mostClusters}
+use Rattle.model.specs.View.{most_clusters}
 use lib.ListN.{length-replicate}
-use Rattle.lookup.specs.Step.{stepFrom}
+use Rattle.lookup.specs.Step.{step_from}
 use Rattle.lookup.proofs.MendedLaws.{reports}
 use Rattle.lookup.proofs.StepLaws.{step-at, step-refused}
 use Rattle.lookup.proofs.AskLaws.{ask-at, ask-refused, fits-at, room-length}
@@ -30,7 +30,7 @@ enum-known-standing-2 c = search rules
 slice-aggregate-step-words : tie.Need-slice-aggregate-step-words
 slice-aggregate-step-words c =
     let way = c.before.before.before.before.before in
-    sym (room-length c.before.before.before.before.before.before.before.before.before.before.args.format c.before.before.before.before.before.before.before.before.before.before.args.image.now _ _ way.stand.ensures.1.0 (length-replicate {A = ℕ} mostClusters 0))
+    sym (room-length c.before.before.before.before.before.before.before.before.before.before.args.format c.before.before.before.before.before.before.before.before.before.before.args.image.now _ _ way.stand.ensures.1.0 (length-replicate {A = ℕ} most_clusters 0))
 
 cast-step-words : tie.Need-overflow-cast-step-words
 cast-step-words c = search rules
@@ -38,7 +38,7 @@ cast-step-words c = search rules
 step-words-requires : tie.Need-step-words-requires
 step-words-requires c κs =
     let way = c.before.before.before.before.before.before in
-    omega (arith, room-length c.before.before.before.before.before.before.before.before.before.before.before.args.format c.before.before.before.before.before.before.before.before.before.before.before.args.image.now _ _ way.stand.ensures.1.0 (length-replicate {A = ℕ} mostClusters 0), fits-at way.stand.result.standing c.before.before.before.before.standing2.given.0.0 c.before.before.before.before.standing2.given.0.1.0 c.before.before.before.before.standing2.given.0.1.1.0 way.stand.ensures.1.1.0 c.before.before.before.before.standing2.given.1)
+    omega (arith, room-length c.before.before.before.before.before.before.before.before.before.before.before.args.format c.before.before.before.before.before.before.before.before.before.before.before.args.image.now _ _ way.stand.ensures.1.0 (length-replicate {A = ℕ} most_clusters 0), fits-at way.stand.result.standing c.before.before.before.before.standing2.given.0.0 c.before.before.before.before.standing2.given.0.1.0 c.before.before.before.before.standing2.given.0.1.1.0 way.stand.ensures.1.1.0 c.before.before.before.before.standing2.given.1)
 
 report-step-requires : tie.Need-report-step-requires
 report-step-requires c κs = search rules
@@ -48,16 +48,16 @@ returns c =
     let way = c.before.before.before.before in
     let a = way.before.before.before.before.before.args in
     let refusal = c.before.before.standing.given.0.0 in
-    let answer = step-refused _ refusal _ (ask-refused (λ geometry. stepFrom a.slot) a.format _ a.image.now a.path.now way.stand.result way.stand.ensures.0 refusal c.before.before.standing.given.1) c.no-entry.ensures in
-    (answer, reports _ slotIn (mendedOf a.format a.image.now) a.mended.now answer.slot)
+    let answer = step-refused _ refusal _ (ask-refused (λ geometry. step_from a.slot) a.format _ a.image.now a.path.now way.stand.result way.stand.ensures.0 refusal c.before.before.standing.given.1) c.no-entry.ensures in
+    (answer, reports _ slot_in (mended_of a.format a.image.now) a.mended.now answer.slot)
 
 returns-2 : tie.Need-returns-2
 returns-2 c =
     let way = c.before.before.before.before.before.before.before.before.before in
     let a = way.before.before.before.before.before.args in
     let at = c.before.before.before.before.before.before.before.standing2.given in
-    let answer = step-at a.slot _ _ _ (entryOf way.stand.result.page) _ (ask-at (λ geometry. stepFrom a.slot) a.format _ a.image.now a.path.now way.stand.result way.stand.ensures.0 at.0.0 at.0.1.0 at.0.1.1.0 at.1) c.before.before.step_words.ensures in
-    (answer, rw way.stand.ensures.1.1.1.0 at c.report-step.ensures ∙ reports _ slotIn (mendedOf a.format a.image.now) a.mended.now answer.slot)
+    let answer = step-at a.slot _ _ _ (entry_of way.stand.result.page) _ (ask-at (λ geometry. step_from a.slot) a.format _ a.image.now a.path.now way.stand.result way.stand.ensures.0 at.0.0 at.0.1.0 at.0.1.1.0 at.1) c.before.before.step_words.ensures in
+    (answer, rw way.stand.ensures.1.1.1.0 at c.report-step.ensures ∙ reports _ slot_in (mended_of a.format a.image.now) a.mended.now answer.slot)
 
 pub step_spec : {M : Type 1} → statement M
 step_spec =

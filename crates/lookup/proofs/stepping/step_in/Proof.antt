@@ -2,10 +2,10 @@
 use mathlib.Core.Path.{◌∙◌, refl, sym}
 use native.Mathlib.Omega.{arith}
 use borrow.Author.Tests.{not-false, not-true}
-use Rattle.layout.specs.See.{viewBy}
+use Rattle.layout.specs.See.{view_by}
 use Rattle.layout.specs.declared.Refusal.TheVariants.{WrongKind}
 use Rattle.model.proofs.Equality.{tf}
-use Rattle.model.specs.Entry.{entryOf}
+use Rattle.model.specs.Entry.{entry_of}
 use Rattle.tree.proofs.ScanLaws.{within}
 use Rattle.tree.proofs.PageReads.{readable}
 use Rattle.lookup.proofs.StepLaws.{live-as, step_end, step-file, step-readable, step-refused, step-slot}
@@ -22,7 +22,7 @@ no-entry-requires c κs = search rules
 
 returns : tie.Need-returns
 returns c =
-    λ h s x. step-refused _ WrongKind _ (step-file (viewBy c.before.before.before.before.before.args.geometry c.before.before.before.before.before.args.table.now c.before.before.before.before.before.args.image.now) c.before.before.before.before.before.args.table.now (λ a. refl) c.before.before.before.before.before.args.first c.before.before.before.before.before.args.slot (entryOf c.before.before.before.before.before.args.page.now) h s x (sym c.before.before.is-directory.ensures ∙ not-true _ c.before.if1.true)) c.no-entry.ensures
+    λ h s x. step-refused _ WrongKind _ (step-file (view_by c.before.before.before.before.before.args.geometry c.before.before.before.before.before.args.table.now c.before.before.before.before.before.args.image.now) c.before.before.before.before.before.args.table.now (λ a. refl) c.before.before.before.before.before.args.first c.before.before.before.before.before.args.slot (entry_of c.before.before.before.before.before.args.page.now) h s x (sym c.before.before.is-directory.ensures ∙ not-true _ c.before.if1.true)) c.no-entry.ensures
 
 next-of-requires : tie.Need-next-of-requires
 next-of-requires c κs = search rules
@@ -56,7 +56,7 @@ no-entry-requires-3 c κs = search rules
 
 returns-2 : tie.Need-returns-2
 returns-2 c =
-    λ h s x. absurd (let f = step-readable (viewBy c.before.before.before.before.before.before.before.before.before.before.before.before.before.before.before.before.args.geometry c.before.before.before.before.before.before.before.before.before.before.before.before.before.before.before.before.args.table.now c.before.before.before.before.before.before.before.before.before.before.before.before.before.before.before.before.args.image.now) c.before.before.before.before.before.before.before.before.before.before.before.before.before.before.before.before.args.table.now (λ a. refl) c.before.before.before.before.before.before.before.before.before.before.before.before.before.before.before.before.args.first c.before.before.before.before.before.before.before.before.before.before.before.before.before.before.before.before.args.slot (entryOf c.before.before.before.before.before.before.before.before.before.before.before.before.before.before.before.before.args.page.now) h s x (sym c.before.before.before.before.before.before.before.before.before.before.before.before.before.is-directory.ensures ∙ not-false _ c.before.before.before.before.before.before.before.before.before.before.before.before.if1.false) _ _ (live-as (viewBy c.before.before.before.before.before.before.before.before.before.before.before.before.before.before.before.before.args.geometry c.before.before.before.before.before.before.before.before.before.before.before.before.before.before.before.before.args.table.now c.before.before.before.before.before.before.before.before.before.before.before.before.before.before.before.before.args.image.now) c.before.before.before.before.before.before.before.before.before.before.before.before.before.before.before.before.args.table.now c.before.before.before.before.before.before.before.before.before.before.before.before.before.before.before.before.args.first c.before.before.before.before.before.before.before.before.before.before.before.before.before.before.before.before.args.slot (entryOf c.before.before.before.before.before.before.before.before.before.before.before.before.before.before.before.before.args.page.now).length _ _ _ _ c.before.before.before.before.before.before.before.before.before.before.before.next_of.ensures c.before.before.before.before.before.before.before.before.before.slots-of.ensures c.before.before.before.before.before.before.before.before.before.before.word_at.ensures c.before.before.before.before.before.before.before.before.slots-of2.ensures c.before.before.before.before.before.before.before.first_live.ensures.0 ∙ c.before.before.before.before.before.found.given.1) in tf (readable c.before.before.read-slot.ensures f.1) (not-true _ c.before.if2.true))
+    λ h s x. absurd (let f = step-readable (view_by c.before.before.before.before.before.before.before.before.before.before.before.before.before.before.before.before.args.geometry c.before.before.before.before.before.before.before.before.before.before.before.before.before.before.before.before.args.table.now c.before.before.before.before.before.before.before.before.before.before.before.before.before.before.before.before.args.image.now) c.before.before.before.before.before.before.before.before.before.before.before.before.before.before.before.before.args.table.now (λ a. refl) c.before.before.before.before.before.before.before.before.before.before.before.before.before.before.before.before.args.first c.before.before.before.before.before.before.before.before.before.before.before.before.before.before.before.before.args.slot (entry_of c.before.before.before.before.before.before.before.before.before.before.before.before.before.before.before.before.args.page.now) h s x (sym c.before.before.before.before.before.before.before.before.before.before.before.before.before.is-directory.ensures ∙ not-false _ c.before.before.before.before.before.before.before.before.before.before.before.before.if1.false) _ _ (live-as (view_by c.before.before.before.before.before.before.before.before.before.before.before.before.before.before.before.before.args.geometry c.before.before.before.before.before.before.before.before.before.before.before.before.before.before.before.before.args.table.now c.before.before.before.before.before.before.before.before.before.before.before.before.before.before.before.before.args.image.now) c.before.before.before.before.before.before.before.before.before.before.before.before.before.before.before.before.args.table.now c.before.before.before.before.before.before.before.before.before.before.before.before.before.before.before.before.args.first c.before.before.before.before.before.before.before.before.before.before.before.before.before.before.before.before.args.slot (entry_of c.before.before.before.before.before.before.before.before.before.before.before.before.before.before.before.before.args.page.now).length _ _ _ _ c.before.before.before.before.before.before.before.before.before.before.before.next_of.ensures c.before.before.before.before.before.before.before.before.before.slots-of.ensures c.before.before.before.before.before.before.before.before.before.before.word_at.ensures c.before.before.before.before.before.before.before.before.slots-of2.ensures c.before.before.before.before.before.before.before.first_live.ensures.0 ∙ c.before.before.before.before.before.found.given.1) in tf (readable c.before.before.read-slot.ensures f.1) (not-true _ c.before.if2.true))
 
 add-t29 : tie.Need-overflow-add-t29
 add-t29 c =
@@ -67,11 +67,11 @@ entry-of-requires c κs = search rules
 
 returns-3 : tie.Need-returns-3
 returns-3 c =
-    λ h s x. step_end (viewBy c.before.before.before.before.before.before.before.before.before.before.before.before.args.geometry c.before.before.before.before.before.before.before.before.before.before.before.before.args.table.now c.before.before.before.before.before.before.before.before.before.before.before.before.args.image.now) c.before.before.before.before.before.before.before.before.before.before.before.before.args.table.now (λ a. refl) c.before.before.before.before.before.before.before.before.before.before.before.before.args.first c.before.before.before.before.before.before.before.before.before.before.before.before.args.slot (entryOf c.before.before.before.before.before.before.before.before.before.before.before.before.args.page.now) h s x (sym c.before.before.before.before.before.before.before.before.before.is-directory.ensures ∙ not-false _ c.before.before.before.before.before.before.before.before.if1.false) _ (live-as (viewBy c.before.before.before.before.before.before.before.before.before.before.before.before.args.geometry c.before.before.before.before.before.before.before.before.before.before.before.before.args.table.now c.before.before.before.before.before.before.before.before.before.before.before.before.args.image.now) c.before.before.before.before.before.before.before.before.before.before.before.before.args.table.now c.before.before.before.before.before.before.before.before.before.before.before.before.args.first c.before.before.before.before.before.before.before.before.before.before.before.before.args.slot (entryOf c.before.before.before.before.before.before.before.before.before.before.before.before.args.page.now).length _ _ _ _ c.before.before.before.before.before.before.before.next_of.ensures c.before.before.before.before.before.slots-of.ensures c.before.before.before.before.before.before.word_at.ensures c.before.before.before.before.slots-of2.ensures c.before.before.before.first_live.ensures.0 ∙ c.before.enum_told.given.1) c.no-entry2.ensures
+    λ h s x. step_end (view_by c.before.before.before.before.before.before.before.before.before.before.before.before.args.geometry c.before.before.before.before.before.before.before.before.before.before.before.before.args.table.now c.before.before.before.before.before.before.before.before.before.before.before.before.args.image.now) c.before.before.before.before.before.before.before.before.before.before.before.before.args.table.now (λ a. refl) c.before.before.before.before.before.before.before.before.before.before.before.before.args.first c.before.before.before.before.before.before.before.before.before.before.before.before.args.slot (entry_of c.before.before.before.before.before.before.before.before.before.before.before.before.args.page.now) h s x (sym c.before.before.before.before.before.before.before.before.before.is-directory.ensures ∙ not-false _ c.before.before.before.before.before.before.before.before.if1.false) _ (live-as (view_by c.before.before.before.before.before.before.before.before.before.before.before.before.args.geometry c.before.before.before.before.before.before.before.before.before.before.before.before.args.table.now c.before.before.before.before.before.before.before.before.before.before.before.before.args.image.now) c.before.before.before.before.before.before.before.before.before.before.before.before.args.table.now c.before.before.before.before.before.before.before.before.before.before.before.before.args.first c.before.before.before.before.before.before.before.before.before.before.before.before.args.slot (entry_of c.before.before.before.before.before.before.before.before.before.before.before.before.args.page.now).length _ _ _ _ c.before.before.before.before.before.before.before.next_of.ensures c.before.before.before.before.before.slots-of.ensures c.before.before.before.before.before.before.word_at.ensures c.before.before.before.before.slots-of2.ensures c.before.before.before.first_live.ensures.0 ∙ c.before.enum_told.given.1) c.no-entry2.ensures
 
 returns-4 : tie.Need-returns-4
 returns-4 c =
-    λ h s x. step-slot (viewBy c.before.before.before.before.before.before.before.before.before.before.before.before.before.before.before.before.before.args.geometry c.before.before.before.before.before.before.before.before.before.before.before.before.before.before.before.before.before.args.table.now c.before.before.before.before.before.before.before.before.before.before.before.before.before.before.before.before.before.args.image.now) c.before.before.before.before.before.before.before.before.before.before.before.before.before.before.before.before.before.args.table.now (λ a. refl) c.before.before.before.before.before.before.before.before.before.before.before.before.before.before.before.before.before.args.first c.before.before.before.before.before.before.before.before.before.before.before.before.before.before.before.before.before.args.slot (entryOf c.before.before.before.before.before.before.before.before.before.before.before.before.before.before.before.before.before.args.page.now) h s x (sym c.before.before.before.before.before.before.before.before.before.before.before.before.before.before.is-directory.ensures ∙ not-false _ c.before.before.before.before.before.before.before.before.before.before.before.before.before.if1.false) _ _ (live-as (viewBy c.before.before.before.before.before.before.before.before.before.before.before.before.before.before.before.before.before.args.geometry c.before.before.before.before.before.before.before.before.before.before.before.before.before.before.before.before.before.args.table.now c.before.before.before.before.before.before.before.before.before.before.before.before.before.before.before.before.before.args.image.now) c.before.before.before.before.before.before.before.before.before.before.before.before.before.before.before.before.before.args.table.now c.before.before.before.before.before.before.before.before.before.before.before.before.before.before.before.before.before.args.first c.before.before.before.before.before.before.before.before.before.before.before.before.before.before.before.before.before.args.slot (entryOf c.before.before.before.before.before.before.before.before.before.before.before.before.before.before.before.before.before.args.page.now).length _ _ _ _ c.before.before.before.before.before.before.before.before.before.before.before.before.next_of.ensures c.before.before.before.before.before.before.before.before.before.before.slots-of.ensures c.before.before.before.before.before.before.before.before.before.before.before.word_at.ensures c.before.before.before.before.before.before.before.before.before.slots-of2.ensures c.before.before.before.before.before.before.before.before.first_live.ensures.0 ∙ c.before.before.before.before.before.before.found.given.1) _ _ (was_read c.before.before.before.read-slot.ensures (not-false _ c.before.before.if2.false)) c.entry_of.ensures
+    λ h s x. step-slot (view_by c.before.before.before.before.before.before.before.before.before.before.before.before.before.before.before.before.before.args.geometry c.before.before.before.before.before.before.before.before.before.before.before.before.before.before.before.before.before.args.table.now c.before.before.before.before.before.before.before.before.before.before.before.before.before.before.before.before.before.args.image.now) c.before.before.before.before.before.before.before.before.before.before.before.before.before.before.before.before.before.args.table.now (λ a. refl) c.before.before.before.before.before.before.before.before.before.before.before.before.before.before.before.before.before.args.first c.before.before.before.before.before.before.before.before.before.before.before.before.before.before.before.before.before.args.slot (entry_of c.before.before.before.before.before.before.before.before.before.before.before.before.before.before.before.before.before.args.page.now) h s x (sym c.before.before.before.before.before.before.before.before.before.before.before.before.before.before.is-directory.ensures ∙ not-false _ c.before.before.before.before.before.before.before.before.before.before.before.before.before.if1.false) _ _ (live-as (view_by c.before.before.before.before.before.before.before.before.before.before.before.before.before.before.before.before.before.args.geometry c.before.before.before.before.before.before.before.before.before.before.before.before.before.before.before.before.before.args.table.now c.before.before.before.before.before.before.before.before.before.before.before.before.before.before.before.before.before.args.image.now) c.before.before.before.before.before.before.before.before.before.before.before.before.before.before.before.before.before.args.table.now c.before.before.before.before.before.before.before.before.before.before.before.before.before.before.before.before.before.args.first c.before.before.before.before.before.before.before.before.before.before.before.before.before.before.before.before.before.args.slot (entry_of c.before.before.before.before.before.before.before.before.before.before.before.before.before.before.before.before.before.args.page.now).length _ _ _ _ c.before.before.before.before.before.before.before.before.before.before.before.before.next_of.ensures c.before.before.before.before.before.before.before.before.before.before.slots-of.ensures c.before.before.before.before.before.before.before.before.before.before.before.word_at.ensures c.before.before.before.before.before.before.before.before.before.slots-of2.ensures c.before.before.before.before.before.before.before.before.first_live.ensures.0 ∙ c.before.before.before.before.before.before.found.given.1) _ _ (was_read c.before.before.before.read-slot.ensures (not-false _ c.before.before.if2.false)) c.entry_of.ensures
 
 pub step-in-spec : {M : Type 1} → statement M
 step-in-spec =

@@ -2,7 +2,7 @@
 use mathlib.Core.Path.{◌∙◌, sym}
 use borrow.Author.Rules.{rules}
 use borrow.Author.Tests.{not-false, not-true}
-use Rattle.layout.specs.See.{viewBy}
+use Rattle.layout.specs.See.{view_by}
 use Rattle.lookup.proofs.EnterSteps.{entered-absent, entered-kind, entered-read, entered-unread}
 use Rattle.lookup.proofs.way.enter.Statement.{statement}
 use Rattle.lookup.proofs.way.enter.Tie as tie
@@ -13,7 +13,7 @@ is-directory-requires c κs = search rules
 returns : tie.Need-returns
 returns c =
     let a = c.before.before.before.before.before.args in
-    entered-kind (viewBy a.geometry a.table.now a.image.now) a.table.now a.name.now a.first a.page.now (sym c.before.is-directory.ensures ∙ not-true _ c.if1.true)
+    entered-kind (view_by a.geometry a.table.now a.image.now) a.table.now a.name.now a.first a.page.now (sym c.before.is-directory.ensures ∙ not-true _ c.if1.true)
 
 next-of-requires : tie.Need-next-of-requires
 next-of-requires c κs = search rules
@@ -39,7 +39,7 @@ read-slot-requires c κs = search rules
 returns-2 : tie.Need-returns-2
 returns-2 c =
     let a = c.before.before.before.before.before.before.before.before.before.before.before.before.before.before.before.args in
-    entered-unread (viewBy a.geometry a.table.now a.image.now) a.table.now a.name.now a.first a.page.now (sym c.before.before.before.before.before.before.before.before.before.before.before.is-directory.ensures ∙ not-false _ c.before.before.before.before.before.before.before.before.before.before.if1.false) _ _ _ _ c.before.before.before.before.before.before.before.before.before.next_of.ensures c.before.before.before.before.before.before.before.slots-of.ensures c.before.before.before.before.before.before.before.before.word_at.ensures c.before.before.before.before.before.before.find-name.ensures.0 _ _ c.before.before.before.before.place.given.1 _ _ c.before.read-slot.ensures (not-true _ c.if2.true)
+    entered-unread (view_by a.geometry a.table.now a.image.now) a.table.now a.name.now a.first a.page.now (sym c.before.before.before.before.before.before.before.before.before.before.before.is-directory.ensures ∙ not-false _ c.before.before.before.before.before.before.before.before.before.before.if1.false) _ _ _ _ c.before.before.before.before.before.before.before.before.before.next_of.ensures c.before.before.before.before.before.before.before.slots-of.ensures c.before.before.before.before.before.before.before.before.word_at.ensures c.before.before.before.before.before.before.find-name.ensures.0 _ _ c.before.before.before.before.place.given.1 _ _ c.before.read-slot.ensures (not-true _ c.if2.true)
 
 word-at-requires-2 : tie.Need-word-at-requires-2
 word-at-requires-2 c κs = search rules
@@ -47,12 +47,12 @@ word-at-requires-2 c κs = search rules
 returns-3 : tie.Need-returns-3
 returns-3 c =
     let a = c.before.before.before.before.before.before.before.before.before.before.before.args in
-    entered-absent (viewBy a.geometry a.table.now a.image.now) a.table.now a.name.now a.first a.page.now (sym c.before.before.before.before.before.before.before.is-directory.ensures ∙ not-false _ c.before.before.before.before.before.before.if1.false) _ _ _ _ c.before.before.before.before.before.next_of.ensures c.before.before.before.slots-of.ensures c.before.before.before.before.word_at.ensures c.before.before.find-name.ensures.0 c.enum_told.given.1
+    entered-absent (view_by a.geometry a.table.now a.image.now) a.table.now a.name.now a.first a.page.now (sym c.before.before.before.before.before.before.before.is-directory.ensures ∙ not-false _ c.before.before.before.before.before.before.if1.false) _ _ _ _ c.before.before.before.before.before.next_of.ensures c.before.before.before.slots-of.ensures c.before.before.before.before.word_at.ensures c.before.before.find-name.ensures.0 c.enum_told.given.1
 
 returns-4 : tie.Need-returns-4
 returns-4 c =
     let a = c.before.before.before.before.before.before.before.before.before.before.before.before.before.before.before.before.before.args in
-    entered-read (viewBy a.geometry a.table.now a.image.now) a.table.now a.name.now a.first a.page.now (sym c.before.before.before.before.before.before.before.before.before.before.before.before.before.is-directory.ensures ∙ not-false _ c.before.before.before.before.before.before.before.before.before.before.before.before.if1.false) _ _ _ _ c.before.before.before.before.before.before.before.before.before.before.before.next_of.ensures c.before.before.before.before.before.before.before.before.before.slots-of.ensures c.before.before.before.before.before.before.before.before.before.before.word_at.ensures c.before.before.before.before.before.before.before.before.find-name.ensures.0 _ _ c.before.before.before.before.before.before.place.given.1 _ _ c.before.before.before.read-slot.ensures _ (not-false _ c.before.before.if2.false) c.word-at2.ensures
+    entered-read (view_by a.geometry a.table.now a.image.now) a.table.now a.name.now a.first a.page.now (sym c.before.before.before.before.before.before.before.before.before.before.before.before.before.is-directory.ensures ∙ not-false _ c.before.before.before.before.before.before.before.before.before.before.before.before.if1.false) _ _ _ _ c.before.before.before.before.before.before.before.before.before.before.before.next_of.ensures c.before.before.before.before.before.before.before.before.before.slots-of.ensures c.before.before.before.before.before.before.before.before.before.before.word_at.ensures c.before.before.before.before.before.before.before.before.find-name.ensures.0 _ _ c.before.before.before.before.before.before.place.given.1 _ _ c.before.before.before.read-slot.ensures _ (not-false _ c.before.before.if2.false) c.word-at2.ensures
 
 pub enter_spec : {M : Type 1} → statement M
 enter_spec =

@@ -2,7 +2,7 @@
 use Rattle.std.proofs.Common.{◌≡◌, ℕ, List, [], ◌++◌, length, refl, ap, ◌∙◌, append-nil, arith, drop_of_length-le, rules}
 use Rattle.ecc.specs.declared.Verdict.{Verdict}
 use Rattle.ecc.specs.Judge.{corrected}
-use Rattle.page.specs.Page.{put_at, chunk_of, correctedData}
+use Rattle.page.specs.Page.{put_at, chunk_of, corrected_data}
 use Rattle.page.proofs.Lists.{put_four}
 use Rattle.page.proofs.Coded.{length-chunk}
 use Rattle.page.proofs.raw.copy_data.Statement.{statement}
@@ -11,8 +11,8 @@ use Rattle.page.proofs.raw.copy_data.Tie as tie
 copied_all : (page out o1 o2 o3 o4 : List ℕ) (v0 v1 v2 v3 : Verdict) → length page ≡ 528 → length out ≡ 512
     → o1 ≡ put_at out 0 (corrected v0 (chunk_of page 0)) → o2 ≡ put_at o1 128 (corrected v1 (chunk_of page 1))
     → o3 ≡ put_at o2 256 (corrected v2 (chunk_of page 2)) → o4 ≡ put_at o3 384 (corrected v3 (chunk_of page 3))
-    → o4 ≡ correctedData page v0 v1 v2 v3
-unfolding correctedData
+    → o4 ≡ corrected_data page v0 v1 v2 v3
+unfolding corrected_data
 copied_all page out o1 o2 o3 o4 v0 v1 v2 v3 h ho e0 e1 e2 e3 =
     let c0 = corrected v0 (chunk_of page 0) in
     let c1 = corrected v1 (chunk_of page 1) in

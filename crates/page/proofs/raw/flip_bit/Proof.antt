@@ -1,4 +1,4 @@
--- The shifted one is the power of two that `flipAt` names, since it fits a byte.
+-- The shifted one is the power of two that `flip_at` names, since it fits a byte.
 use Rattle.std.proofs.Common.{◌≡◌, ℕ, ◌*◌, ◌%◌, ◌^◌, ◌<◌, get_or, set, ap, ◌∙◌, mod-eq_of_lt, one-mul, arith, rules}
 use lib.Bits.{bit_xor}
 use Rattle.page.proofs.Chunks.{bit_byte}

@@ -3,8 +3,8 @@ use Rattle.std.proofs.Common.{◌≡◌, ℕ, Bool, true, false, cond, ◌&&◌,
 use mathlib.Core.Option.{none, some}
 use Rattle.ecc.specs.declared.FourVerdicts.{FourVerdicts}
 use Rattle.page.specs.declared.Mended.{Mended}
-use Rattle.page.specs.Mended.{mendedBy, mendedRaw, noneMended}
-use Rattle.page.specs.Page.{verdictsOf, isReadable, is_some, readRaw}
+use Rattle.page.specs.Mended.{mended_by, mended_raw, none_mended}
+use Rattle.page.specs.Page.{verdicts_of, is_readable, is_some, read_raw}
 use Rattle.page.proofs.Chunks.{judged-four}
 use Rattle.page.proofs.raw.judge_raw.Statement.{statement}
 use Rattle.page.proofs.raw.judge_raw.Tie as tie
@@ -13,20 +13,20 @@ some-so : (b : Bool) (x : List ℕ) → b ≡ is_some (cond b (some x) none)
 some-so true x = refl
 some-so false x = refl
 
-readable-by : (page : List ℕ) (v : FourVerdicts) {r0 r1 r2 r3 b : Bool} → v ≡ verdictsOf page
-    → r0 ≡ isReadable v.chunk0 → r1 ≡ isReadable v.chunk1 → r2 ≡ isReadable v.chunk2 → r3 ≡ isReadable v.chunk3 → (r0 && (r1 && (r2 && r3))) ≡ b
-    → b ≡ is_some (readRaw page)
-unfolding readRaw
+readable-by : (page : List ℕ) (v : FourVerdicts) {r0 r1 r2 r3 b : Bool} → v ≡ verdicts_of page
+    → r0 ≡ is_readable v.chunk0 → r1 ≡ is_readable v.chunk1 → r2 ≡ is_readable v.chunk2 → r3 ≡ is_readable v.chunk3 → (r0 && (r1 && (r2 && r3))) ≡ b
+    → b ≡ is_some (read_raw page)
+unfolding read_raw
 readable-by page v e f0 f1 f2 f3 g = sym g ∙ rw (f0, f1, f2, f3, e) (some-so _ _)
 
 -- the chunks that were corrected, where the page is readable and where it is not
-mended-some : (page : List ℕ) (v : FourVerdicts) {m : Mended} → v ≡ verdictsOf page → true ≡ is_some (readRaw page)
-    → m ≡ mendedBy v.chunk0 v.chunk1 v.chunk2 v.chunk3 → m ≡ mendedRaw page
-unfolding mendedRaw
+mended-some : (page : List ℕ) (v : FourVerdicts) {m : Mended} → v ≡ verdicts_of page → true ≡ is_some (read_raw page)
+    → m ≡ mended_by v.chunk0 v.chunk1 v.chunk2 v.chunk3 → m ≡ mended_raw page
+unfolding mended_raw
 mended-some page v e f g = rw (← f) (rw e at g)
 
-mended-none : (page : List ℕ) {m : Mended} → false ≡ is_some (readRaw page) → m ≡ noneMended → m ≡ mendedRaw page
-unfolding mendedRaw
+mended-none : (page : List ℕ) {m : Mended} → false ≡ is_some (read_raw page) → m ≡ none_mended → m ≡ mended_raw page
+unfolding mended_raw
 mended-none page f g = rw (← f) g
 
 sub-judge-four : tie.Need-overflow-sub-judge-four

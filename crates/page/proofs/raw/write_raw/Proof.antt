@@ -1,20 +1,20 @@
 -- The data and four codes put side by side leave only spare bytes 12 to 15 of the old page.
 use Rattle.std.proofs.Common.{◌≡◌, ℕ, List, ◌++◌, length, take, drop, sym, refl, ap, ◌∙◌, arith, length-drop, take_all, rules}
-use Rattle.page.specs.Page.{put_at, freshCode, codedPage}
+use Rattle.page.specs.Page.{put_at, fresh_code, coded_page}
 use Rattle.page.proofs.Lists.{put_first, put_four}
 use Rattle.page.proofs.raw.write_raw.Statement.{statement}
 use Rattle.page.proofs.raw.write_raw.Tie as tie
 
 coded-all : (page bytes l0 l1 l2 l3 l4 : List ℕ) → length page ≡ 528 → length bytes ≡ 512
     → l0 ≡ take (length bytes) bytes ++ drop (length bytes) page
-    → l1 ≡ put_at l0 512 (freshCode bytes 0) → l2 ≡ put_at l1 515 (freshCode bytes 1)
-    → l3 ≡ put_at l2 518 (freshCode bytes 2) → l4 ≡ put_at l3 521 (freshCode bytes 3)
-    → l4 ≡ codedPage page bytes
-unfolding codedPage freshCode
+    → l1 ≡ put_at l0 512 (fresh_code bytes 0) → l2 ≡ put_at l1 515 (fresh_code bytes 1)
+    → l3 ≡ put_at l2 518 (fresh_code bytes 2) → l4 ≡ put_at l3 521 (fresh_code bytes 3)
+    → l4 ≡ coded_page page bytes
+unfolding coded_page fresh_code
 coded-all page bytes l0 l1 l2 l3 l4 h hb e e0 e1 e2 e3 =
-    put_four page bytes (freshCode bytes 0) (freshCode bytes 1) (freshCode bytes 2) (freshCode bytes 3) l0 l1 l2 l3 l4 512 3 (omega arith) hb refl refl refl refl
+    put_four page bytes (fresh_code bytes 0) (fresh_code bytes 1) (fresh_code bytes 2) (fresh_code bytes 3) l0 l1 l2 l3 l4 512 3 (omega arith) hb refl refl refl refl
     (e ∙ put_first page bytes) e0 e1 e2 e3
-    ∙ ap (λ (t : List ℕ). bytes ++ (freshCode bytes 0 ++ (freshCode bytes 1 ++ (freshCode bytes 2 ++ (freshCode bytes 3 ++ t)))))
+    ∙ ap (λ (t : List ℕ). bytes ++ (fresh_code bytes 0 ++ (fresh_code bytes 1 ++ (fresh_code bytes 2 ++ (fresh_code bytes 3 ++ t)))))
     (sym (take_all 4 (drop 524 page) (omega (arith, length-drop 524 page))))
 
 copy-requires : tie.Need-copy-requires

@@ -1,6 +1,6 @@
 -- What `change::create` answers in the image's format, in numbers; the image is as it left it.
 use mathlib.Core.Path.{refl}
-use Rattle.change.specs.Changed.{changed, pathIn}
+use Rattle.change.specs.Changed.{changed, path_in}
 use Rattle.model.specs.Change as is
 use Rattle.model.specs.Check.{fault}
 use Rattle.ps2card.proofs.FormatLaws.{known_so, unknown-so}
@@ -28,7 +28,7 @@ tell-answer-requires c κs = search rules
 
 returns : tie.Need-returns
 returns c =
-    rw (unknown-so (record { answer = fault 1 0; image = c.before.before.before.before.before.before.before.before.args.image.now }) (λ f. changed f (is.create (pathIn c.before.before.before.before.before.before.before.before.args.path.now) c.before.before.before.before.before.before.before.before.args.time.now c.before.before.before.before.before.before.before.before.args.bytes.now) c.before.before.before.before.before.before.before.before.args.image.now) c.before.before.before.before.before.before.before.before.args.format c.before.before.before.before.format-of.ensures c.before.before.enum_told.given.1) (c.tell-refusal.ensures.0, (c.tell-refusal.ensures.1, refl))
+    rw (unknown-so (record { answer = fault 1 0; image = c.before.before.before.before.before.before.before.before.args.image.now }) (λ f. changed f (is.create (path_in c.before.before.before.before.before.before.before.before.args.path.now) c.before.before.before.before.before.before.before.before.args.time.now c.before.before.before.before.before.before.before.before.args.bytes.now) c.before.before.before.before.before.before.before.before.args.image.now) c.before.before.before.before.before.before.before.before.args.format c.before.before.before.before.format-of.ensures c.before.before.enum_told.given.1) (c.tell-refusal.ensures.0, (c.tell-refusal.ensures.1, refl))
 
 same_length : tie.Need-same-length
 same_length c = search rules
@@ -36,7 +36,7 @@ same_length c = search rules
 returns-2 : tie.Need-returns-2
 returns-2 c =
     let made = c.before.before.before.before.create.ensures in
-    rw (known_so (record { answer = fault 1 0; image = c.before.before.before.before.before.before.before.before.before.before.before.before.before.before.args.image.now }) (λ f. changed f (is.create (pathIn c.before.before.before.before.before.before.before.before.before.before.before.before.before.before.args.path.now) c.before.before.before.before.before.before.before.before.before.before.before.before.before.before.args.time.now c.before.before.before.before.before.before.before.before.before.before.before.before.before.before.args.bytes.now) c.before.before.before.before.before.before.before.before.before.before.before.before.before.before.args.image.now) c.before.before.before.before.before.before.before.before.before.before.before.before.before.before.args.format c.before.before.before.before.before.before.before.before.before.before.format-of.ensures c.before.before.before.before.before.before.before.before.named.given.1, ← made.told) (c.tell-answer.ensures.0, (c.tell-answer.ensures.1, made.left))
+    rw (known_so (record { answer = fault 1 0; image = c.before.before.before.before.before.before.before.before.before.before.before.before.before.before.args.image.now }) (λ f. changed f (is.create (path_in c.before.before.before.before.before.before.before.before.before.before.before.before.before.before.args.path.now) c.before.before.before.before.before.before.before.before.before.before.before.before.before.before.args.time.now c.before.before.before.before.before.before.before.before.before.before.before.before.before.before.args.bytes.now) c.before.before.before.before.before.before.before.before.before.before.before.before.before.before.args.image.now) c.before.before.before.before.before.before.before.before.before.before.before.before.before.before.args.format c.before.before.before.before.before.before.before.before.before.before.format-of.ensures c.before.before.before.before.before.before.before.before.named.given.1, ← made.told) (c.tell-answer.ensures.0, (c.tell-answer.ensures.1, made.left))
 
 pub ps2card-create-spec : {M : Type 1} → statement M
 ps2card-create-spec =

@@ -1,8 +1,8 @@
 -- What the find in the image's format tells, in numbers and fields.
 use mathlib.Core.Path.{◌∙◌, ap, refl, sym}
-use Rattle.layout.specs.Mended.{mendedOf}
-use Rattle.lookup.specs.Answers.{entryOr, toldOutcome}
-use Rattle.lookup.specs.Find.{findOf}
+use Rattle.layout.specs.Mended.{mended_of}
+use Rattle.lookup.specs.Answers.{entry_or, told_outcome}
+use Rattle.lookup.specs.Find.{find_of}
 use Rattle.model.specs.Check.{fault}
 use Rattle.model.specs.Entry.{Entry}
 use Rattle.ps2card.proofs.AnswerLaws.{told-refused, told-value}
@@ -41,22 +41,22 @@ hand-out-requires c κs = search rules
 returns : tie.Need-returns
 returns c =
     let a = c.before.before.before.before.before.before.before.args in
-    rw (unknown-so (fault 1 0) (λ f. findOf f a.image.now a.path.now) a.format c.before.before.before.before.format-of.ensures c.before.before.enum_told.given.1) (c.tell-refusal.ensures.0, (c.tell-refusal.ensures.1, (refl, (refl, (refl, (refl, (refl, (refl, (refl, (refl, refl))))))))))
+    rw (unknown-so (fault 1 0) (λ f. find_of f a.image.now a.path.now) a.format c.before.before.before.before.format-of.ensures c.before.before.enum_told.given.1) (c.tell-refusal.ensures.0, (c.tell-refusal.ensures.1, (refl, (refl, (refl, (refl, (refl, (refl, (refl, (refl, refl))))))))))
 
 returns-2 : tie.Need-returns-2
 returns-2 c =
     let a = c.before.before.before.before.before.before.before.before.before.before.before.before.before.args in
-    let refused = told-refused (λ (d : Entry). tt) (sym (ap toldOutcome c.before.before.before.outcome.given.1) ∙ c.before.before.before.before.before.find.ensures.0.refusal) in
-    rw (known_so (fault 1 0) (λ f. findOf f a.image.now a.path.now) a.format c.before.before.before.before.before.before.before.before.before.before.format-of.ensures c.before.before.before.before.before.before.before.before.named.given.1 ∙ refused)
+    let refused = told-refused (λ (d : Entry). tt) (sym (ap told_outcome c.before.before.before.outcome.given.1) ∙ c.before.before.before.before.before.find.ensures.0.refusal) in
+    rw (known_so (fault 1 0) (λ f. find_of f a.image.now a.path.now) a.format c.before.before.before.before.before.before.before.before.before.before.format-of.ensures c.before.before.before.before.before.before.before.before.named.given.1 ∙ refused)
     (c.tell-refusal2.ensures.0, (c.tell-refusal2.ensures.1, (rw refused at c.before.before.before.before.before.find.ensures.1, (refl, (refl, (refl, (refl, (refl, (refl, (refl, refl))))))))))
 
 returns-3 : tie.Need-returns-3
 returns-3 c =
     let a = c.before.before.before.before.before.before.before.before.before.before.before.before.before.before.before.before.before.before.before.before.args in
-    let e = told-value (λ (d : Entry). tt) (sym (ap toldOutcome c.before.before.before.before.before.before.before.before.before.before.enum-told2.given.1) ∙ c.before.before.before.before.before.before.before.before.before.before.before.before.find.ensures.0.refusal) in
-    let d = c.before.before.before.before.before.before.before.before.before.before.before.before.find.ensures.0.entry ∙ ap entryOr e.1 in
-    let mended = known_so 0 (λ f. mendedOf f a.image.now) a.format c.before.before.before.before.before.before.before.before.before.before.before.before.before.before.before.before.before.format-of.ensures c.before.before.before.before.before.before.before.before.before.before.before.before.before.before.before.named.given.1 in
-    rw (known_so (fault 1 0) (λ f. findOf f a.image.now a.path.now) a.format c.before.before.before.before.before.before.before.before.before.before.before.before.before.before.before.before.before.format-of.ensures c.before.before.before.before.before.before.before.before.before.before.before.before.before.before.before.named.given.1 ∙ e.1)
+    let e = told-value (λ (d : Entry). tt) (sym (ap told_outcome c.before.before.before.before.before.before.before.before.before.before.enum-told2.given.1) ∙ c.before.before.before.before.before.before.before.before.before.before.before.before.find.ensures.0.refusal) in
+    let d = c.before.before.before.before.before.before.before.before.before.before.before.before.find.ensures.0.entry ∙ ap entry_or e.1 in
+    let mended = known_so 0 (λ f. mended_of f a.image.now) a.format c.before.before.before.before.before.before.before.before.before.before.before.before.before.before.before.before.before.format-of.ensures c.before.before.before.before.before.before.before.before.before.before.before.before.before.before.before.named.given.1 in
+    rw (known_so (fault 1 0) (λ f. find_of f a.image.now a.path.now) a.format c.before.before.before.before.before.before.before.before.before.before.before.before.before.before.before.before.before.format-of.ensures c.before.before.before.before.before.before.before.before.before.before.before.before.before.before.before.named.given.1 ∙ e.1)
     (refl, (refl, (rw e.1 at c.before.before.before.before.before.before.before.before.before.before.before.before.find.ensures.1 ∙ sym mended, rw d at c.hand-out.ensures)))
 
 pub ps2card-find-spec : {M : Type 1} → statement M

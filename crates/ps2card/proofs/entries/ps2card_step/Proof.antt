@@ -1,7 +1,7 @@
 -- What the step in the image's format tells, in numbers and fields.
 use mathlib.Core.Path.{◌∙◌, ap, refl, sym}
-use Rattle.layout.specs.Mended.{mendedOf}
-use Rattle.lookup.specs.Answers.{slotIn, steppedEntry, toldStep}
+use Rattle.layout.specs.Mended.{mended_of}
+use Rattle.lookup.specs.Answers.{slot_in, stepped_entry, told_step}
 use Rattle.lookup.specs.Step.{step_of}
 use Rattle.model.specs.Check.{fault}
 use Rattle.ps2card.proofs.AnswerLaws.{told-end, told-refused, told-slot}
@@ -48,24 +48,24 @@ returns c =
 returns-2 : tie.Need-returns-2
 returns-2 c =
     let a = c.before.before.before.before.before.before.before.before.before.before.before.before.before.args in
-    let refused = told-refused slotIn (sym (ap toldStep c.before.before.before.place.given.1) ∙ c.before.before.before.before.before.step.ensures.0.slot) in
+    let refused = told-refused slot_in (sym (ap told_step c.before.before.before.place.given.1) ∙ c.before.before.before.before.before.step.ensures.0.slot) in
     rw (known_so (fault 1 0) (λ f. step_of f a.image.now a.path.now a.slot) a.format c.before.before.before.before.before.before.before.before.before.before.format-of.ensures c.before.before.before.before.before.before.before.before.named.given.1 ∙ refused)
     (c.tell-refusal2.ensures.0, (c.tell-refusal2.ensures.1, (rw refused at c.before.before.before.before.before.step.ensures.1, (refl, (refl, (refl, (refl, (refl, (refl, (refl, (refl, (refl, refl))))))))))))
 
 returns-3 : tie.Need-returns-3
 returns-3 c =
     let a = c.before.before.before.before.before.before.before.before.before.before.args in
-    let ended = told-end (sym (ap toldStep c.enum-told2.given.1) ∙ c.before.before.step.ensures.0.slot) in
-    let mended = known_so 0 (λ f. mendedOf f a.image.now) a.format c.before.before.before.before.before.before.before.format-of.ensures c.before.before.before.before.before.named.given.1 in
+    let ended = told-end (sym (ap told_step c.enum-told2.given.1) ∙ c.before.before.step.ensures.0.slot) in
+    let mended = known_so 0 (λ f. mended_of f a.image.now) a.format c.before.before.before.before.before.before.before.format-of.ensures c.before.before.before.before.before.named.given.1 in
     rw (known_so (fault 1 0) (λ f. step_of f a.image.now a.path.now a.slot) a.format c.before.before.before.before.before.before.before.format-of.ensures c.before.before.before.before.before.named.given.1 ∙ ended)
     (refl, (refl, (rw ended at c.before.before.step.ensures.1 ∙ sym mended, (refl, (refl, (refl, (refl, (refl, (refl, (refl, (refl, (refl, refl))))))))))))
 
 returns-4 : tie.Need-returns-4
 returns-4 c =
     let a = c.before.before.before.before.before.before.before.before.before.before.before.before.before.before.before.before.before.before.before.before.before.args in
-    let e = told-slot (sym (ap toldStep c.before.before.before.before.before.before.before.before.before.before.before.place2.given.1) ∙ c.before.before.before.before.before.before.before.before.before.before.before.before.before.step.ensures.0.slot) in
-    let d = c.before.before.before.before.before.before.before.before.before.before.before.before.before.step.ensures.0.entry ∙ ap steppedEntry e.1 in
-    let mended = known_so 0 (λ f. mendedOf f a.image.now) a.format c.before.before.before.before.before.before.before.before.before.before.before.before.before.before.before.before.before.before.format-of.ensures c.before.before.before.before.before.before.before.before.before.before.before.before.before.before.before.before.named.given.1 in
+    let e = told-slot (sym (ap told_step c.before.before.before.before.before.before.before.before.before.before.before.place2.given.1) ∙ c.before.before.before.before.before.before.before.before.before.before.before.before.before.step.ensures.0.slot) in
+    let d = c.before.before.before.before.before.before.before.before.before.before.before.before.before.step.ensures.0.entry ∙ ap stepped_entry e.1 in
+    let mended = known_so 0 (λ f. mended_of f a.image.now) a.format c.before.before.before.before.before.before.before.before.before.before.before.before.before.before.before.before.before.before.format-of.ensures c.before.before.before.before.before.before.before.before.before.before.before.before.before.before.before.before.named.given.1 in
     rw (known_so (fault 1 0) (λ f. step_of f a.image.now a.path.now a.slot) a.format c.before.before.before.before.before.before.before.before.before.before.before.before.before.before.before.before.before.before.format-of.ensures c.before.before.before.before.before.before.before.before.before.before.before.before.before.before.before.before.named.given.1 ∙ e.1)
     (refl, (refl, (rw e.1 at c.before.before.before.before.before.before.before.before.before.before.before.before.before.step.ensures.1 ∙ sym mended, (refl, (refl, rw d at c.hand-out.ensures)))))
 

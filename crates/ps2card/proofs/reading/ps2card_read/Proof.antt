@@ -1,8 +1,8 @@
 -- What the read in the image's format tells, in numbers; the buffer is as the read left it.
 use mathlib.Core.Path.{◌∙◌, ap, refl, sym}
 use lib.ListN.{length}
-use Rattle.lookup.specs.Answers.{toldRead}
-use Rattle.lookup.specs.Mended.{readMended}
+use Rattle.lookup.specs.Answers.{told_read}
+use Rattle.lookup.specs.Mended.{read_mended}
 use Rattle.lookup.specs.Read.{read_of}
 use Rattle.model.specs.Check.{fault}
 use Rattle.ps2card.proofs.AnswerLaws.{told-refused, told-value}
@@ -46,7 +46,7 @@ same_length c = search rules
 returns-2 : tie.Need-returns-2
 returns-2 c =
     let a = c.before.before.before.before.before.before.before.before.before.before.before.before.before.before.before.before.before.args in
-    let refused = told-refused length (sym (ap toldRead c.before.before.before.refusal.given.1) ∙ c.before.before.before.before.before.before.before.read.ensures.0.count) in
+    let refused = told-refused length (sym (ap told_read c.before.before.before.refusal.given.1) ∙ c.before.before.before.before.before.before.before.read.ensures.0.count) in
     rw (known_so (fault 1 0) (λ f. read_of f a.image.now a.path.now a.offset (length a.out.now)) a.format c.before.before.before.before.before.before.before.before.before.before.before.before.before.format-of.ensures c.before.before.before.before.before.before.before.before.before.before.before.named.given.1 ∙ refused)
     (c.tell-refusal2.ensures.0, (c.tell-refusal2.ensures.1, (refl, (rw refused at c.before.before.before.before.before.before.before.read.ensures.1, rw refused at c.before.before.before.before.before.before.before.read.ensures.0.buffer))))
 
@@ -56,8 +56,8 @@ same-length-2 c = search rules
 returns-3 : tie.Need-returns-3
 returns-3 c =
     let a = c.before.before.before.before.before.before.before.before.before.before.before.before.before.before.before.args in
-    let e = told-value length (sym (ap toldRead c.before.copied.given.1) ∙ c.before.before.before.before.before.read.ensures.0.count) in
-    let mended = known_so 0 (λ f. readMended f a.image.now a.path.now a.offset (length a.out.now)) a.format c.before.before.before.before.before.before.before.before.before.before.before.format-of.ensures c.before.before.before.before.before.before.before.before.before.named.given.1 in
+    let e = told-value length (sym (ap told_read c.before.copied.given.1) ∙ c.before.before.before.before.before.read.ensures.0.count) in
+    let mended = known_so 0 (λ f. read_mended f a.image.now a.path.now a.offset (length a.out.now)) a.format c.before.before.before.before.before.before.before.before.before.before.before.format-of.ensures c.before.before.before.before.before.before.before.before.before.named.given.1 in
     rw (known_so (fault 1 0) (λ f. read_of f a.image.now a.path.now a.offset (length a.out.now)) a.format c.before.before.before.before.before.before.before.before.before.before.before.format-of.ensures c.before.before.before.before.before.before.before.before.before.named.given.1 ∙ e.1)
     (refl, (refl, (e.2, (rw e.1 at c.before.before.before.before.before.read.ensures.1 ∙ sym mended, rw e.1 at c.before.before.before.before.before.read.ensures.0.buffer))))
 

@@ -7,9 +7,9 @@ use native.Mathlib.Omega.{arith}
 use borrow.Author.Rules.{rules}
 use lib.Dec.{ltb}
 use lib.ListN.{length}
-use Rattle.model.specs.Counts.{mayTakeOn, totalBelow}
+use Rattle.model.specs.Counts.{may_take_on, total_below}
 use Rattle.reached.specs.Blocks.{Knows}
-use Rattle.reached.specs.Totals.{freeAt, held_at}
+use Rattle.reached.specs.Totals.{free_at, held_at}
 use Rattle.reached.proofs.CountLaws.{free-test, held_test, total-same, total-step}
 use Rattle.reached.proofs.takeable.count_unused.Statement.{statement}
 use Rattle.reached.proofs.takeable.count_unused.Tie as tie
@@ -17,8 +17,8 @@ use Rattle.reached.proofs.takeable.count_unused.Tie as tie
 abbrev invariant-loop : tie.invariant-loop
 invariant-loop table clusters offset bad limit last₀ free₀ held₀ i₀ last free held i =
     (i ≤ length table)
-    × (free ≡ totalBelow (freeAt (mayTakeOn clusters (length table) offset bad) table) i)
-    × (held ≡ totalBelow (held_at (mayTakeOn clusters (length table) offset bad) table) i)
+    × (free ≡ total_below (free_at (may_take_on clusters (length table) offset bad) table) i)
+    × (held ≡ total_below (held_at (may_take_on clusters (length table) offset bad) table) i)
     × (free ≤ i) × (held ≤ i) × Knows bad last
 
 abbrev decreases-loop : tie.decreases-loop
@@ -73,18 +73,18 @@ loop-again c =
     let t = a.table.now in
     let l = turn.loop in
     let inside : l.i < length t = omega arith in
-    let mayTake = mayTakeOn a.clusters (length t) a.offset a.bad.now in
+    let may_take = may_take_on a.clusters (length t) a.offset a.bad.now in
     let known = looked.at.ensures.1 l.invariant.5 in
-    let may : (ltb l.i limited.take_limit.result && not looked.at.result.listed) ≡ mayTake l.i =
+    let may : (ltb l.i limited.take_limit.result && not looked.at.result.listed) ≡ may_take l.i =
     rw (limited.take_limit.ensures, known, looked.at.ensures.0) in (
       omega arith,
       ⊎_elim
-          (λ w. w.1 ∙ total-step (freeAt mayTake t) l.free 1 l.i l.invariant.1 (free-test t l.i inside mayTake _ may true w.0.taken))
-          (λ w. w.1 ∙ total-same (freeAt mayTake t) l.free l.i l.invariant.1 (free-test t l.i inside mayTake _ may false w.0.left))
+          (λ w. w.1 ∙ total-step (free_at may_take t) l.free 1 l.i l.invariant.1 (free-test t l.i inside may_take _ may true w.0.taken))
+          (λ w. w.1 ∙ total-same (free_at may_take t) l.free l.i l.invariant.1 (free-test t l.i inside may_take _ may false w.0.left))
           free.if1.branch,
       ⊎_elim
-          (λ w. w.1 ∙ total-step (held_at mayTake t) l.held 1 l.i l.invariant.2 (held_test t l.i inside mayTake _ may true w.0.taken))
-          (λ w. w.1 ∙ total-same (held_at mayTake t) l.held l.i l.invariant.2 (held_test t l.i inside mayTake _ may false w.0.left))
+          (λ w. w.1 ∙ total-step (held_at may_take t) l.held 1 l.i l.invariant.2 (held_test t l.i inside may_take _ may true w.0.taken))
+          (λ w. w.1 ∙ total-same (held_at may_take t) l.held l.i l.invariant.2 (held_test t l.i inside may_take _ may false w.0.left))
           c.if2.branch,
       ⊎_elim (λ w. omega (arith, w.1)) (λ w. omega (arith, w.1)) free.if1.branch,
       ⊎_elim (λ w. omega (arith, w.1)) (λ w. omega (arith, w.1)) c.if2.branch,
@@ -96,9 +96,9 @@ returns c =
     let l = c.before.loop in
     let a = c.before.before.before.before.before.before.args in
     let t = a.table.now in
-    let mayTake = mayTakeOn a.clusters (length t) a.offset a.bad.now in
+    let may_take = may_take_on a.clusters (length t) a.offset a.bad.now in
     let all : l.i ≡ length t = omega arith in
-    (l.invariant.1 ∙ ap (totalBelow (freeAt mayTake t)) all, l.invariant.2 ∙ ap (totalBelow (held_at mayTake t)) all)
+    (l.invariant.1 ∙ ap (total_below (free_at may_take t)) all, l.invariant.2 ∙ ap (total_below (held_at may_take t)) all)
 
 pub count-unused-spec : {M : Type 1} → statement M
 count-unused-spec =

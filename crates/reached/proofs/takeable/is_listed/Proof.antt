@@ -5,13 +5,13 @@ use mathlib.Core.Path.{◌≡◌, ◌∙◌, refl, sym}
 use native.Mathlib.Omega.{arith}
 use borrow.Author.Rules.{rules}
 use lib.ListN.{drop, length}
-use Rattle.model.specs.Counts.{isListed}
+use Rattle.model.specs.Counts.{is_listed}
 use Rattle.reached.proofs.ListLaws.{listed-all, listed_more}
 use Rattle.reached.proofs.takeable.is_listed.Statement.{statement}
 use Rattle.reached.proofs.takeable.is_listed.Tie as tie
 
 abbrev invariant-loop : tie.invariant-loop
-invariant-loop bad block listed₀ i₀ listed i = (i ≤ length bad) × (isListed bad block ≡ (listed || isListed (drop i bad) block))
+invariant-loop bad block listed₀ i₀ listed i = (i ≤ length bad) × (is_listed bad block ≡ (listed || is_listed (drop i bad) block))
 
 abbrev decreases-loop : tie.decreases-loop
 decreases-loop bad block listed₀ i₀ listed i = length bad - i

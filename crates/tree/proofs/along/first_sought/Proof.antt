@@ -1,8 +1,8 @@
 -- The loop of `first_sought` keeps that the slots left give the answer of all; `c` is the cluster of slot k.
 use Rattle.std.proofs.Common.{◌≡◌, ◌-◌, ◌^◌, ◌<◌, sym, refl, ◌∙◌, ⊎_elim, arith, rules}
-use Rattle.layout.specs.See.{viewBy}
+use Rattle.layout.specs.See.{view_by}
 use Rattle.tree.specs.Scan.{scan, seeks}
-use Rattle.tree.specs.Slots.{slotPages, clusterAfter}
+use Rattle.tree.specs.Slots.{slot_pages, cluster_after}
 use Rattle.tree.proofs.ScanLaws.{rest, scan-end, scan-here, scan-later}
 use Rattle.tree.proofs.along.first_sought.Statement.{statement}
 use Rattle.tree.proofs.along.first_sought.Tie as tie
@@ -10,7 +10,7 @@ use Rattle.tree.proofs.LookLaws.{step-even, step-odd}
 
 abbrev invariant-loop : tie.invariant-loop
 invariant-loop image table geometry start low high sought name c₀ k₀ c k =
-    (c < 2 ^ 32) × (rest (seeks (viewBy geometry table image) sought name) table c k high ≡ scan (seeks (viewBy geometry table image) sought name) (slotPages table start low (high - low)) low)
+    (c < 2 ^ 32) × (rest (seeks (view_by geometry table image) sought name) table c k high ≡ scan (seeks (view_by geometry table image) sought name) (slot_pages table start low (high - low)) low)
 
 abbrev decreases-loop : tie.decreases-loop
 decreases-loop image table geometry start low high sought name c₀ k₀ c k = high - k
@@ -44,7 +44,7 @@ loop-again : tie.Need-loop-preserved invariant-loop decreases-loop
 loop-again c =
     let t = c.before.before.before.before.before.before.before.before.before.args.table.now in
     let w = c.before.before.before.before.before.loop in
-    let x : c.if2.c ≡ clusterAfter t w.c w.k =
+    let x : c.if2.c ≡ cluster_after t w.c w.k =
     ⊎_elim (λ v. step-odd t w.c w.k _ v.0.taken (v.2 ∙ v.1.ensures)) (λ v. step-even t w.c w.k _ v.0.left v.1) c.if2.branch in (
       ⊎_elim (λ v. omega (arith, v.2, v.1.ensures, c.before.before.before.before.before.before.before.shared-slice-known2.given w.c)) (λ v. omega (arith, v.1)) c.if2.branch,
       scan-later _ _ _ _ _ c.before.before.before.before.loop-test.true _ _ c.before.before.before.slot-page.ensures.0 x (sym c.before.before.is-sought.ensures ∙ c.before.if1.false)

@@ -1,25 +1,25 @@
 -- `tree::names::name_hash` meets its contract: the name by threes, and one turn more.
 use Rattle.std.proofs.Common.{◌≡◌, ℕ, zero, suc, ◌+◌, ◌-◌, ◌*◌, ◌/◌, ◌<◌, ◌≤◌, List, length, drop, sym, refl, ap, ◌∙◌, sub-one, arith}
 use Rattle.tree.specs.declared.names.Hash.{Hash}
-use Rattle.tree.specs.Met.{Small, hashFrom, hashOf, mixed, seedOf, threeOf}
+use Rattle.tree.specs.Met.{Small, hash_from, hash_of, mixed, seed_of, three_of}
 use Rattle.tree.proofs.names.name_hash.Statement.{statement}
 use Rattle.tree.proofs.names.name_hash.Tie as tie
 
 -- one turn more, and the end
-step : (l : List ℕ) (k left : ℕ) (h m : Hash) (x : ℕ) → 0 < left → x ≡ threeOf (drop (3 * k) l) → m ≡ mixed h x → hashFrom l k left h ≡ hashFrom l (k + 1) (left - 1) m
-unfolding hashFrom
+step : (l : List ℕ) (k left : ℕ) (h m : Hash) (x : ℕ) → 0 < left → x ≡ three_of (drop (3 * k) l) → m ≡ mixed h x → hash_from l k left h ≡ hash_from l (k + 1) (left - 1) m
+unfolding hash_from
 step l k left h m x more e f = go left more
   where
-    go : (left : ℕ) → 0 < left → hashFrom l k left h ≡ hashFrom l (k + 1) (left - 1) m
+    go : (left : ℕ) → 0 < left → hash_from l k left h ≡ hash_from l (k + 1) (left - 1) m
     go zero more = absurd (omega arith)
     go (suc left) more = rw (sub-one (suc left), f, e)
 
-done : (l : List ℕ) (k left : ℕ) (h : Hash) → left ≡ 0 → hashFrom l k left h ≡ h
-unfolding hashFrom
+done : (l : List ℕ) (k left : ℕ) (h : Hash) → left ≡ 0 → hash_from l k left h ≡ h
+unfolding hash_from
 done l k left h e = rw e
 
 abbrev invariant-loop : tie.invariant-loop
-invariant-loop first name h₀ turns k₀ h k = (k ≤ turns) × Small h × (hashFrom name k₀ (turns - k₀) h₀ ≡ hashFrom name k (turns - k) h)
+invariant-loop first name h₀ turns k₀ h k = (k ≤ turns) × Small h × (hash_from name k₀ (turns - k₀) h₀ ≡ hash_from name k (turns - k) h)
 
 abbrev decreases-loop : tie.decreases-loop
 decreases-loop first name h₀ turns k₀ h k = turns - k
@@ -51,19 +51,19 @@ loop-again c =
     let s = c.before.before.before.loop in
     let turns = length l / 3 + 1 in
     let less : turns - s.k - 1 ≡ turns - (s.k + 1) = omega arith in
-    (omega arith, c.mix.ensures.1, s.invariant.2 ∙ step l s.k (turns - s.k) s.h c.mix.result c.before.three-at.result (omega arith) c.before.three-at.ensures.0 c.mix.ensures.0 ∙ ap (λ (n : ℕ). hashFrom l (s.k + 1) n c.mix.result) less)
+    (omega arith, c.mix.ensures.1, s.invariant.2 ∙ step l s.k (turns - s.k) s.h c.mix.result c.before.three-at.result (omega arith) c.before.three-at.ensures.0 c.mix.ensures.0 ∙ ap (λ (n : ℕ). hash_from l (s.k + 1) n c.mix.result) less)
 
 mix-requires-2 : tie.Need-mix-requires-2 invariant-loop decreases-loop
 mix-requires-2 c κs = (c.before.loop.invariant.1, omega arith)
 
 returns : tie.Need-returns invariant-loop decreases-loop
-unfolding hashOf
+unfolding hash_of
 returns c =
     let l = c.before.before.before.before.args.name.now in
     let s = c.before.before.loop in
     let turns = length l / 3 + 1 in
     let all : turns ≡ turns - 0 = omega arith in
-    (c.mix2.ensures.0 ∙ ap (λ (h : Hash). mixed h 0) (sym (ap (λ (n : ℕ). hashFrom l 0 n (seedOf c.before.before.before.before.args.first)) all ∙ s.invariant.2 ∙ done l s.k (turns - s.k) s.h (omega arith))), c.mix2.ensures.1)
+    (c.mix2.ensures.0 ∙ ap (λ (h : Hash). mixed h 0) (sym (ap (λ (n : ℕ). hash_from l 0 n (seed_of c.before.before.before.before.args.first)) all ∙ s.invariant.2 ∙ done l s.k (turns - s.k) s.h (omega arith))), c.mix2.ensures.1)
 
 pub name-hash-spec : {M : Type 1} → statement M
 name-hash-spec =

@@ -1,6 +1,6 @@
 -- `tree::slots::judge_slot` meets its contract: a page of the view is the image's page.
 use Rattle.std.proofs.Common.{◌≡◌, sym, ap, ◌∙◌, arith, rules}
-use Rattle.layout.specs.See.{imagePage}
+use Rattle.layout.specs.See.{image_page}
 use Rattle.page.specs.Page.{is_some}
 use Rattle.tree.proofs.PagePlaces.{inside, outside, past}
 use Rattle.tree.proofs.slots.judge_slot.Statement.{statement}
@@ -32,7 +32,7 @@ returns-3 c =
     let start = counted.before.before.before in
     let known = start.well-formed in
     let a = start.args in
-    let at : place.image-page.result ≡ imagePage a.geometry a.page = omega (arith, place.image-page.ensures, counted.page-count.ensures) in
+    let at : place.image-page.result ≡ image_page a.geometry a.page = omega (arith, place.image-page.ensures, counted.page-count.ensures) in
     c.judge-page.ensures.0 ∙ sym (ap is_some (inside a.geometry a.count a.image.now a.page place.image-page.result (omega arith) at))
 
 pub judge-slot-spec : {M : Type 1} → statement M

@@ -1,6 +1,6 @@
 -- `tree::walk::look_by` meets its contract.
 use Rattle.std.proofs.Common.{sym, ap, rules}
-use Rattle.tree.specs.Walk.{lookBy}
+use Rattle.tree.specs.Walk.{look_by}
 use Rattle.tree.proofs.tasks.look_by.Statement.{statement}
 use Rattle.tree.proofs.tasks.look_by.Tie as tie
 
@@ -23,10 +23,10 @@ returns-2 : tie.Need-returns-2
 returns-2 c = search rules
 
 returns-3 : tie.Need-returns-3
-returns-3 c = sym (ap lookBy c.before.kind.given.1)
+returns-3 c = sym (ap look_by c.before.kind.given.1)
 
 returns-4 : tie.Need-returns-4
-returns-4 c = sym (ap lookBy c.before.kind2.given.1)
+returns-4 c = sym (ap look_by c.before.kind2.given.1)
 
 pub look-by-spec : {M : Type 1} → statement M
 look-by-spec =

@@ -1,6 +1,6 @@
 -- `tree::walk::task_of` meets its contract, case by case.
 use Rattle.std.proofs.Common.{◌≡◌, ◌+◌, ◌/◌, ◌%◌, ap, ◌∙◌, arith, rules, eq-eqb, ne_eqb}
-use Rattle.model.specs.Entry.{clustersFor}
+use Rattle.model.specs.Entry.{clusters_for}
 use Rattle.tree.specs.Walk.{task_of}
 use Rattle.tree.proofs.tasks.task_of.Statement.{statement}
 use Rattle.tree.proofs.tasks.task_of.Tie as tie
@@ -69,7 +69,7 @@ returns-5 c = rw c.before.enum-told2.given.1 c.task-by3.ensures
 returns-6 : tie.Need-returns-6
 returns-6 c =
     let len = c.before.before.look2.given.0.0 in
-    let needed : len / 1024 + (len % 1024 + 1023) / 1024 ≡ clustersFor len = omega arith in
+    let needed : len / 1024 + (len % 1024 + 1023) / 1024 ≡ clusters_for len = omega arith in
     rw (c.before.before.look2.given.1, c.if1.false, needed)
 
 -- a directory

@@ -4,15 +4,15 @@
 use Rattle.std.proofs.Common.{◌≡◌, ℕ, ◌+◌, ◌-◌, ◌<◌, ◌≤◌, Bool, true, false, ◌&&◌, ltb, sym, refl, ◌∙◌, inl, inr, ⊎_elim, arith, rules, ltb-false, ltb-true}
 use borrow.Fn.Kinds.{In}
 use borrow.Fn.PlainCycle.{Measures, and, falls, is}
-use Rattle.layout.specs.See.{onImage, viewBy}
+use Rattle.layout.specs.See.{on_image, view_by}
 use Rattle.model.specs.Check.{Marks, Result}
 use Rattle.model.proofs.Equality.{and_l, and_r}
-use Rattle.reached.specs.Marks.{Sound, marksOf}
+use Rattle.reached.specs.Marks.{Sound, marks_of}
 use Rattle.reached.proofs.NearLaws.{near-joined}
-use Rattle.tree.specs.Mended.{mendedPage}
+use Rattle.tree.specs.Mended.{mended_page}
 use Rattle.tree.specs.Met.{Grows, Knows}
-use Rattle.tree.specs.Slots.{clusterAt}
-use Rattle.tree.specs.Walk.{Tells, enteredLook, insideOf}
+use Rattle.tree.specs.Slots.{cluster_at}
+use Rattle.tree.specs.Walk.{Tells, entered_look, inside_of}
 use Rattle.tree.proofs.MetLaws.{grows_self, knows-none, knows_on}
 use Rattle.tree.proofs.ScanLaws.{cluster-start, cluster-step}
 use Rattle.tree.proofs.TaskLaws.{task-chain, task-idle, task-inside}
@@ -80,9 +80,9 @@ calls t = (
 
 abbrev invariant-loop : walk-dir-lts.invariant-loop
 invariant-loop image table geometry cells₀ mended₀ first entries below v₀ start r₀ c₀ k₀ left₀ d₀ cells mended v r c k left d =
-    ((whole : Result (Marks × ℕ)) → Stands (viewBy geometry table image) (mendedPage geometry image) geometry below table start c₀ k₀ left₀ whole v₀ r₀ mended₀
-    → Stands (viewBy geometry table image) (mendedPage geometry image) geometry below table start c k left whole v r mended)
-    × (c ≡ clusterAt table start k) × (k + left ≡ left₀) × Knows (viewBy geometry table image) table first start k cells × Grows cells₀ cells
+    ((whole : Result (Marks × ℕ)) → Stands (view_by geometry table image) (mended_page geometry image) geometry below table start c₀ k₀ left₀ whole v₀ r₀ mended₀
+    → Stands (view_by geometry table image) (mended_page geometry image) geometry below table start c k left whole v r mended)
+    × (c ≡ cluster_at table start k) × (k + left ≡ left₀) × Knows (view_by geometry table image) table first start k cells × Grows cells₀ cells
 
 abbrev decreases-loop : walk-dir-lts.decreases-loop
 decreases-loop image table geometry cells₀ mended₀ first entries below v₀ start r₀ c₀ k₀ left₀ d₀ cells mended v r c k left d = left
@@ -99,7 +99,7 @@ slots-of-requires t c κs = search rules
 loop-holds : (t : ℕ) → walk-dir-lts.Need-loop-init (calls t) (walk-dir-at t) walk-dir.Post invariant-loop decreases-loop
 loop-holds t c =
     let s = c.before.before.before.before.before.before in
-    let v = viewBy s.args.geometry s.args.table.now s.args.image.now in (
+    let v = view_by s.args.geometry s.args.table.now s.args.image.now in (
       λ whole h. h,
       cluster-start _ _,
       omega arith,
@@ -143,12 +143,12 @@ entered t c =
     let started = counted.before in
     let dots = started.before in
     let s = dots.before.before.before.before in
-    let v = viewBy s.args.geometry s.args.table.now s.args.image.now in
-    let mend = mendedPage s.args.geometry s.args.image.now in
+    let v = view_by s.args.geometry s.args.table.now s.args.image.now in
+    let mend = mended_page s.args.geometry s.args.image.now in
     let w = looped.loop in
     let task = tasked.task-of.ensures in
     let sound = sym judged.is-sound.ensures ∙ and_r (ltb 0 w.left) judged.is-sound.result tested.if1.true in
-    let stands = stands-sound v mend s.args.geometry s.args.below s.args.table.now started.next_of.result w.c w.k w.left (onImage s.args.geometry (insideOf v mend s.args.below s.args.table.now s.args.first s.args.entries (marksOf s.args.reached) s.args.mended.now)) w.v w.r w.mended
+    let stands = stands-sound v mend s.args.geometry s.args.below s.args.table.now started.next_of.result w.c w.k w.left (on_image s.args.geometry (inside_of v mend s.args.below s.args.table.now s.args.first s.args.entries (marks_of s.args.reached) s.args.mended.now)) w.v w.r w.mended
     (w.invariant.0 _ (inside-stands v mend s.args.geometry s.args.below s.args.table.now s.args.first s.args.entries s.args.reached s.args.mended.now s.requires.1.1 _ dots.judge-dots.ensures.0 _ dots.judge-dots.ensures.1 started.next_of.result counted.slots-of.result started.next_of.ensures counted.slots-of.ensures)) sound in
     let chain = near-joined s.args.table.now w.r tasked.task-of.result.first tasked.task-of.result.clusters stands.1.at near.walk-near.result near.walk-near.ensures joined.if3.r joined.if3.sound (⊎_elim (λ y. inl (y.1.result, y.0.taken, y.1.ensures, y.3, y.4)) (λ y. inr (y.0.left, y.1, y.2)) joined.if3.branch) in
     let go = task-inside s.args.table.now s.requires.1.0 v mend (λ n. refl) s.args.geometry s.args.below w.r stands.1 0 (record { sound = joined.if3.sound; reached = joined.if3.r }) looked.look_at.result (rw task at near.before.if2.true) (rw task at chain) (rw task at c.before.before.if4.true) in
@@ -162,7 +162,7 @@ walk-dir-requires t c κs =
     let looked = c.before.before.before.before.before.before.before.before.before.before.before in
     let looped = looked.before.before.before.before.before.before in
     let s = looped.before.before.before.before.before.before.before in
-    let v = viewBy s.args.geometry s.args.table.now s.args.image.now in
+    let v = view_by s.args.geometry s.args.table.now s.args.image.now in
     let filled = (knows_on v s.args.table.now s.args.first _ _ _ _ _ _ looped.loop.invariant.4 looked.look_at.ensures.1.0 (grows_self _)).1 in
     (omega (arith, (entered t c).0, s.requires.0), (s.requires.1.0, (entered t c).1, filled.room ∙ s.requires.1.2))
 
@@ -197,8 +197,8 @@ loop-again t c =
     let g = s.args.geometry in
     let tb = s.args.table.now in
     let b = s.args.below in
-    let v = viewBy g tb s.args.image.now in
-    let mend = mendedPage g s.args.image.now in
+    let v = view_by g tb s.args.image.now in
+    let mend = mended_page g s.args.image.now in
     let w = looped.loop in
     let seen = looked.look_at in
     let joined = c.before.if2 in
@@ -207,7 +207,7 @@ loop-again t c =
     let task = c.before.before.task-of.ensures in
     let more = slot-left w.left _ tested.if1.true in
     let sound = sym judged.is-sound.ensures ∙ and_r (ltb 0 w.left) judged.is-sound.result tested.if1.true in
-    let told : Sound w.r → Tells (enteredLook v mend g b tb (marksOf w.r) count seen.result) joined.v joined.r joined.mended =
+    let told : Sound w.r → Tells (entered_look v mend g b tb (marks_of w.r) count seen.result) joined.v joined.r joined.mended =
     λ kept. ⊎_elim
     (λ z.
     let chain = near-joined tb w.r made.first made.clusters kept.at z.1.result z.1.ensures z.4.r z.4.sound (⊎_elim (λ y. inl (y.1.result, y.0.taken, y.1.ensures, y.3, y.4)) (λ y. inr (y.0.left, y.1, y.2)) z.4.came) in
@@ -239,8 +239,8 @@ loop-again t c =
 returns : (t : ℕ) → walk-dir-lts.Need-returns (calls t) (walk-dir-at t) walk-dir.Post invariant-loop decreases-loop
 returns t c =
     let s = c.before.before.before.before.before.before.before.before.before in
-    let v = viewBy s.args.geometry s.args.table.now s.args.image.now in
-    let mend = mendedPage s.args.geometry s.args.image.now in
+    let v = view_by s.args.geometry s.args.table.now s.args.image.now in
+    let mend = mended_page s.args.geometry s.args.image.now in
     let w = c.before.before.loop in (
       stands-end v mend s.args.geometry s.args.below s.args.table.now _ w.c w.k w.left _ w.v w.r w.mended
           (w.invariant.0 _ (inside-stands v mend s.args.geometry s.args.below s.args.table.now s.args.first s.args.entries s.args.reached s.args.mended.now s.requires.1.1 _ c.before.before.before.before.before.judge-dots.ensures.0 _ c.before.before.before.before.before.judge-dots.ensures.1 c.before.before.before.before.next_of.result c.before.before.before.slots-of.result c.before.before.before.before.next_of.ensures c.before.before.before.slots-of.ensures)) (ended w.left _ _ c.if1.false c.before.is-sound.ensures),

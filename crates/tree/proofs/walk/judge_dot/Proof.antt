@@ -1,8 +1,8 @@
 -- `tree::walk::judge_dot` meets its contract: page, then the entry's rule.
-use Rattle.layout.specs.See.{viewBy}
+use Rattle.layout.specs.See.{view_by}
 use Rattle.std.proofs.Common.{arith, rules}
 use borrow.Author.Tests.{not-false, not-true}
-use Rattle.tree.specs.Mended.{mendedPage}
+use Rattle.tree.specs.Mended.{mended_page}
 use Rattle.tree.proofs.LookLaws.{read-adds, unread, was_read}
 use Rattle.tree.proofs.TellLaws.{dot-bad, dot_good, dot-unread}
 use Rattle.tree.proofs.walk.judge_dot.Statement.{statement}
@@ -17,7 +17,7 @@ image-page-requires c κs = search rules
 returns : tie.Need-returns
 returns c =
     let a = c.before.before.before.before.before.before.before.before.args in
-    (dot-unread (viewBy a.geometry a.table.now a.image.now) _ _ _ _ _ (unread c.before.before.read-needed.ensures.0 (not-true _ c.before.if1.true)) (omega (arith, c.image-page.ensures)), tt)
+    (dot-unread (view_by a.geometry a.table.now a.image.now) _ _ _ _ _ (unread c.before.before.read-needed.ensures.0 (not-true _ c.before.if1.true)) (omega (arith, c.image-page.ensures)), tt)
 
 is-directory-requires : tie.Need-is-directory-requires
 is-directory-requires c κs = search rules
@@ -30,14 +30,14 @@ returns-2 c =
     let a = c.before.before.before.before.before.before.before.before.before.before.before.before.args in
     let readable = not-false _ c.before.before.before.before.before.if1.false in
     let read = c.before.before.before.before.before.before.read-needed.ensures.0 in (
-      dot_good (viewBy a.geometry a.table.now a.image.now) _ _ _ _ _ (was_read read readable) _ _ c.before.before.before.is-directory.ensures c.before.is-named.ensures c.if2.true,
-      read-adds (mendedPage a.geometry a.image.now a.page) a.mended.now read readable c.before.before.before.before.before.before.read-needed.ensures.1,
+      dot_good (view_by a.geometry a.table.now a.image.now) _ _ _ _ _ (was_read read readable) _ _ c.before.before.before.is-directory.ensures c.before.is-named.ensures c.if2.true,
+      read-adds (mended_page a.geometry a.image.now a.page) a.mended.now read readable c.before.before.before.before.before.before.read-needed.ensures.1,
     )
 
 returns-3 : tie.Need-returns-3
 returns-3 c =
     let a = c.before.before.before.before.before.before.before.before.before.before.before.before.args in
-    (dot-bad (viewBy a.geometry a.table.now a.image.now) _ _ _ _ _ (was_read c.before.before.before.before.before.before.read-needed.ensures.0 (not-false _ c.before.before.before.before.before.if1.false)) _ _ c.before.before.before.is-directory.ensures c.before.is-named.ensures c.if2.false, tt)
+    (dot-bad (view_by a.geometry a.table.now a.image.now) _ _ _ _ _ (was_read c.before.before.before.before.before.before.read-needed.ensures.0 (not-false _ c.before.before.before.before.before.if1.false)) _ _ c.before.before.before.is-directory.ensures c.before.is-named.ensures c.if2.false, tt)
 
 pub judge-dot-spec : {M : Type 1} → statement M
 judge-dot-spec =

@@ -1,8 +1,8 @@
 -- `tree::walk::walk_root` meets its contract: the root's first entry, its chain, its inside.
 use Rattle.std.proofs.Common.{◌+◌, ◌/◌, ◌%◌, sym, refl, ◌∙◌, arith, rules}
 use borrow.Author.Tests.{not-false, not-true}
-use Rattle.layout.specs.See.{viewBy}
-use Rattle.tree.specs.Mended.{mendedPage}
+use Rattle.layout.specs.See.{view_by}
+use Rattle.tree.specs.Mended.{mended_page}
 use Rattle.tree.proofs.LookLaws.{unread, was_read}
 use Rattle.tree.proofs.RootLaws.{root-bad, root-broken, root-good, root-sound, root-unread}
 use Rattle.tree.proofs.walk.walk_root.Statement.{statement}
@@ -20,7 +20,7 @@ new-requires c κs = search rules
 returns : tie.Need-returns
 returns c =
     let a = c.before.before.before.before.before.before.before.args in
-    root-unread (viewBy a.geometry a.table.now a.image.now) (mendedPage a.geometry a.image.now) a.geometry a.mended.now c.image-page.result _ _ (unread c.before.before.before.read-slot.ensures (not-true _ c.before.before.if1.true)) (omega (arith, c.image-page.ensures))
+    root-unread (view_by a.geometry a.table.now a.image.now) (mended_page a.geometry a.image.now) a.geometry a.mended.now c.image-page.result _ _ (unread c.before.before.before.read-slot.ensures (not-true _ c.before.before.if1.true)) (omega (arith, c.image-page.ensures))
 
 is-root-requires : tie.Need-is-root-requires
 is-root-requires c κs = search rules
@@ -31,7 +31,7 @@ new-requires-2 c κs = search rules
 returns-2 : tie.Need-returns-2
 returns-2 c =
     let a = c.before.before.before.before.before.before.before.before.before.args in
-    root-bad (viewBy a.geometry a.table.now a.image.now) (mendedPage a.geometry a.image.now) a.geometry a.mended.now _ (was_read c.before.before.before.before.before.read-slot.ensures (not-false _ c.before.before.before.before.if1.false)) _ _ (sym c.before.before.is-root.ensures ∙ not-true _ c.before.if2.true)
+    root-bad (view_by a.geometry a.table.now a.image.now) (mended_page a.geometry a.image.now) a.geometry a.mended.now _ (was_read c.before.before.before.before.before.read-slot.ensures (not-false _ c.before.before.before.before.if1.false)) _ _ (sym c.before.before.is-root.ensures ∙ not-true _ c.before.if2.true)
 
 word-at-requires : tie.Need-word-at-requires
 word-at-requires c κs = search rules
@@ -49,21 +49,21 @@ returns-3 : tie.Need-returns-3
 returns-3 c =
     let a = c.before.before.before.before.before.before.before.before.before.before.before.before.before.before.before.args in
     let n = c.before.before.before.before.before.word_at.result in
-    root-broken (viewBy a.geometry a.table.now a.image.now) (mendedPage a.geometry a.image.now) a.geometry a.mended.now _ (was_read c.before.before.before.before.before.before.before.before.before.before.before.read-slot.ensures (not-false _ c.before.before.before.before.before.before.before.before.before.before.if1.false)) (sym c.before.before.before.before.before.before.before.before.is-root.ensures ∙ not-false _ c.before.before.before.before.before.before.before.if2.false) a.table.now c.before.before.before.before.before.before.before.before.before.before.before.before.before.before.before.requires (λ x. refl) (n / 2 + n % 2) (omega (arith, c.before.before.before.before.before.word_at.ensures)) _ c.before.before.before.before.new3.ensures c.before.before.before.walk-chain.result c.before.before.before.walk-chain.ensures _ (not-true _ c.if3.true)
+    root-broken (view_by a.geometry a.table.now a.image.now) (mended_page a.geometry a.image.now) a.geometry a.mended.now _ (was_read c.before.before.before.before.before.before.before.before.before.before.before.read-slot.ensures (not-false _ c.before.before.before.before.before.before.before.before.before.before.if1.false)) (sym c.before.before.before.before.before.before.before.before.is-root.ensures ∙ not-false _ c.before.before.before.before.before.before.before.if2.false) a.table.now c.before.before.before.before.before.before.before.before.before.before.before.before.before.before.before.requires (λ x. refl) (n / 2 + n % 2) (omega (arith, c.before.before.before.before.before.word_at.ensures)) _ c.before.before.before.before.new3.ensures c.before.before.before.walk-chain.result c.before.before.before.walk-chain.ensures _ (not-true _ c.if3.true)
 
 walk-dir-requires : tie.Need-walk-dir-requires
 walk-dir-requires c κs =
     let s = c.before.before.before.before.before.before.before.before.before.before.before.before.before.before.before.before.before in
     let a = s.args in
     let n = c.before.before.before.before.before.before.before.word_at.result in
-    (s.requires, root-sound (viewBy a.geometry a.table.now a.image.now) (mendedPage a.geometry a.image.now) a.geometry a.mended.now _ (was_read c.before.before.before.before.before.before.before.before.before.before.before.before.before.read-slot.ensures (not-false _ c.before.before.before.before.before.before.before.before.before.before.before.before.if1.false)) (sym c.before.before.before.before.before.before.before.before.before.before.is-root.ensures ∙ not-false _ c.before.before.before.before.before.before.before.before.before.if2.false) a.table.now s.requires (λ x. refl) (n / 2 + n % 2) (omega (arith, c.before.before.before.before.before.before.before.word_at.ensures)) _ c.before.before.before.before.before.before.new3.ensures c.before.before.before.before.before.walk-chain.result c.before.before.before.before.before.walk-chain.ensures (not-false _ c.before.before.if3.false), refl)
+    (s.requires, root-sound (view_by a.geometry a.table.now a.image.now) (mended_page a.geometry a.image.now) a.geometry a.mended.now _ (was_read c.before.before.before.before.before.before.before.before.before.before.before.before.before.read-slot.ensures (not-false _ c.before.before.before.before.before.before.before.before.before.before.before.before.if1.false)) (sym c.before.before.before.before.before.before.before.before.before.before.is-root.ensures ∙ not-false _ c.before.before.before.before.before.before.before.before.before.if2.false) a.table.now s.requires (λ x. refl) (n / 2 + n % 2) (omega (arith, c.before.before.before.before.before.before.before.word_at.ensures)) _ c.before.before.before.before.before.before.new3.ensures c.before.before.before.before.before.walk-chain.result c.before.before.before.before.before.walk-chain.ensures (not-false _ c.before.before.if3.false), refl)
 
 returns-4 : tie.Need-returns-4
 returns-4 c =
     let s = c.before.before.before.before.before.before.before.before.before.before.before.before.before.before.before.before.before.before in
     let a = s.args in
     let n = c.before.before.before.before.before.before.before.before.word_at.result in
-    root-good (viewBy a.geometry a.table.now a.image.now) (mendedPage a.geometry a.image.now) a.geometry a.mended.now _ (was_read c.before.before.before.before.before.before.before.before.before.before.before.before.before.before.read-slot.ensures (not-false _ c.before.before.before.before.before.before.before.before.before.before.before.before.before.if1.false)) (sym c.before.before.before.before.before.before.before.before.before.before.before.is-root.ensures ∙ not-false _ c.before.before.before.before.before.before.before.before.before.before.if2.false) a.table.now s.requires (λ x. refl) (n / 2 + n % 2) (omega (arith, c.before.before.before.before.before.before.before.before.word_at.ensures)) _ c.before.before.before.before.before.before.before.new3.ensures c.before.before.before.before.before.before.walk-chain.result c.before.before.before.before.before.before.walk-chain.ensures (not-false _ c.before.before.before.if3.false) _ _ _ (rw c.before.before.before.before.before.before.before.before.word_at.ensures at c.walk-dir.ensures.0)
+    root-good (view_by a.geometry a.table.now a.image.now) (mended_page a.geometry a.image.now) a.geometry a.mended.now _ (was_read c.before.before.before.before.before.before.before.before.before.before.before.before.before.before.read-slot.ensures (not-false _ c.before.before.before.before.before.before.before.before.before.before.before.before.before.if1.false)) (sym c.before.before.before.before.before.before.before.before.before.before.before.is-root.ensures ∙ not-false _ c.before.before.before.before.before.before.before.before.before.before.if2.false) a.table.now s.requires (λ x. refl) (n / 2 + n % 2) (omega (arith, c.before.before.before.before.before.before.before.before.word_at.ensures)) _ c.before.before.before.before.before.before.before.new3.ensures c.before.before.before.before.before.before.walk-chain.result c.before.before.before.before.before.before.walk-chain.ensures (not-false _ c.before.before.before.if3.false) _ _ _ (rw c.before.before.before.before.before.before.before.before.word_at.ensures at c.walk-dir.ensures.0)
 
 pub walk-root-spec : {M : Type 1} → statement M
 walk-root-spec =
