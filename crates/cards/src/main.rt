@@ -1,4 +1,5 @@
 // Lists every card of its data folder, as `list` does: good ones, worn ones, and one for each refusal.
+#![tactic(auto)]
 use listing::{SMALL_IMAGE, SMALL_ROOM};
 use page::Format;
 

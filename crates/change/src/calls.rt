@@ -17,7 +17,7 @@ use page::Format;
 use tree::open_checked;
 
 // Which change.
-#[derive(Drop)]
+#[derive(Clone, Copy)]
 pub(crate) enum Kind {
     Create,
     Make,

@@ -155,8 +155,8 @@ fn put_two(a: &[u8], b: &[u8], both: &mut [u8])
     ensures { both.new ≡ a.now ++ b.now }
 {
     let middle = a.len();
-    bytes::copy(a, &mut both[..middle]);
-    bytes::copy(b, &mut both[middle..]);
+    both[..middle].copy_from_slice(a);
+    both[middle..].copy_from_slice(b);
 }
 
 // Two pages one after the other.

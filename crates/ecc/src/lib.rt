@@ -1,3 +1,4 @@
+#![tactic(auto)]
 ghost use Rattle.std.specs.Prelude.{◌≡◌, List, ℕ, ◌<◌, get_or, length, take};
 ghost use Rattle.ecc.specs.Code.{code_of, contribution, ◌⊕◌};
 ghost use Rattle.ecc.specs.Four.{code_at, codes_of, judge_four};
@@ -18,7 +19,7 @@ pub struct Code {
 }
 
 // How a chunk beside its stored code is judged. A DataBit has the place of the flipped bit.
-#[derive(Drop)]
+#[derive(Clone, Copy)]
 pub enum Verdict {
     Good,
     DataBit { byte: usize, bit: u8 },

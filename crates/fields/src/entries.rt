@@ -24,7 +24,7 @@ fn eight(page: &[u8], from: usize) -> [u8; 8]
 {
     let mut field = [0u8; 8];
     let end = from + 8;
-    bytes::copy(&page[from..end], &mut field);
+    field.copy_from_slice(&page[from..end]);
     field
 }
 
@@ -34,7 +34,7 @@ fn thirty_two(page: &[u8], from: usize) -> [u8; 32]
 {
     let mut field = [0u8; 32];
     let end = from + 32;
-    bytes::copy(&page[from..end], &mut field);
+    field.copy_from_slice(&page[from..end]);
     field
 }
 

@@ -1,4 +1,5 @@
 // Runs the figures (RULES, "Numbers to meet") on the bench card, each on a fresh copy of it.
+#![tactic(auto)]
 use change::Answer;
 use lookup::reading::ReadOutcome;
 use page::Format;

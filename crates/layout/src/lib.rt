@@ -1,4 +1,5 @@
 // The superblock and the allocation table of a card, with the refusals in the paper's order.
+#![tactic(auto)]
 pub mod page0;
 pub mod table;
 
@@ -16,7 +17,7 @@ use page0::{clusters_in, good_length, good_superblock, good_text, superblock_of}
 use table::{judge_table, load_table};
 
 // Why a call is refused: a case for each row of the paper's table.
-#[derive(Drop)]
+#[derive(Clone, Copy)]
 pub enum Refusal {
     BadShift,
     BadLength,
@@ -94,14 +95,14 @@ impl Refusal {
 
 // Where the pages of a card's allocatable clusters lie in its image, and how they are kept: from cluster alloc_offset on,
 // in the image's format.
-#[derive(Drop)]
+#[derive(Clone, Copy)]
 pub struct Geometry {
     pub format: Format,
     pub offset: u32,
 }
 
 // The numbers of a superblock: N, alloc_offset, alloc_end, the backup blocks, the indirect cluster and the bad block list.
-#[derive(Drop)]
+#[derive(Clone, Copy)]
 pub struct Superblock {
     pub clusters: u32,
     pub geometry: Geometry,
@@ -113,7 +114,7 @@ pub struct Superblock {
 }
 
 // How a card, or a part of its tree, is judged.
-#[derive(Drop)]
+#[derive(Clone, Copy)]
 pub enum Verdict {
     Sound,
     Refused(Refusal),

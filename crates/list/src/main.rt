@@ -1,4 +1,5 @@
 // Reads a small image from standard input and writes its listing, for which there is room (`listing::small_fits`).
+#![tactic(auto)]
 use listing::{SMALL_IMAGE, SMALL_ROOM};
 use page::Format;
 

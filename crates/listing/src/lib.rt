@@ -1,4 +1,5 @@
 // The listing of a card as text in a lent buffer.
+#![tactic(auto)]
 mod emit;
 mod entries;
 mod lines;

@@ -12,7 +12,7 @@ const NAME_ROOM: usize = 33;
 
 const PATH_ROOM: usize = NAME_ROOM * MOST_NAMES;
 
-#[derive(Drop)]
+#[derive(Clone, Copy)]
 pub(crate) struct Path {
     pub(crate) bytes: [u8; PATH_ROOM],
     pub(crate) len: usize,

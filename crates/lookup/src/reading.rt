@@ -23,7 +23,7 @@ use tree::along::{Place, cluster_at, first_unreadable};
 use tree::slots::{next_of, read_needed, slot_page};
 
 // How many bytes a read copied.
-#[derive(Drop)]
+#[derive(Clone, Copy)]
 pub enum ReadOutcome {
     Bytes(usize),
     Refused(Refusal),

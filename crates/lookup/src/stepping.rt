@@ -19,7 +19,7 @@ use tree::along::{Place, first_live};
 use tree::slots::{next_of, read_slot, slots_of};
 
 // The slot that a directory step leads to.
-#[derive(Drop)]
+#[derive(Clone, Copy)]
 pub enum Stepped {
     Slot(u32),
     End,

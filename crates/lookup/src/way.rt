@@ -11,7 +11,7 @@ use tree::along::{Place, find_name};
 use tree::slots::{next_of, read_slot, slots_of};
 
 // Where a path leads: to an entry whose chain begins with a cluster, or the refusal.
-#[derive(Drop)]
+#[derive(Clone, Copy)]
 pub enum Arrival {
     At(u32),
     Absent,

@@ -1,4 +1,5 @@
 // The model of a card is in specs/. Each claim about it is the contract of a function that does nothing.
+#![tactic(auto)]
 ghost use Rattle.model.specs.Claims.{ChainsAreSound, CheckIsHolding, ViewCountsAddUp, AcceptedExactly, ViewChangeKeeps, WritesGiveView, ViewDemand3};
 ghost use Rattle.model.specs.Bench.{BenchNumbers};
 ghost use Rattle.model.specs.Shifts.{ShiftNumbers, ShiftsReturn};
@@ -24,7 +25,7 @@ pub const LIST_WORDS: usize = 32;
 pub const NO_BLOCK: u32 = 0xFFFF_FFFF;
 
 // A day of the calendar, and a time as a calendar and a clock show it.
-#[derive(Drop)]
+#[derive(Clone, Copy)]
 pub struct Date {
     pub year: u32,
     pub month: u32,

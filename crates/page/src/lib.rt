@@ -1,4 +1,5 @@
 // Reading and writing the pages of a card image: 512 data bytes each, in a raw image with 16 spare bytes after them.
+#![tactic(auto)]
 mod raw;
 
 ghost use Rattle.std.specs.Prelude.{◌≡◌, ◌+◌, ◌^◌, ◌<◌, ◌≤◌, length};
@@ -10,7 +11,7 @@ ghost use Rattle.page.specs.Twins.{TwinLaws};
 use raw::{judge_raw, read_raw, write_raw};
 
 // How an image keeps its pages: raw with their spare bytes, as a card does, or plain without them, as emulators do.
-#[derive(Drop)]
+#[derive(Clone, Copy)]
 pub enum Format {
     Raw,
     Plain,
@@ -125,7 +126,7 @@ fn read_stored(format: Format, page: &[u8], out: &mut [u8]) -> PageRead
     match format {
         Format::Raw => read_raw(page, out),
         Format::Plain => {
-            bytes::copy(page, out);
+            out.copy_from_slice(page);
             unmended(true)
         }
     }
@@ -212,7 +213,7 @@ fn write_stored(format: Format, page: &mut [u8], bytes: &[u8])
     match format {
         Format::Raw => write_raw(page, bytes),
         Format::Plain => {
-            bytes::copy(bytes, page);
+            page.copy_from_slice(bytes);
         }
     }
 }

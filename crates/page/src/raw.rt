@@ -104,7 +104,7 @@ fn copy_chunk(chunk: &[u8], verdict: Verdict, out: &mut [u8])
     requires { (length chunk.now ≡ 128) × (length out.old ≡ 128) × Placed verdict }
     ensures { out.new ≡ corrected verdict chunk.now }
 {
-    bytes::copy(chunk, out);
+    out.copy_from_slice(chunk);
     correct(out, verdict);
 }
 
@@ -166,7 +166,7 @@ pub(crate) fn write_raw(page: &mut [u8], bytes: &[u8])
     requires { (length page.old ≡ 528) × (length bytes.now ≡ 512) }
     ensures { page.new ≡ coded_page page.old bytes.now }
 {
-    bytes::copy(bytes, page);
+    page[..512].copy_from_slice(bytes);
     put_code(page, 0, bytes);
     put_code(page, 1, bytes);
     put_code(page, 2, bytes);

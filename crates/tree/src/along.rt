@@ -12,14 +12,14 @@ use fields::names::{entry_name, is_named};
 use layout::Geometry;
 
 // A slot of a directory, counted from slot 2, and its page.
-#[derive(Drop)]
+#[derive(Clone, Copy)]
 pub enum Place {
     At { slot: u32, page: usize },
     Nowhere,
 }
 
 // What a scan looks for: a live entry with a name, one in this slot or a later one, a dead entry, an unreadable page.
-#[derive(Drop)]
+#[derive(Clone, Copy)]
 enum Sought {
     Named,
     LiveFrom(u32),

@@ -1,4 +1,5 @@
 // Runs the chunk code on known vectors: a line has a chunk's 128 bytes and its code's three, in hexadecimal.
+#![tactic(auto)]
 ghost use Rattle.std.specs.Prelude.{◌≡◌, ◌+◌, ◌<◌, length};
 
 use ecc::{Code, Verdict};
