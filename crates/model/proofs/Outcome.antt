@@ -172,9 +172,9 @@ module _ (y : Rules) where
         both (inl z) = inl z.0
         both (inr z) = inr (z.0, gone z.0)
 
-        (λ x. x.now) : ((((m : Name) → is_named x m ≡ same_name nm m) × (seen ≡ found x end)) ⊎ (((m : Name) → is_named x m ≡ false) × (seen ≡ absent))) → look_in (set_slot i x end s) (nm ∷ []) ≡ seen
-        (λ x. x.now) (inl z) = get-new x end i s nm [] le (z.0 nm ∙ Eq-name.self nm) (un nm) ∙ sym z.1
-        (λ x. x.now) (inr z) = get_none (set_slot i x end s) nm [] (gone z.0) ∙ sym z.1
+        now_at : ((((m : Name) → is_named x m ≡ same_name nm m) × (seen ≡ found x end)) ⊎ (((m : Name) → is_named x m ≡ false) × (seen ≡ absent))) → look_in (set_slot i x end s) (nm ∷ []) ≡ seen
+        now_at (inl z) = get-new x end i s nm [] le (z.0 nm ∙ Eq-name.self nm) (un nm) ∙ sym z.1
+        now_at (inr z) = get_none (set_slot i x end s) nm [] (gone z.0) ∙ sym z.1
 
         old : (m : Name) → same_name nm m ≡ false → old_name i s m ≡ 0
         old m e = sl.names m ∙ is-named h₀ m ∙ rw (is-other h₀ nm m sl.named-so, e)

@@ -90,7 +90,7 @@ root-site v r h =
       two = leb→le 2 _ (to-T (and_r (is_directory r.root_entry && same_name r.root_entry.name (0x2E ∷ [])) _ h.good));
       uniq = h.uniq;
       rep = h.rep;
-      own_val = λ c. omega arith;
+      own = λ c. omega arith;
       entry = inr (λ a. ⊎_elim (λ (z : eqb 0 a ≡ true). let b : 0 ≡ a = Eq-number.sound 0 a z in rw (← b) (omega (arith, root-page v r.chain h.links, hit-self 0))) (λ (z : eqb 0 a ≡ false). rw z (omega arith)) (bool (eqb 0 a)));
       finish = λ w e' gs i Q x y N k g. (
         record { root_entry = e'; chain = r.chain ++ gs; slots = set_slot i x y r.slots },
@@ -118,7 +118,7 @@ module _ (v : View) (t : Entry) (ch : List ℕ) (l : Context) (e : Entry) (cs : 
         two = leb→le 2 _ (to-T (and_r (is_directory e && good_name e.name) _ a.0.1));
         uniq = a.1;
         rep = rw (← D) a.2;
-        own_val = λ c. omega (arith, part-links (Slot.directory e cs) s l c);
+        own = λ c. omega (arith, part-links (Slot.directory e cs) s l c);
         entry = inl (λ b. rw pa (omega (arith, part (Slot.directory e cs) s v l deepest (entry_pages (Slot.directory t ch)) h.rep b, parts-le (Slot.directory t ch) b)));
         finish = λ w e' gs i Q x y N k g. (
           record { root_entry = t; chain = ch; slots = plug l (Slot.directory e' (cs ++ gs)) (set_slot i x y s) },

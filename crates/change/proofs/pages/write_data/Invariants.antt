@@ -1,0 +1,15 @@
+use Prim.Native.Nat.{◌%◌, ◌*◌, ◌+◌, ◌-◌, ◌/◌, ◌≤◌}
+use mathlib.Core.Path.{◌∙◌, ◌≡◌, refl, sym}
+use native.Mathlib.Omega.{arith}
+use borrow.Author.Rules.{rules}
+use lib.ListN.{get_or, length}
+use Rattle.layout.specs.See.{image_page}
+use Rattle.change.proofs.PageSteps.{all_left, left_from, none_left, one_less}
+use Rattle.change.proofs.pages.write_data.Given as goal
+
+abbrev pub invariant-loop-k : goal.invariant-loop-k
+invariant-loop-k l =
+    (l.k ≤ 2 * length l.clusters) × (length l.image ≡ length l.initial.image) × (left_from l.geometry l.clusters l.bytes l.k l.image ≡ left_from l.geometry l.clusters l.bytes 0 l.initial.image)
+
+abbrev pub decreases-loop-k : goal.decreases-loop-k
+decreases-loop-k l = 2 * length l.clusters - l.k

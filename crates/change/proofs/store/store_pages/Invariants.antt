@@ -1,0 +1,17 @@
+use Prim.Native.Nat.{◌*◌, ◌-◌, ◌≤◌}
+use mathlib.Core.List.{◌++◌}
+use mathlib.Core.Path.{◌≡◌, refl}
+use native.Mathlib.Omega.{arith}
+use borrow.Author.Rules.{rules}
+use lib.ListN.{get_or, length}
+use Rattle.layout.specs.Table.{table_names}
+use Rattle.change.specs.Image.{store_table}
+use Rattle.change.proofs.StoreSteps.{no-pages-yet, page-stored}
+use Rattle.change.proofs.store.store_pages.Given as goal
+
+abbrev pub invariant-loop-t : goal.invariant-loop-t
+invariant-loop-t l =
+    (l.t ≤ 2 * l.count) × (length l.image ≡ length l.initial.image) × (l.image ≡ store_table l.format (table_names (l.first ++ l.second) l.count) (length l.table) (λ c. get_or l.table c 0) l.t l.initial.image)
+
+abbrev pub decreases-loop-t : goal.decreases-loop-t
+decreases-loop-t l = 2 * l.count - l.t

@@ -1,0 +1,16 @@
+use Prim.Native.Nat.{◌<◌, ◌^◌}
+use mathlib.Core.Path.{◌∙◌, ◌≡◌, refl, sym, ap}
+use mathlib.Core.Logic.{⊎_elim}
+use lib.ListN.{length, length-set}
+use Rattle.change.specs.Words.{cleared_from}
+use Rattle.change.proofs.WordSteps.{all-freed, freed, freed-past}
+use native.Mathlib.Omega.{arith}
+use borrow.Author.Rules.{rules}
+use Rattle.change.proofs.words.clear_chain.Given as goal
+
+abbrev pub invariant-loop-left : goal.invariant-loop-left
+invariant-loop-left l =
+    (l.c < 2 ^ 32) × (length l.table ≡ length l.initial.table) × (cleared_from l.c l.left l.table ≡ cleared_from l.first l.count l.initial.table)
+
+abbrev pub decreases-loop-left : goal.decreases-loop-left
+decreases-loop-left l = l.left

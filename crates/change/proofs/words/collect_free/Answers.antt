@@ -1,0 +1,46 @@
+-- The loop's invariant: the first `count` of the list are the free clusters below c that may be taken, and of the block
+-- looked up last it is known whether it is listed.
+use Prim.Native.Nat.{◌+◌, ◌-◌, ◌≤◌, ℕ}
+use mathlib.Core.Bool.{Bool, ◌&&◌, not}
+use mathlib.Core.List.{List}
+use mathlib.Core.Logic.{⊎_elim}
+use mathlib.Core.Path.{◌∙◌, ◌≡◌, ap, refl, sym}
+use native.Mathlib.Omega.{arith}
+use borrow.Author.Rules.{rules}
+use lib.Dec.{ltb}
+use lib.ListN.{length, length-set, take}
+use lib.Seq.{length-take-le}
+use Rattle.model.specs.Counts.{block_of, is_listed}
+use Rattle.reached.specs.Blocks.{Knows}
+use Rattle.change.specs.Words.{free_list}
+use Rattle.change.proofs.WordSteps.{free_up_to, none_yet, not-one, one_more}
+use Rattle.change.proofs.words.collect_free.Invariants.{may_take}
+use Rattle.change.proofs.words.collect_free.Goals as goal
+
+pub loop-c-init : goal.loop-c-init
+loop-c-init c =
+    let a = c.args in
+    (omega arith, omega arith, refl, none_yet (may_take c.take_limit-limit.result a.s.geometry.offset a.s.bad) a.table.now, c.new-last.ensures)
+
+pub loop-c-preserved : goal.loop-c-preserved
+loop-c-preserved c =
+    let a = c.args in
+    let t = a.table.now in
+    let pool = may_take c.take_limit-limit.result a.s.geometry.offset a.s.bad in
+    let l = c.loop-c in
+    let known = c.at-last.ensures.1 l.invariant.4 in
+    let may : (ltb l.c c.take_limit-limit.result && not c.at-last.result.listed) ≡ pool l.c = rw (known, c.at-last.ensures.0) in
+    ⊎_elim
+    (λ w. (omega arith, omega (arith, w.2), ap length w.1 ∙ length-set l.list _ _ ∙ l.invariant.2, rw (w.1, w.2) (one_more pool t l.list l.count l.c l.invariant.3 _ may (omega arith) w.0.taken), known))
+    (λ w. (omega arith, omega (arith, w.2), ap length w.1 ∙ l.invariant.2, rw (w.1, w.2) (not-one pool t l.list l.count l.c l.invariant.3 _ may w.0.left), known))
+    c.if-c-limit.branch
+
+pub returns : goal.returns
+returns c =
+    let l = c.loop-c in
+    let a = c.args in
+    let t = a.table.now in
+    let all : l.c ≡ length t = omega arith in
+    let found : take l.count l.list ≡ free_up_to (may_take c.take_limit-limit.result a.s.geometry.offset a.s.bad) t (length t) = rw all at l.invariant.3 in
+    let free : take l.count l.list ≡ free_list a.s t = found ∙ ap (λ n. free_up_to (may_take n a.s.geometry.offset a.s.bad) t (length t)) c.take_limit-limit.ensures in
+    (sym (length-take-le l.count l.list (omega arith)) ∙ ap length free, free)

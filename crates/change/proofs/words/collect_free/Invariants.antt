@@ -1,0 +1,25 @@
+use Prim.Native.Nat.{◌+◌, ◌-◌, ◌≤◌, ℕ}
+use mathlib.Core.Bool.{Bool, ◌&&◌, not}
+use mathlib.Core.List.{List}
+use mathlib.Core.Logic.{⊎_elim}
+use mathlib.Core.Path.{◌∙◌, ◌≡◌, ap, refl, sym}
+use native.Mathlib.Omega.{arith}
+use borrow.Author.Rules.{rules}
+use lib.Dec.{ltb}
+use lib.ListN.{length, length-set, take}
+use lib.Seq.{length-take-le}
+use Rattle.model.specs.Counts.{block_of, is_listed}
+use Rattle.reached.specs.Blocks.{Knows}
+use Rattle.change.specs.Words.{free_list}
+use Rattle.change.proofs.WordSteps.{free_up_to, none_yet, not-one, one_more}
+use Rattle.change.proofs.words.collect_free.Given as goal
+
+abbrev pub may_take : ℕ → ℕ → List ℕ → ℕ → Bool
+may_take limit offset bad c = ltb c limit && not (is_listed bad (block_of (offset + c)))
+
+abbrev pub invariant-loop-c : goal.invariant-loop-c
+invariant-loop-c l =
+    (l.c ≤ length l.table) × (l.count ≤ l.c) × (length l.list ≡ length l.initial.list) × (take l.count l.list ≡ free_up_to (may_take l.limit l.offset l.bad) l.table l.c) × Knows l.bad l.last
+
+abbrev pub decreases-loop-c : goal.decreases-loop-c
+decreases-loop-c l = length l.table - l.c

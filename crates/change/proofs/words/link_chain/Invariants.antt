@@ -1,0 +1,17 @@
+use Prim.Native.Nat.{◌-◌, ◌≤◌}
+use mathlib.Core.Path.{◌∙◌, ◌≡◌, refl, ap}
+use mathlib.Core.Logic.{⊎_elim}
+use lib.ListN.{drop, length, length-set}
+use Rattle.model.specs.Writes.{word_to}
+use Rattle.change.specs.Words.{chained}
+use Rattle.change.proofs.WordSteps.{all-linked, each_below, linked, linked-past, nothing-linked, word-to}
+use native.Mathlib.Omega.{arith}
+use borrow.Author.Rules.{rules}
+use Rattle.change.proofs.words.link_chain.Given as goal
+
+abbrev pub invariant-loop-left : goal.invariant-loop-left
+invariant-loop-left l =
+    (l.left ≤ length l.clusters) × (length l.table ≡ length l.initial.table) × (l.word ≡ word_to (drop l.left l.clusters)) × (l.table ≡ chained (drop l.left l.clusters) l.initial.table)
+
+abbrev pub decreases-loop-left : goal.decreases-loop-left
+decreases-loop-left l = l.left

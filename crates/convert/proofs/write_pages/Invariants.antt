@@ -1,0 +1,20 @@
+use Prim.Native.Nat.{◌-◌, ◌≤◌}
+use mathlib.Core.Bool.{true}
+use mathlib.Core.Path.{◌≡◌, refl, sym, ap, ◌∙◌}
+use native.Mathlib.Omega.{arith}
+use borrow.Author.Rules.{rules}
+use lib.ListN.{length}
+use Rattle.page.specs.Page.{page_at, pages_in}
+use Rattle.page.proofs.Laws.{length-put, page-length}
+use Rattle.layout.specs.Table.{data_of}
+use Rattle.layout.proofs.Stages.{read-data, there}
+use Rattle.convert.specs.Converted.{filled}
+use Rattle.convert.proofs.Filled.{filled_none, page-more}
+use Rattle.convert.proofs.write_pages.Given as goal
+
+abbrev pub invariant-loop-p : goal.invariant-loop-p
+invariant-loop-p l =
+    (l.p ≤ l.pages) × (l.out ≡ filled l.to (λ q. data_of (page_at l.from l.image q)) l.p l.initial.out) × (length l.out ≡ length l.initial.out)
+
+abbrev pub decreases-loop-p : goal.decreases-loop-p
+decreases-loop-p l = l.pages - l.p

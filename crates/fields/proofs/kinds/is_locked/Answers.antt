@@ -1,0 +1,6 @@
+-- The test of the mode's bit is the model's.
+use borrow.Author.Rules.{rules}
+use Rattle.fields.proofs.kinds.is_locked.Goals as goal
+
+pub returns : goal.returns
+returns c = rw c.half_at.ensures

@@ -1,0 +1,14 @@
+use Prim.Native.Nat.{◌+◌, ◌-◌, ◌≤◌}
+use mathlib.Core.Path.{◌∙◌, ◌≡◌, sym}
+use native.Mathlib.Omega.{arith}
+use borrow.Author.Rules.{rules}
+use lib.ListN.{drop, length}
+use Rattle.fields.proofs.NameLaws.{zero-found, zero-later, zero-nowhere}
+use Rattle.model.specs.Bytes.{before_zero}
+use Rattle.fields.proofs.names.count_before_zero.Given as goal
+
+abbrev pub invariant-loop-i : goal.invariant-loop-i
+invariant-loop-i l = (l.i ≤ length l.field) × (length (before_zero l.field) ≡ l.i + length (before_zero (drop l.i l.field)))
+
+abbrev pub decreases-loop-i : goal.decreases-loop-i
+decreases-loop-i l = length l.field - l.i

@@ -1,0 +1,6 @@
+-- The name is the model's, and so is the comparison.
+use borrow.Author.Rules.{rules}
+use Rattle.fields.proofs.names.is_dot_dot.Goals as goal
+
+pub returns : goal.returns
+returns c = cc

@@ -1,0 +1,6 @@
+-- The name is the model's, and so is the judgement.
+use borrow.Author.Rules.{rules}
+use Rattle.fields.proofs.names.name_is_good.Goals as goal
+
+pub returns : goal.returns
+returns c = cc

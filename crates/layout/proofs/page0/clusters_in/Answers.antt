@@ -1,0 +1,6 @@
+-- The divisor is the format's.
+use Rattle.std.proofs.Common.{rules}
+use Rattle.layout.proofs.page0.clusters_in.Goals as goal
+
+pub returns : goal.returns
+returns c = rw c.cluster_bytes.ensures.0

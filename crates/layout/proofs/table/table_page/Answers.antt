@@ -1,0 +1,18 @@
+-- Name t / 2 of the list is the word that was read; past the list it is zero.
+use Rattle.std.proofs.Common.{◌*◌, ◌/◌, ◌++◌, arith, rules}
+use lib.ListN.{get_or-eq_default}
+use Rattle.model.specs.Bytes.{word}
+use Rattle.layout.specs.Table.{table_names}
+use Rattle.layout.proofs.UpTo.{get_or-up_to, length-up_to}
+use Rattle.layout.proofs.table.table_page.Goals as goal
+
+pub returns-then-count-i : goal.returns-then-count-i
+returns-then-count-i c =
+    let a = c.args in
+    let names = table_names (a.first.now ++ a.second.now) a.count in
+    omega (arith, get_or-eq_default names 0 {n = a.t / 2} (omega (arith, length-up_to (λ i. word (a.first.now ++ a.second.now) (4 * i)) a.count)))
+
+pub returns : goal.returns
+returns c =
+    let a = c.args in
+    rw (c.name_at.ensures, get_or-up_to (λ i. word (a.first.now ++ a.second.now) (4 * i)) a.count (a.t / 2) (omega arith))

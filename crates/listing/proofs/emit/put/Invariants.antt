@@ -1,0 +1,14 @@
+use mathlib.Core.Path.{◌∙◌, ◌≡◌, refl}
+use Prim.Native.Nat.{◌-◌, ◌≤◌}
+use native.Mathlib.Omega.{arith}
+use borrow.Author.Rules.{rules}
+use lib.ListN.{length, take}
+use Rattle.listing.specs.Emit.{Wrote}
+use Rattle.listing.proofs.EmitLaws.{wrote-length, wrote-more, wrote_none, wrote-whole}
+use Rattle.listing.proofs.emit.put.Given as goal
+
+abbrev pub invariant-loop-i : goal.invariant-loop-i
+invariant-loop-i l = (l.i ≤ length l.bytes) × Wrote l.initial.out l.at (take l.i l.bytes) l.out l.next × (length l.out ≡ length l.initial.out)
+
+abbrev pub decreases-loop-i : goal.decreases-loop-i
+decreases-loop-i l = length l.bytes - l.i

@@ -1,0 +1,20 @@
+-- In the image the page is read from the bytes kept of it; past its end there is no data.
+use Rattle.std.proofs.Common.{refl, rules}
+use Rattle.page.proofs.Mending.{told-inside, told-outside}
+use Rattle.page.proofs.read_page.Goals as goal
+
+pub returns-then-page-page_count : goal.returns-then-page-page_count
+returns-then-page-page_count c =
+    let a = c.args in
+    let told = told-inside a.format a.image.now a.page c.page_count.ensures.0 (search rules) c.stored_page.ensures.0 in record {
+      read = rw told.0 c.read_stored.ensures.read;
+      mended = rw told.1 c.read_stored.ensures.mended;
+    }
+
+pub returns : goal.returns
+returns c =
+    let a = c.args in
+    let told = told-outside a.format a.image.now a.page c.page_count.ensures.0 (search rules) in record {
+      read = rw told.0 (record { readable = c.unmended.ensures.0; buffer = refl });
+      mended = rw told.1 c.unmended.ensures.1;
+    }

@@ -1,0 +1,23 @@
+-- A raw page is read as `read_raw` does; a plain one is its data.
+use Rattle.std.proofs.Common.{sym, ◌∙◌, arith, rules}
+use Rattle.page.proofs.Lists.{copied}
+use Rattle.page.proofs.read_stored.Goals as goal
+
+pub read_raw-requires : goal.read_raw-requires
+read_raw-requires c =
+    (rw c.in-Raw.is at c.requires.0, c.requires.1)
+
+pub returns-in-Raw : goal.returns-in-Raw
+returns-in-Raw c =
+    let raw = c.in-Raw.is in record {
+      read = rw raw c.read_raw.ensures.read;
+      mended = rw raw c.read_raw.ensures.mended;
+    }
+
+pub returns-in-Plain : goal.returns-in-Plain
+returns-in-Plain c =
+    let plain = c.in-Plain.is in
+    let h = rw plain at c.requires.0 in record {
+      read = rw plain (record { readable = c.unmended.ensures.0; buffer = c.copy.ensures.1 ∙ copied c.args.page.now c.args.out.now (c.requires.1 ∙ sym h) });
+      mended = rw plain c.unmended.ensures.1;
+    }

@@ -1,0 +1,40 @@
+-- The listing in the image's format; an image of no bytes has the line of refusal 1.
+use mathlib.Core.Path.{◌∙◌, ◌≡◌, ap, refl, sym}
+use mathlib.Core.List.{List, []}
+use Prim.Native.Nat.{ℕ}
+use mathlib.Core.Bool.{cond}
+use lib.IntN.{ℤ}
+use lib.ListN.{length}
+use mir.Syntax.{w32}
+use mir.ValLaws.{to_z-of_z}
+use Rattle.model.specs.Calendar.{is_shift}
+use Rattle.page.specs.declared.Format.TheVariants.{Raw}
+use Rattle.layout.specs.See.{check_image}
+use Rattle.layout.specs.Table.{open_card, unless}
+use Rattle.model.specs.Check.{and_then}
+use Rattle.listing.specs.Text.{fitted, listing_of, refusal_text}
+use Rattle.ps2card.proofs.FormatLaws.{known_so, unknown-so}
+use borrow.Author.Rules.{rules}
+use Rattle.ps2card.proofs.texts.ps2card_list.Goals as goal
+
+-- no card, by the minutes
+abbrev none : ℤ → List ℕ
+none minutes = cond (is_shift minutes) (refusal_text 1 0) (refusal_text 17 0)
+
+none-listed : (minutes : ℤ) → listing_of Raw [] minutes ≡ none minutes
+unfolding listing_of check_image open_card unless and_then
+none-listed minutes = refl
+
+pub returns-in-Unknown : goal.returns-in-Unknown
+returns-in-Unknown c =
+    let a = c.args in
+    let image = a.image.now in
+    let e = unknown-so (none a.minutes) (λ f. listing_of f image a.minutes) a.format c.format_of-named.ensures c.in-Unknown.is ∙ sym (none-listed a.minutes) ∙ ap (listing_of Raw []) (sym (to_z-of_z w32 a.minutes c.ranges.minutes)) in
+    rw e (c.list.ensures.length, c.list.ensures.text)
+
+pub returns-in-Known : goal.returns-in-Known
+returns-in-Known c =
+    let a = c.args in
+    let image = a.image.now in
+    let e = known_so (none a.minutes) (λ f. listing_of f image a.minutes) a.format c.format_of-named.ensures c.in-Known.is ∙ ap (listing_of _ image) (sym (to_z-of_z w32 a.minutes c.ranges.minutes)) in
+    rw e (c.list-in-Known.ensures.length, c.list-in-Known.ensures.text)

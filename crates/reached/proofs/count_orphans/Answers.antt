@@ -1,0 +1,49 @@
+-- The loop keeps the count of the orphaned clusters passed; the code's test of a word and its mark is the model's.
+use Prim.Native.Nat.{◌-◌, ◌<◌, ◌≤◌}
+use mathlib.Core.Logic.{⊎_elim}
+use mathlib.Core.Path.{◌∙◌, ◌≡◌, ap, refl}
+use native.Mathlib.Omega.{arith}
+use borrow.Author.Rules.{rules}
+use lib.ListN.{length}
+use mathlib.Core.Bool.{false, true}
+use Rattle.model.specs.Counts.{total_below}
+use Rattle.reached.proofs.CountLaws.{orphan-test, orphan_in, total-same, total-step}
+use Rattle.reached.proofs.count_orphans.Goals as goal
+
+pub loop-i-init : goal.loop-i-init
+loop-i-init c = (omega arith, refl, omega arith)
+
+pub offset_bounds-table-i : goal.offset_bounds-table-i
+offset_bounds-table-i c = omega arith
+
+pub bounds-table-i : goal.bounds-table-i
+bounds-table-i c = omega arith
+
+pub overflow_add-n : goal.overflow_add-n
+overflow_add-n c = omega arith
+
+pub overflow_add-i : goal.overflow_add-i
+overflow_add-i c = omega arith
+
+pub loop-i-smaller : goal.loop-i-smaller
+loop-i-smaller c = omega arith
+
+pub loop-i-preserved : goal.loop-i-preserved
+loop-i-preserved c =
+    let t = c.args.table.now in
+    let words = c.all_words-words.result in
+    let l = c.loop-i in
+    let inside : l.i < length t = omega arith in (
+      omega arith,
+      ⊎_elim
+          (λ w. w.1 ∙ total-step (orphan_in t words) l.n 1 l.i l.invariant.1 (orphan-test t l.i inside words true (rw (← c.has_mark.ensures) w.0.taken)))
+          (λ w. w.1 ∙ total-same (orphan_in t words) l.n l.i l.invariant.1 (orphan-test t l.i inside words false (rw (← c.has_mark.ensures) w.0.left)))
+          c.if-table-i.branch,
+      ⊎_elim (λ w. omega (arith, w.1)) (λ w. omega (arith, w.1)) c.if-table-i.branch,
+    )
+
+pub returns : goal.returns
+returns c =
+    let t = c.args.table.now in
+    let all : c.loop-i.i ≡ length t = omega arith in
+    rw c.all_words-words.ensures at (c.loop-i.invariant.1 ∙ ap (total_below (orphan_in t c.all_words-words.result)) all)

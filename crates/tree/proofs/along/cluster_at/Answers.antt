@@ -1,0 +1,29 @@
+-- The loop of `cluster_at` keeps the cluster of half cluster k.
+use Rattle.std.proofs.Common.{◌≡◌, ◌-◌, ◌^◌, ◌<◌, ◌≤◌, ◌∙◌, ⊎_elim, arith, rules}
+use Rattle.tree.specs.Slots.{cluster_at, cluster_after}
+use Rattle.tree.proofs.ScanLaws.{cluster-start, cluster-step}
+use Rattle.tree.proofs.LookLaws.{step-even, step-odd}
+use Rattle.tree.proofs.along.cluster_at.Goals as goal
+
+pub loop-k-init : goal.loop-k-init
+loop-k-init c = (omega arith, omega arith, cluster-start _ _)
+
+pub overflow_add-k : goal.overflow_add-k
+overflow_add-k c = omega arith
+
+pub loop-k-smaller : goal.loop-k-smaller
+loop-k-smaller c = omega arith
+
+pub loop-k-preserved : goal.loop-k-preserved
+loop-k-preserved c =
+    let t = c.args.table.now in
+    let w = c.loop-k in
+    let x : c.if-k-eq1.c ≡ cluster_after t w.c w.k =
+    ⊎_elim (λ v. step-odd t w.c w.k _ v.0.taken (v.2 ∙ v.1.ensures)) (λ v. step-even t w.c w.k _ v.0.left v.1) c.if-k-eq1.branch in (
+      omega arith,
+      ⊎_elim (λ v. omega (arith, v.2, v.1.ensures, c.shared_slice_known-1.given w.c)) (λ v. omega (arith, v.1)) c.if-k-eq1.branch,
+      cluster-step t c.args.first w.c w.k _ w.invariant.2 x,
+    )
+
+pub returns : goal.returns
+returns c = let z : c.loop-k.k ≡ c.args.count = omega arith in rw (← z) c.loop-k.invariant.2

@@ -1,0 +1,10 @@
+use Rattle.std.proofs.Common.{◌≡◌, ℕ, zero, suc, ◌+◌, ◌-◌, ◌*◌, ◌/◌, ◌<◌, ◌≤◌, List, length, drop, sym, refl, ap, ◌∙◌, sub-one, arith}
+use Rattle.tree.specs.declared.names.Hash.{Hash}
+use Rattle.tree.specs.Met.{Small, hash_from, hash_of, mixed, seed_of, three_of}
+use Rattle.tree.proofs.names.name_hash.Given as goal
+
+abbrev pub invariant-loop-k : goal.invariant-loop-k
+invariant-loop-k l = (l.k ≤ l.turns) × Small l.h × (hash_from l.name l.initial.k (l.turns - l.initial.k) l.initial.h ≡ hash_from l.name l.k (l.turns - l.k) l.h)
+
+abbrev pub decreases-loop-k : goal.decreases-loop-k
+decreases-loop-k l = l.turns - l.k
