@@ -38,34 +38,34 @@ returns-then-not-is_live c =
 
 pub with_name-own-requires : goal.with_name-own-requires
 with_name-own-requires c =
-    omega (arith, name-fits c.read_slot.new.1.1.1.1.0 _ c.entry_name.ensures)
+    omega (arith, name-fits c.read_slot.new.out _ c.entry_name.ensures)
 
 pub put_entry-requires : goal.put_entry-requires
 put_entry-requires c =
-    omega (arith, c.with_name-own.ensures.1, name-fits c.read_slot.new.1.1.1.1.0 _ c.entry_name.ensures)
+    omega (arith, c.with_name-own.ensures.1, name-fits c.read_slot.new.out _ c.entry_name.ensures)
 
 pub returns-then-not-is_directory : goal.returns-then-not-is_directory
 returns-then-not-is_directory c =
     let a = c.args in
     let seen =
-    seen_by (path_bytes a.path) a.path.len ((view_by a.geometry a.table.now a.image.now).entry a.page) c.read_slot.new.1.1.1.1.0 _ _ _ (was_read c.read_slot.ensures (not-false _ c.if-not-read_slot.false-raw)) (sym (not-false _ c.if-not-is_live.false-raw) ∙ c.is_live.ensures) c.word_at-length.ensures c.entry_name.ensures c.with_name-own.ensures in
+    seen_by (path_bytes a.path) a.path.len ((view_by a.geometry a.table.now a.image.now).entry a.page) c.read_slot.new.out _ _ _ (was_read c.read_slot.ensures (not-false _ c.if-not-read_slot.false-raw)) (sym (not-false _ c.if-not-is_live.false-raw) ∙ c.is_live.ensures) c.word_at-length.ensures c.entry_name.ensures c.with_name-own.ensures in
     let kind = sym (not-true _ c.if-not-is_directory.true-raw) ∙ c.is_directory.ensures in
-    let stamp = c.modified_at-changed.ensures ∙ ap (λ s. shown_as (shown s (entry_of c.read_slot.new.1.1.1.1.0).modified)) (to_z-of_z w32 a.minutes c.ranges.minutes) in record {
+    let stamp = c.modified_at-changed.ensures ∙ ap (λ s. shown_as (shown s (entry_of c.read_slot.new.out).modified)) (to_z-of_z w32 a.minutes c.ranges.minutes) in record {
       line = wrote_as (file-line seen a.minutes _ stamp kind) c.put_entry.ensures;
       leads = file-leads seen a.table.now c.put_entry.result 0 kind;
     }
 
 pub put_entry-requires-2 : goal.put_entry-requires-2
 put_entry-requires-2 c =
-    omega (arith, c.with_name-own.ensures.1, name-fits c.read_slot.new.1.1.1.1.0 _ c.entry_name.ensures)
+    omega (arith, c.with_name-own.ensures.1, name-fits c.read_slot.new.out _ c.entry_name.ensures)
 
 pub returns : goal.returns
 returns c =
     let a = c.args in
     let seen =
-    seen_by (path_bytes a.path) a.path.len ((view_by a.geometry a.table.now a.image.now).entry a.page) c.read_slot.new.1.1.1.1.0 _ _ _ (was_read c.read_slot.ensures (not-false _ c.if-not-read_slot.false-raw)) (sym (not-false _ c.if-not-is_live.false-raw) ∙ c.is_live.ensures) c.word_at-length.ensures c.entry_name.ensures c.with_name-own.ensures in
+    seen_by (path_bytes a.path) a.path.len ((view_by a.geometry a.table.now a.image.now).entry a.page) c.read_slot.new.out _ _ _ (was_read c.read_slot.ensures (not-false _ c.if-not-read_slot.false-raw)) (sym (not-false _ c.if-not-is_live.false-raw) ∙ c.is_live.ensures) c.word_at-length.ensures c.entry_name.ensures c.with_name-own.ensures in
     let kind = sym (not-false _ c.if-not-is_directory.false-raw) ∙ c.is_directory.ensures in
-    let stamp = c.modified_at-changed.ensures ∙ ap (λ s. shown_as (shown s (entry_of c.read_slot.new.1.1.1.1.0).modified)) (to_z-of_z w32 a.minutes c.ranges.minutes) in record {
+    let stamp = c.modified_at-changed.ensures ∙ ap (λ s. shown_as (shown s (entry_of c.read_slot.new.out).modified)) (to_z-of_z w32 a.minutes c.ranges.minutes) in record {
       line = wrote_as (directory-line seen a.minutes _ stamp kind) c.put_entry-2.ensures;
       leads = directory-leads seen a.table.now c.put_entry-2.result _ _ _ kind c.word_at.ensures c.next_of.ensures c.slots_of.ensures;
     }
