@@ -200,10 +200,6 @@ pub copied : (s d : List ℕ) → length d ≡ length s → take (length s) s ++
 copied s d e =
     ap₂ ◌++◌ (take_all (length s) s (omega arith)) (drop_of_length-le d {i = length s} (omega arith)) ∙ append-nil s
 
--- a copy to the beginning
-pub put_first : (l s : List ℕ) → take (length s) s ++ drop (length s) l ≡ put_at l 0 s
-put_first l s = ap₂ (λ (t : List ℕ) (k : ℕ). t ++ drop k l) (take-length s) (sym (zero-add (length s)))
-
 -- three stores in a row
 pub stored : (l : List ℕ) (a x y z : ℕ) → a + 3 ≤ length l → set (set (set l a x) (a + 1) y) (a + 2) z ≡ put_at l a (x ∷ y ∷ z ∷ [])
 stored l a x y z h =
