@@ -1,5 +1,4 @@
 -- A raw page is read as `read_raw` does; a plain one is its data.
-use Rattle.std.proofs.Common.{sym, ◌∙◌, arith, rules}
 use Rattle.page.proofs.read_stored.Goals as goal
 
 pub read_raw-requires : goal.read_raw-requires

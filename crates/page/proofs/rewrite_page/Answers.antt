@@ -1,5 +1,5 @@
 -- The page is written just where it does not hold the data yet, as `rewritten` says.
-use Rattle.std.proofs.Common.{sym, ◌∙◌, rules}
+use Rattle.std.proofs.Common.{sym, ◌∙◌}
 use Rattle.page.proofs.Puts.{put-changed, put-held}
 use Rattle.page.proofs.rewrite_page.Goals as goal
 

@@ -1,5 +1,4 @@
 -- A raw page is written as `write_raw` does; a plain one becomes its data.
-use Rattle.std.proofs.Common.{sym, ◌∙◌, arith, rules}
 use Rattle.page.proofs.write_stored.Goals as goal
 
 pub write_raw-requires : goal.write_raw-requires

@@ -1,5 +1,5 @@
 -- The copy fills `out`, which is as long as the chunk, and is then corrected.
-use Rattle.std.proofs.Common.{ap, ◌∙◌, arith, rules}
+use Rattle.std.proofs.Common.{ap, ◌∙◌}
 use Rattle.ecc.specs.Judge.{corrected}
 use Rattle.page.proofs.raw.copy_chunk.Goals as goal
 

@@ -1,5 +1,5 @@
 -- What was lent of `out` comes back with the corrected chunk in it.
-use Rattle.std.proofs.Common.{◌≡◌, ◌*◌, length, ap, ◌∙◌, rules}
+use Rattle.std.proofs.Common.{◌≡◌, ◌*◌, length, ap, ◌∙◌}
 use Rattle.ecc.specs.Judge.{corrected}
 use Rattle.page.specs.Page.{put_at, chunk_of}
 use Rattle.page.proofs.Lists.{lent-part, lent_back}

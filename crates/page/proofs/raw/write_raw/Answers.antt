@@ -1,5 +1,5 @@
 -- The data and four codes put side by side leave only spare bytes 12 to 15 of the old page.
-use Rattle.std.proofs.Common.{◌≡◌, ℕ, List, ◌++◌, ◌+◌, length, take, drop, sym, refl, ap, ◌∙◌, arith, length-drop, length-take-le, take_all, rules}
+use Rattle.std.proofs.Common.{◌≡◌, ℕ, List, ◌++◌, ◌+◌, length, drop, sym, refl, ap, ◌∙◌, arith, length-drop, length-take-le, take_all}
 use Rattle.page.specs.Page.{put_at, fresh_code, coded_page}
 use Rattle.page.proofs.Lists.{put_four}
 use Rattle.page.proofs.raw.write_raw.Goals as goal
