@@ -12,7 +12,7 @@ unfolding valid_time
 returns-then-time-ne8 c = rw (ne_eqb (length c.args.time.now) 8 c.if-time-ne8.true)
 
 pub overflow_cast-month : goal.overflow_cast-month
-overflow_cast-month c = omega (arith, c.shared_slice_known-2-1.given 5)
+overflow_cast-month c = omega (arith, c.type_inv.time 5)
 
 pub returns-then-month-lt1 : goal.returns-then-month-lt1
 returns-then-month-lt1 c = month-early c.args.time.now c.if-month-lt1.true
