@@ -1,8 +1,7 @@
 -- The loop keeps the count of the orphaned clusters passed; the code's test of a word and its mark is the model's.
-use Prim.Native.Nat.{◌-◌, ◌<◌, ◌≤◌}
+use Prim.Native.Nat.{◌<◌}
 use mathlib.Core.Path.{◌∙◌, ◌≡◌, ap, refl}
 use native.Mathlib.Omega.{arith}
-use borrow.Author.Rules.{rules}
 use lib.ListN.{length}
 use mathlib.Core.Bool.{false, true}
 use Rattle.model.specs.Counts.{total_below}

@@ -1,6 +1,5 @@
 -- The current word goes to its place, if it has one; the answer is read after that.
 use mathlib.Core.Path.{◌∙◌, ◌≡◌}
-use borrow.Author.Rules.{rules}
 use borrow.Author.Tests.{le-ltb, lt-ltb}
 use Rattle.reached.specs.Marks.{mark_words, put_word}
 use Rattle.reached.proofs.turn.Goals as goal

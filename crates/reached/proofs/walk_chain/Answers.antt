@@ -1,11 +1,10 @@
 -- What is left to do gives the whole answer: the loop keeps `rest_of` of its locals. A cluster past the last mark breaks the chain.
-use Prim.Native.Nat.{◌<◌, ◌≤◌, ◌^◌, ℕ}
+use Prim.Native.Nat.{◌<◌, ◌≤◌, ℕ}
 use mathlib.Core.Bool.{Bool, ◌&&◌, false}
 use mathlib.Core.List.{List}
 use mathlib.Core.Path.{◌∙◌, ◌≡◌, refl, sym}
 use native.Mathlib.Decide.{ℕ_discrete}
 use native.Mathlib.Omega.{arith}
-use borrow.Author.Rules.{rules}
 use borrow.Author.Tests.{lt-ltb, ltb-false, ltb-true, ne_eqb}
 use lib.Dec.{ltb}
 use Rattle.model.proofs.Equality.{and_l, and_r}

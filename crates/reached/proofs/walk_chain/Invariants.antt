@@ -1,20 +1,7 @@
-use Prim.Native.Nat.{◌<◌, ◌≤◌, ◌^◌, ℕ}
-use mathlib.Core.Bool.{Bool, ◌&&◌, false}
-use mathlib.Core.List.{List}
-use mathlib.Core.Logic.{⊎_elim}
-use mathlib.Core.Path.{◌∙◌, ◌≡◌, refl, sym}
-use native.Mathlib.Decide.{ℕ_discrete}
-use native.Mathlib.Omega.{arith}
-use borrow.Author.Rules.{rules}
-use borrow.Author.Tests.{lt-ltb, ltb-false, ltb-true, ne_eqb}
-use lib.Dec.{ltb}
-use Rattle.model.proofs.Equality.{and_l, and_r}
-use Rattle.model.specs.View.{most_clusters}
-use Rattle.reached.specs.Marks.{turned}
-use Rattle.reached.specs.declared.Reached.{Reached}
-use Rattle.reached.proofs.ChainSteps.{chain-past}
-use Rattle.reached.proofs.MarkLaws.{turned-far, turned-near}
-use Rattle.reached.proofs.NearLaws.{near_again, near-comes-on, near-untold-left, rest-start, rest_of}
+use Prim.Native.Nat.{◌<◌, ◌^◌}
+use mathlib.Core.Bool.{false}
+use mathlib.Core.Path.{◌≡◌}
+use Rattle.reached.proofs.NearLaws.{rest_of}
 use Rattle.reached.proofs.walk_chain.Given as goal
 
 abbrev pub invariant-loop-left : goal.invariant-loop-left

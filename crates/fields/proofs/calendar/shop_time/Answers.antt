@@ -6,7 +6,6 @@ use Rattle.model.specs.Calendar.{is_shift}
 use Rattle.model.specs.Time.{in_years, valid_moment}
 use Rattle.fields.specs.declared.calendar.Shown.TheVariants as is
 use Rattle.fields.proofs.ShiftLaws.{moved_by, shown-elsewhere, shown-in, shown-invalid, shown-out, valid-shown}
-use borrow.Author.Rules.{rules}
 use Rattle.fields.proofs.calendar.shop_time.Goals as goal
 
 pub returns-then-not-is_valid_time : goal.returns-then-not-is_valid_time

@@ -1,11 +1,7 @@
 -- The bytes from the turn's place on are all legal exactly when all are.
-use Prim.Native.Nat.{◌-◌, ◌≤◌}
-use mathlib.Core.Path.{◌∙◌, ◌≡◌, refl, sym}
+use mathlib.Core.Path.{◌∙◌, refl, sym}
 use native.Mathlib.Omega.{arith}
-use borrow.Author.Rules.{rules}
-use lib.ListN.{drop, length}
 use Rattle.fields.proofs.NameLaws.{legal-done, legal-more, legal-stop}
-use Rattle.model.specs.Names.{legal_bytes}
 use Rattle.fields.proofs.names.all_legal.Goals as goal
 
 pub loop-i-init : goal.loop-i-init

@@ -1,11 +1,8 @@
 -- The name asked for stands among the names from the turn's place on, at what is left of its index.
-use Prim.Native.Nat.{◌-◌, ◌≤◌}
-use mathlib.Core.List.{[]}
-use mathlib.Core.Path.{◌∙◌, ◌≡◌, sym}
+use Prim.Native.Nat.{◌-◌}
+use mathlib.Core.Path.{◌∙◌, sym}
 use native.Mathlib.Omega.{arith}
-use borrow.Author.Rules.{rules}
-use lib.ListN.{drop, get_or, length}
-use Rattle.fields.specs.PathBytes.{name_at, split_names}
+use lib.ListN.{length}
 use Rattle.fields.proofs.PathLaws.{end-inside, name-here, name-later, name-nowhere, name-past, rest-empty}
 use Rattle.fields.proofs.paths.name_at.Goals as goal
 

@@ -1,6 +1,5 @@
 -- A time of eight bytes with a month is judged by the rule's tests in its order; without, it is no time.
 use native.Mathlib.Omega.{arith}
-use borrow.Author.Rules.{rules}
 use borrow.Author.Tests.{eq-eqb, le-leb, ne_eqb}
 use lib.ListN.{get_or, length}
 use Rattle.fields.proofs.TimeLaws.{month-early, month-late}

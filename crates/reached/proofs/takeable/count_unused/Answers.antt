@@ -1,13 +1,11 @@
 -- The loop keeps the counts of the free clusters passed and of those held back, and of the block looked up last whether it is listed.
-use Prim.Native.Nat.{◌-◌, ◌<◌, ◌≤◌}
+use Prim.Native.Nat.{◌<◌}
 use mathlib.Core.Bool.{◌&&◌, false, not, true}
 use mathlib.Core.Path.{◌∙◌, ◌≡◌, ap, refl}
 use native.Mathlib.Omega.{arith}
-use borrow.Author.Rules.{rules}
 use lib.Dec.{ltb}
 use lib.ListN.{length}
 use Rattle.model.specs.Counts.{may_take_on, total_below}
-use Rattle.reached.specs.Blocks.{Knows}
 use Rattle.reached.specs.Totals.{free_at, held_at}
 use Rattle.reached.proofs.CountLaws.{free-test, held_test, total-same, total-step}
 use Rattle.reached.proofs.takeable.count_unused.Goals as goal
