@@ -16,19 +16,19 @@ use Rattle.listing.proofs.list.Goals as goal
 pub returns-then-not-is_shift : goal.returns-then-not-is_shift
 returns-then-not-is_shift c =
     let a = c.args in
-    let shift = ap is_shift (sym (to_z-of_z w32 a.minutes c.ranges.minutes)) ∙ sym c.is_shift.ensures ∙ not-true _ c.if-not-is_shift.true-raw in
+    let shift = ap is_shift (sym (to_z-of_z w32 a.minutes c.ranges.minutes)) ∙ sym c.is_shift.ensures ∙ c.if-not-is_shift.true in
     wrote-listing (listing-short a.format a.image.now a.minutes) (wrote_as (listing-elsewhere a.format a.image.now a.minutes shift) c.put_refusal.ensures)
 
 pub list_card-requires : goal.list_card-requires
 list_card-requires c =
     let a = c.args in
     let s = to_z-of_z w32 a.minutes c.ranges.minutes in
-    (sym (ap told_counts c.in-Card.is) ∙ c.check_in-checked.ensures, sym c.is_shift.ensures ∙ not-false _ c.if-not-is_shift.false-raw)
+    (sym (ap told_counts c.in-Card.is) ∙ c.check_in-checked.ensures, sym c.is_shift.ensures ∙ c.if-not-is_shift.false)
 
 pub returns-in-Refused : goal.returns-in-Refused
 returns-in-Refused c =
     let a = c.args in
-    let shift = ap is_shift (sym (to_z-of_z w32 a.minutes c.ranges.minutes)) ∙ sym c.is_shift.ensures ∙ not-false _ c.if-not-is_shift.false-raw in
+    let shift = ap is_shift (sym (to_z-of_z w32 a.minutes c.ranges.minutes)) ∙ sym c.is_shift.ensures ∙ c.if-not-is_shift.false in
     let r = c.in-Refused.refusal in
     let text = listing-refused a.format a.image.now a.minutes shift (number_of r) (page_of r) (sym (ap told_counts c.in-Refused.is) ∙ c.check_in-checked.ensures) in
     wrote-listing (listing-short a.format a.image.now a.minutes) (wrote_as text c.put_refusal-in-Refused.ensures)
