@@ -27,14 +27,14 @@ loop-k-preserved t c =
       elim c.if-k-eq1.branch [ then-k-eq1 z ↦ omega (arith, z.c-is, z.next_of-c.ensures, c.type_inv.table w.c) | else-k-eq1 z ↦ omega arith ],
       elim c.if-below-gt0.branch [ then-below-gt0 z ↦ omega (arith, z.next-is, z.list_slots-next.ensures.place) | else-below-gt0 z ↦ omega (arith, z.next-is, line.place) ],
       elim c.if-below-gt0.branch [
-        then-below-gt0 z ↦ ap length z.out-is ∙ wrote-length z.list_slots-next.ensures ∙ wrote-length line ∙ w.invariant.3
-      | else-below-gt0 z ↦ ap length z.out-is ∙ wrote-length line ∙ w.invariant.3
+        | then-below-gt0 z ↦ ap length z.out-is ∙ wrote-length z.list_slots-next.ensures ∙ wrote-length line ∙ w.invariant.3
+        | else-below-gt0 z ↦ ap length z.out-is ∙ wrote-length line ∙ w.invariant.3
       ],
       elim c.if-below-gt0.branch [
-        then-below-gt0 z ↦
-          remains-as z.out-is z.next-is (turn-deep (to_z w32 (of_z w32 a.minutes)) v t a.below (path_bytes a.path) w.c w.k a.count _ _ c.loop-k-test.true c.slot_page.ensures.0 x fits w.invariant.4 line z.if-below-gt0.true leads z.list_slots-next.ensures)
-      | else-below-gt0 z ↦
-          remains-as z.out-is z.next-is (turn-flat (to_z w32 (of_z w32 a.minutes)) v t a.below (path_bytes a.path) w.c w.k a.count _ _ c.loop-k-test.true c.slot_page.ensures.0 x fits w.invariant.4 line (omega arith))
+        | then-below-gt0 z ↦
+            remains-as z.out-is z.next-is (turn-deep (to_z w32 (of_z w32 a.minutes)) v t a.below (path_bytes a.path) w.c w.k a.count _ _ c.loop-k-test.true c.slot_page.ensures.0 x fits w.invariant.4 line z.if-below-gt0.true leads z.list_slots-next.ensures)
+        | else-below-gt0 z ↦
+            remains-as z.out-is z.next-is (turn-flat (to_z w32 (of_z w32 a.minutes)) v t a.below (path_bytes a.path) w.c w.k a.count _ _ c.loop-k-test.true c.slot_page.ensures.0 x fits w.invariant.4 line (omega arith))
       ],
     )
 
