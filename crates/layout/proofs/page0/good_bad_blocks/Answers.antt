@@ -15,7 +15,7 @@ pub returns-then-not-good_bad_block : goal.returns-then-not-good_bad_block
 returns-then-not-good_bad_block c =
     let l = c.loop-i in
     let a = c.args in
-    sym (l.invariant.1 ∙ list-stop a.n a.bad.now l.i (omega arith) (sym c.good_bad_block.ensures ∙ not-true _ c.if-not-good_bad_block.true-raw))
+    sym (l.invariant.1 ∙ list-stop a.n a.bad.now l.i (omega arith) (sym c.good_bad_block.ensures ∙ c.if-not-good_bad_block.true))
 
 pub overflow_add-i : goal.overflow_add-i
 overflow_add-i c = omega arith
@@ -27,7 +27,7 @@ pub loop-i-preserved : goal.loop-i-preserved
 loop-i-preserved c =
     let l = c.loop-i in
     let a = c.args in
-    (omega arith, l.invariant.1 ∙ list-more a.n a.bad.now l.i (omega arith) (sym c.good_bad_block.ensures ∙ not-false _ c.if-not-good_bad_block.false-raw))
+    (omega arith, l.invariant.1 ∙ list-more a.n a.bad.now l.i (omega arith) (sym c.good_bad_block.ensures ∙ c.if-not-good_bad_block.false))
 
 pub returns : goal.returns
 returns c =

@@ -27,7 +27,7 @@ returns-then-not-judge_counted c =
     let a = c.args in
     let f : ℕ → ℕ = λ i. word (a.first.now ++ a.second.now) (4 * i) in
     let inside : l.t < 2 * length (up_to f a.count) = omega (arith, length-up_to f a.count) in
-    let gone = judged-none (page_at a.format a.image.now c.table_page-p.result) (sym c.judge_counted.ensures.readable ∙ not-true _ c.if-not-judge_counted.true-raw) in record {
+    let gone = judged-none (page_at a.format a.image.now c.table_page-p.result) (sym c.judge_counted.ensures.readable ∙ c.if-not-judge_counted.true) in record {
       judged = λ s. sym (l.invariant.2 s ∙ pages-stop a.format a.image.now (up_to f a.count) (ok s) l.t inside (rw c.table_page-p.ensures at gone) ∙ rw c.table_page-p.ensures);
       counted = tt;
     }
@@ -44,7 +44,7 @@ loop-t-preserved c =
     let a = c.args in
     let f : ℕ → ℕ = λ i. word (a.first.now ++ a.second.now) (4 * i) in
     let inside : l.t < 2 * length (up_to f a.count) = omega (arith, length-up_to f a.count) in
-    let found = there (page_at a.format a.image.now c.table_page-p.result) (sym c.judge_counted.ensures.readable ∙ not-false _ c.if-not-judge_counted.false-raw) in (
+    let found = there (page_at a.format a.image.now c.table_page-p.result) (sym c.judge_counted.ensures.readable ∙ c.if-not-judge_counted.false) in (
       omega arith,
       count-more (mended_chunks a.format a.image.now) (up_to f a.count) a.mended.now l.mended l.t inside (rw c.table_page-p.ensures at c.judge_counted.ensures.counted) l.invariant.1,
       λ s. l.invariant.2 s ∙ pages-more a.format a.image.now (up_to f a.count) (ok s) l.t inside (rw c.table_page-p.ensures at found),
