@@ -1,6 +1,5 @@
 -- Each stage's answer is the test that the definition makes there; the first that fails decides. Page 0 is counted first.
-use Rattle.std.proofs.Common.{◌≡◌, ℕ, List, ◌∷◌, length, subst, sym, ◌∙◌, rules}
-use borrow.Author.Tests.{not-true, not-false}
+use Rattle.std.proofs.Common.{◌≡◌, ℕ, List, ◌∷◌, length, subst, sym, ◌∙◌}
 use Rattle.page.specs.Mended.{mended_chunks}
 use Rattle.page.specs.Page.{page_at}
 use Rattle.page.proofs.Puts.{read_some, read_none}
@@ -23,9 +22,9 @@ counted-at image v before after h same =
 pub returns-then-not-good_length : goal.returns-then-not-good_length
 unfolding open_card unless with_page
 returns-then-not-good_length c = record {
-      judged = rw (sym c.good_length.ensures ∙ c.if-not-good_length.true);
-      counted = tt;
-    }
+  judged = rw (sym c.good_length.ensures ∙ c.if-not-good_length.true);
+  counted = tt;
+}
 
 pub returns-then-not-read_counted : goal.returns-then-not-read_counted
 unfolding open_card unless with_page

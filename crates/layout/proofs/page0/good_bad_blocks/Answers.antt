@@ -1,7 +1,5 @@
 -- The loop's invariant: judging the words from i on is judging them all.
-use Rattle.std.proofs.Common.{◌≡◌, ◌-◌, ◌≤◌, length, drop, sym, refl, ◌∙◌, arith, rules}
-use borrow.Author.Tests.{not-false, not-true}
-use Rattle.layout.specs.Superblock.{good_bad_blocks}
+use Rattle.std.proofs.Common.{sym, refl, ◌∙◌, arith}
 use Rattle.layout.proofs.ListLaws.{list_done, list-more, list-stop}
 use Rattle.layout.proofs.page0.good_bad_blocks.Goals as goal
 

@@ -1,9 +1,8 @@
 -- The loop's invariant: judging the names from i on, those before them seen, is judging them all.
-use Rattle.std.proofs.Common.{◌≡◌, ℕ, ◌-◌, ◌*◌, ◌≤◌, Bool, ◌&&◌, List, ◌++◌, sym, refl, ◌∙◌, arith, rules}
-use borrow.Author.Tests.{not-true, not-false}
+use Rattle.std.proofs.Common.{◌≡◌, ℕ, ◌*◌, Bool, ◌&&◌, List, ◌++◌, sym, refl, ◌∙◌, arith}
 use Rattle.model.specs.Bytes.{word}
 use Rattle.layout.specs.Table.{good_name}
-use Rattle.layout.proofs.Names.{is_new, good_from, good_at, names-stop, names_more, names-done}
+use Rattle.layout.proofs.Names.{is_new, good_at, names-stop, names_more, names-done}
 use Rattle.layout.proofs.table.good_names.Goals as goal
 
 tested : (f : ℕ → ℕ) (indirect offset : ℕ) (bad : List ℕ) (count i name : ℕ) (a b : Bool) → name ≡ f i → a ≡ good_name offset bad name → b ≡ is_new f indirect name i

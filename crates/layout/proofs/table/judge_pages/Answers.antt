@@ -1,18 +1,16 @@
 -- The loop's invariant: judging the pages from page t of the table on is judging them all.
-use Rattle.std.proofs.Common.{◌≡◌, ℕ, ◌+◌, ◌-◌, ◌*◌, ◌<◌, ◌≤◌, ◌++◌, length, sym, refl, ◌∙◌, arith, rules}
-use borrow.Author.Tests.{not-true, not-false}
-use Rattle.page.specs.Mended.{mended_chunks, wrapped}
+use Rattle.std.proofs.Common.{ℕ, ◌*◌, ◌<◌, ◌≤◌, ◌++◌, length, sym, refl, ◌∙◌, arith}
+use Rattle.page.specs.Mended.{mended_chunks}
 use Rattle.page.specs.Page.{page_at}
 use Rattle.page.proofs.Puts.{judged-none}
 use Rattle.model.specs.Bytes.{word}
 use Rattle.model.specs.Check.{ok}
-use Rattle.layout.specs.declared.Superblock.{Superblock}
 use Rattle.layout.specs.Superblock.{up_to}
 use Rattle.layout.specs.Table.{table_names}
 use Rattle.layout.proofs.Stages.{there}
-use Rattle.layout.proofs.MendedLaws.{count-done, count-more, count_from}
+use Rattle.layout.proofs.MendedLaws.{count-done, count-more}
 use Rattle.layout.proofs.UpTo.{length-up_to}
-use Rattle.layout.proofs.TablePages.{pages_from, pages-stop, pages-more, pages-done}
+use Rattle.layout.proofs.TablePages.{pages-stop, pages-more, pages-done}
 use Rattle.layout.proofs.table.judge_pages.Goals as goal
 
 pub loop-t-init : goal.loop-t-init

@@ -1,6 +1,5 @@
 -- Each stage's answer is the test that the definition makes there; the first that fails decides. Each page that was read is counted.
 use Rattle.std.proofs.Common.{◌+◌, ◌*◌, sym, ◌∙◌, rules}
-use borrow.Author.Tests.{not-true, not-false}
 use Rattle.page.specs.Mended.{mended_chunks}
 use Rattle.page.specs.Page.{page_at}
 use Rattle.page.proofs.Puts.{read_some, read_none}
@@ -11,9 +10,9 @@ use Rattle.layout.proofs.table.judge_table.Goals as goal
 pub returns-then-not-good_name : goal.returns-then-not-good_name
 unfolding open_table unless with_page
 returns-then-not-good_name c = record {
-      judged = rw (sym c.good_name.ensures ∙ c.if-not-good_name.true);
-      counted = tt;
-    }
+  judged = rw (sym c.good_name.ensures ∙ c.if-not-good_name.true);
+  counted = tt;
+}
 
 pub returns-then-not-read_counted : goal.returns-then-not-read_counted
 unfolding open_table unless with_page

@@ -1,7 +1,7 @@
 -- The loop's invariant: the first c words are the table's, the others as they were; the buffer has the page of word c, but where word c starts a page.
-use Rattle.std.proofs.Common.{◌≡◌, ◌-◌, ◌/◌, ◌%◌, ◌≤◌, ◌++◌, length, sym, refl, ◌∙◌, arith, length-set, rules}
-use Rattle.layout.specs.Table.{table_clusters, table_names, table_word}
-use Rattle.layout.proofs.UpTo.{filled, filled_none}
+use Rattle.std.proofs.Common.{◌≡◌, ◌/◌, ◌++◌, sym, refl, ◌∙◌, arith, length-set}
+use Rattle.layout.specs.Table.{table_clusters, table_names}
+use Rattle.layout.proofs.UpTo.{filled_none}
 use Rattle.layout.proofs.TableLaws.{Holding, just-read, word_more, still-held}
 use Rattle.layout.proofs.table.load_words.Goals as goal
 use Rattle.layout.proofs.table.load_words.Goals.{then-c-eq0, else-c-eq0}
@@ -31,8 +31,9 @@ loop-c-preserved c =
     let names = table_names (a.first.now ++ a.second.now) (table_clusters a.end) in
     let here : Holding format image names l.c joined.page =
     elim joined.branch [
-      then-c-eq0 w ↦ just-read format image names l.c w.table_page.ensures (c.requires.2 (l.c / 128) (omega arith)) w.read_page.ensures.read w.page-is
-    | else-c-eq0 w ↦ w.page-is ∙ l.invariant.3 w.if-c-eq0.false ] in (
+      | then-c-eq0 w ↦ just-read format image names l.c w.table_page.ensures (c.requires.2 (l.c / 128) (omega arith)) w.read_page.ensures.read w.page-is
+      | else-c-eq0 w ↦ w.page-is ∙ l.invariant.3 w.if-c-eq0.false
+    ] in (
       omega arith,
       word_more format image names a.table.now l.table joined.page l.c (omega arith) here c.word_at.result c.word_at.ensures l.invariant.1,
       simp length-set l.invariant.2,
