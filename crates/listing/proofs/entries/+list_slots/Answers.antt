@@ -1,4 +1,4 @@
-use Rattle.std.proofs.Common.{◌≡◌, ◌≤◌, ◌∙◌, length, ap, sym, arith, of_z, to_z}
+use Rattle.std.proofs.Common.{◌≡◌, ◌≤◌, ◌∙◌, length, ap, refl, sym, arith, of_z, to_z}
 use mir.Syntax.{w32}
 use mir.ValLaws.{to_z-of_z}
 use Rattle.layout.specs.See.{view_by}
@@ -8,9 +8,15 @@ use Rattle.listing.specs.Emit.{most}
 use Rattle.listing.specs.Paths.{path_bytes}
 use Rattle.listing.specs.Render.{slots_text}
 use Rattle.listing.proofs.EmitLaws.{wrote_as, wrote-length, wrote_none}
-use Rattle.listing.proofs.RenderLaws.{left-none, remains-as, turn-deep, turn-flat}
+use Rattle.listing.proofs.RenderLaws.{left-all, left-none, remains-as, turn-deep, turn-flat}
 use Rattle.listing.proofs.entries.+list_slots.Goals.{then-below-gt0, else-below-gt0, then-k-eq1, else-k-eq1}
 use Rattle.listing.proofs.entries.+list_slots.Goals as goal
+
+pub loop-k-init : goal.loop-k-init
+loop-k-init t c =
+    let a = c.args in
+    let v = view_by a.geometry a.table.now a.image.now in
+    (omega arith, omega arith, omega arith, refl, λ after end w. wrote_as (left-all (to_z w32 (of_z w32 a.minutes)) v a.table.now a.below (path_bytes a.path) a.start a.count) w)
 
 pub loop-k-preserved : goal.loop-k-preserved
 loop-k-preserved t c =
