@@ -1,5 +1,6 @@
 // An image in the other format: the data of each page as read, written in turn.
 #![tactic(auto)]
+
 ghost use Rattle.std.specs.Prelude.{◌≡◌, true, List, ℕ, ◌<◌, length, replicate};
 ghost use Rattle.page.specs.declared.Format.TheVariants.{Plain, Raw};
 ghost use Rattle.page.specs.Page.{is_some, page_at, pages_in};
