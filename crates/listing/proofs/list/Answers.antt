@@ -2,7 +2,6 @@
 use mathlib.Core.Path.{◌∙◌, ap, sym}
 use mir.Syntax.{w32}
 use mir.ValLaws.{to_z-of_z}
-use borrow.Author.Tests.{not-false, not-true}
 use Rattle.layout.specs.Refusal.{number_of, page_of}
 use Rattle.model.specs.Calendar.{is_shift}
 use Rattle.tree.specs.Counted.{told_counts}
@@ -10,7 +9,6 @@ use Rattle.listing.specs.Text.{listing_of}
 use Rattle.listing.proofs.EmitLaws.{wrote_as, wrote-listing}
 use Rattle.listing.proofs.ListingLaws.{listing-elsewhere, listing-refused}
 use Rattle.listing.proofs.SizeLaws.{listing-short}
-use borrow.Author.Rules.{rules}
 use Rattle.listing.proofs.list.Goals as goal
 
 pub returns-then-not-is_shift : goal.returns-then-not-is_shift

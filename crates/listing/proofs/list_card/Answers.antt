@@ -9,7 +9,6 @@ use Rattle.lookup.proofs.CardLaws.{accepted, words-fit, words-hold}
 use Rattle.listing.specs.Text.{tree_text}
 use Rattle.listing.proofs.EmitLaws.{wrote-append, wrote_as}
 use Rattle.listing.proofs.ListingLaws.{listing-card, opens, passes}
-use borrow.Author.Rules.{rules}
 use Rattle.listing.proofs.list_card.Goals as goal
 
 pub list_words-requires : goal.list_words-requires

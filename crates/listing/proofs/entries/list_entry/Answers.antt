@@ -2,7 +2,6 @@
 use mathlib.Core.Bool.{false}
 use mathlib.Core.Path.{◌∙◌, ◌≡◌, ap, sym}
 use native.Mathlib.Omega.{arith}
-use borrow.Author.Tests.{not-false, not-true}
 use mir.Syntax.{w32}
 use mir.ValLaws.{to_z-of_z}
 use Rattle.fields.specs.Calendar.{shown_as}
@@ -15,7 +14,6 @@ use Rattle.tree.proofs.LookLaws.{unread, was_read}
 use Rattle.listing.specs.Paths.{path_bytes}
 use Rattle.listing.proofs.EmitLaws.{wrote_as, wrote_none}
 use Rattle.listing.proofs.EntryLaws.{directory-leads, directory-line, file-leads, file-line, leads-nowhere, name-fits, no_line, seen_by}
-use borrow.Author.Rules.{rules}
 use Rattle.listing.proofs.entries.list_entry.Goals as goal
 
 pub returns-then-not-read_slot : goal.returns-then-not-read_slot

@@ -1,7 +1,6 @@
 -- `list_tree` lists the slots behind cluster 0, as many as the root's first page counts.
 use mathlib.Core.List.{[]}
 use mathlib.Core.Path.{◌∙◌, ap, refl}
-use borrow.Author.Tests.{not-false, not-true}
 use mir.Syntax.{w32}
 use mir.Val.{of_z, to_z}
 use mir.ValLaws.{to_z-of_z}
@@ -13,7 +12,6 @@ use Rattle.tree.proofs.LookLaws.{was_read}
 use Rattle.listing.specs.Text.{tree_text}
 use Rattle.listing.proofs.EmitLaws.{wrote_as}
 use Rattle.listing.proofs.TreeLaws.{root-read}
-use borrow.Author.Rules.{rules}
 use Rattle.listing.proofs.entries.list_tree.Goals as goal
 
 pub returns-then-not-read_slot : goal.returns-then-not-read_slot
