@@ -6,8 +6,8 @@ use Rattle.tree.proofs.LookLaws.{unread}
 use Rattle.tree.proofs.along.dead_at.Goals as goal
 
 pub returns-then-not-read_slot : goal.returns-then-not-read_slot
-returns-then-not-read_slot c = rw (unread c.read_slot.ensures (c.if-not-read_slot.true))
+returns-then-not-read_slot c = rw (unread c.read_slot.ensures c.if-not-read_slot.true)
 
 pub returns : goal.returns
 returns c =
-    shown-dead _ c.read_slot.ensures (c.if-not-read_slot.false) c.is_live.ensures
+    shown-dead _ c.read_slot.ensures c.if-not-read_slot.false c.is_live.ensures

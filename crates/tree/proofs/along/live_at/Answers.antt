@@ -16,8 +16,8 @@ returns-then-k-from c = before _ _ _ c.if-k-from.true
 
 pub returns-then-not-read_slot : goal.returns-then-not-read_slot
 returns-then-not-read_slot c =
-    after c.args.from c.args.k _ _ (omega (arith, c.if-k-from.false)) (none-lives (unread c.read_slot.ensures (c.if-not-read_slot.true)))
+    after c.args.from c.args.k _ _ (omega (arith, c.if-k-from.false)) (none-lives (unread c.read_slot.ensures c.if-not-read_slot.true))
 
 pub returns : goal.returns
 returns c =
-    after c.args.from c.args.k _ _ (omega (arith, c.if-k-from.false)) (shown-live _ c.read_slot.ensures (c.if-not-read_slot.false) c.is_live.ensures)
+    after c.args.from c.args.k _ _ (omega (arith, c.if-k-from.false)) (shown-live _ c.read_slot.ensures c.if-not-read_slot.false c.is_live.ensures)

@@ -10,7 +10,7 @@ use Rattle.tree.proofs.walk.judge_dot.Goals as goal
 pub returns-then-not-read_needed : goal.returns-then-not-read_needed
 returns-then-not-read_needed c =
     let a = c.args in record {
-      judged = dot-unread (view_by a.geometry a.table.now a.image.now) a.geometry _ _ _ _ (unread c.read_needed.ensures.read (c.if-not-read_needed.true)) (omega (arith, c.image_page.ensures));
+      judged = dot-unread (view_by a.geometry a.table.now a.image.now) a.geometry _ _ _ _ (unread c.read_needed.ensures.read c.if-not-read_needed.true) (omega (arith, c.image_page.ensures));
       counted = tt;
     }
 
@@ -26,6 +26,6 @@ returns-then-is_directory-is_named c =
 pub returns : goal.returns
 returns c =
     let a = c.args in record {
-      judged = dot-bad (view_by a.geometry a.table.now a.image.now) a.geometry _ _ _ _ (was_read c.read_needed.ensures.read (c.if-not-read_needed.false)) _ _ c.is_directory.ensures c.is_named.ensures c.if-is_directory-is_named.false;
+      judged = dot-bad (view_by a.geometry a.table.now a.image.now) a.geometry _ _ _ _ (was_read c.read_needed.ensures.read c.if-not-read_needed.false) _ _ c.is_directory.ensures c.is_named.ensures c.if-is_directory-is_named.false;
       counted = tt;
     }
