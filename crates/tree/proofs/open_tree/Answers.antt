@@ -1,5 +1,5 @@
 -- `tree::open_tree` meets its contract: the verdict on the tree, with the count where it is sound.
-use Rattle.std.proofs.Common.{take, arith, length-take-le, rules}
+use Rattle.std.proofs.Common.{take, arith, length-take-le}
 use Rattle.layout.specs.declared.Verdict.TheVariants as verdict
 use Rattle.tree.proofs.CheckLaws.{opened-mended, opened-none, opened-told}
 use Rattle.tree.proofs.open_tree.Goals as goal

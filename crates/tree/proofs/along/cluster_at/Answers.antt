@@ -1,6 +1,6 @@
 -- The loop of `cluster_at` keeps the cluster of half cluster k.
-use Rattle.std.proofs.Common.{◌≡◌, ◌-◌, ◌^◌, ◌<◌, ◌≤◌, ◌∙◌, ⊎_elim, arith, rules}
-use Rattle.tree.specs.Slots.{cluster_at, cluster_after}
+use Rattle.std.proofs.Common.{◌≡◌, ◌∙◌, arith}
+use Rattle.tree.specs.Slots.{cluster_after}
 use Rattle.tree.proofs.ScanLaws.{cluster-start, cluster-step}
 use Rattle.tree.proofs.LookLaws.{step-even, step-odd}
 use Rattle.tree.proofs.along.cluster_at.Goals as goal

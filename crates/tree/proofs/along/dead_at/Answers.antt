@@ -1,6 +1,4 @@
 -- `dead_at` reads the page and judges its entry, so it answers what the view's entry says.
-use Rattle.std.proofs.Common.{rules}
-use borrow.Author.Tests.{not-false, not-true}
 use Rattle.tree.proofs.PageReads.{shown-dead}
 use Rattle.tree.proofs.LookLaws.{unread}
 use Rattle.tree.proofs.along.dead_at.Goals as goal

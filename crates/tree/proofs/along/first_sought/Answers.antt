@@ -1,9 +1,7 @@
 -- The loop of `first_sought` keeps that the slots left give the answer of all; `c` is the cluster of slot k.
-use Rattle.std.proofs.Common.{◌≡◌, ◌-◌, ◌^◌, ◌<◌, sym, refl, ◌∙◌, ⊎_elim, arith, rules}
-use Rattle.layout.specs.See.{view_by}
-use Rattle.tree.specs.Scan.{scan, seeks}
-use Rattle.tree.specs.Slots.{slot_pages, cluster_after}
-use Rattle.tree.proofs.ScanLaws.{rest, scan-end, scan-here, scan-later}
+use Rattle.std.proofs.Common.{◌≡◌, sym, refl, ◌∙◌, arith}
+use Rattle.tree.specs.Slots.{cluster_after}
+use Rattle.tree.proofs.ScanLaws.{scan-end, scan-here, scan-later}
 use Rattle.tree.proofs.LookLaws.{step-even, step-odd}
 use Rattle.tree.proofs.along.first_sought.Goals as goal
 use Rattle.tree.proofs.along.first_sought.Goals.{then-k-eq1, else-k-eq1}

@@ -1,6 +1,6 @@
 -- `live_at` reads the page only from slot `from` on, and answers what the view's entry there says.
-use Rattle.std.proofs.Common.{◌≡◌, ℕ, ◌<◌, ◌≤◌, Bool, false, ◌&&◌, leb, arith, rules, le-leb}
-use borrow.Author.Tests.{lt-leb, not-false, not-true}
+use Rattle.std.proofs.Common.{◌≡◌, ℕ, ◌<◌, ◌≤◌, Bool, false, ◌&&◌, leb, arith, le-leb}
+use borrow.Author.Tests.{lt-leb}
 use Rattle.tree.proofs.PageReads.{none-lives, shown-live}
 use Rattle.tree.proofs.LookLaws.{unread}
 use Rattle.tree.proofs.along.live_at.Goals as goal

@@ -1,6 +1,4 @@
 -- `named_at` reads the page and judges its entry, so it answers what the view's entry says.
-use Rattle.std.proofs.Common.{rules}
-use borrow.Author.Tests.{not-false, not-true}
 use Rattle.tree.proofs.PageReads.{named_live}
 use Rattle.tree.proofs.LookLaws.{unread}
 use Rattle.tree.proofs.along.named_at.Goals as goal

@@ -1,6 +1,5 @@
 -- `tree::names::is_same` meets its contract: the mark, the name, the slot.
-use Rattle.std.proofs.Common.{sym, ◌∙◌, rules, eq-eqb, ne_eqb}
-use borrow.Author.Tests.{not-false, not-true}
+use Rattle.std.proofs.Common.{sym, ◌∙◌, eq-eqb, ne_eqb}
 use Rattle.tree.specs.Met.{is_same}
 use Rattle.tree.proofs.names.is_same.Goals as goal
 

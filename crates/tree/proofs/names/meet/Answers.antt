@@ -1,7 +1,6 @@
 -- `tree::names::meet` meets its contract: what is left of the search gives what the whole of it gives.
-use Rattle.std.proofs.Common.{◌≡◌, ◌≤◌, sym, refl, ◌∙◌, arith, rules}
+use Rattle.std.proofs.Common.{sym, refl, ◌∙◌, arith}
 use Rattle.layout.specs.See.{view_by}
-use Rattle.tree.specs.Met.{Small, known, learnt}
 use Rattle.tree.proofs.MetLaws.{search-empty, search-found, search-next, search-over}
 use Rattle.tree.proofs.names.meet.Goals as goal
 

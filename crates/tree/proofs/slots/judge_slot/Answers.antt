@@ -1,5 +1,5 @@
 -- `tree::slots::judge_slot` meets its contract: a page of the view is the image's page.
-use Rattle.std.proofs.Common.{◌≡◌, sym, ap, ◌∙◌, arith, rules}
+use Rattle.std.proofs.Common.{◌≡◌, sym, ap, ◌∙◌, arith}
 use Rattle.layout.specs.See.{image_page}
 use Rattle.page.specs.Page.{is_some}
 use Rattle.tree.proofs.PagePlaces.{inside, outside, past}

@@ -1,6 +1,6 @@
 -- `tree::slots::read_needed` meets its contract: a page of the view is the image's page.
 use Rattle.layout.specs.declared.Geometry.{Geometry}
-use Rattle.std.proofs.Common.{◌≡◌, ℕ, ◌+◌, Bool, false, List, sym, refl, ◌∙◌, arith, rules}
+use Rattle.std.proofs.Common.{◌≡◌, ℕ, ◌+◌, Bool, false, List, sym, refl, ◌∙◌, arith}
 use mathlib.Core.Option.{Option, none, some}
 use borrow.Author.Tests.{not-false, not-true}
 use Rattle.layout.specs.See.{image_page}

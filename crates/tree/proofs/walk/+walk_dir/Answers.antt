@@ -1,5 +1,5 @@
 -- The walk of a directory's inside: the model's walk, slot by slot.
-use Rattle.std.proofs.Common.{◌≡◌, ℕ, ◌+◌, ◌-◌, ◌<◌, ◌≤◌, Bool, true, false, ◌&&◌, ltb, sym, refl, ◌∙◌, inl, inr, arith, ltb-false, ltb-true}
+use Rattle.std.proofs.Common.{◌≡◌, ℕ, ◌+◌, ◌<◌, ◌≤◌, Bool, true, false, ◌&&◌, ltb, sym, refl, ◌∙◌, inl, inr, arith, ltb-false, ltb-true}
 use Rattle.layout.specs.See.{on_image, view_by}
 use Rattle.model.proofs.Equality.{and_l, and_r}
 use Rattle.reached.specs.Marks.{Sound, marks_of}

@@ -1,7 +1,6 @@
 -- `tree::walk::judge_dot` meets its contract: page, then the entry's rule.
 use Rattle.layout.specs.See.{view_by}
-use Rattle.std.proofs.Common.{arith, rules}
-use borrow.Author.Tests.{not-false, not-true}
+use Rattle.std.proofs.Common.{arith}
 use Rattle.tree.specs.Mended.{mended_page}
 use Rattle.tree.proofs.LookLaws.{read-adds, unread, was_read}
 use Rattle.tree.proofs.TellLaws.{dot-bad, dot_good, dot-unread}

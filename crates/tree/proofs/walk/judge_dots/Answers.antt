@@ -1,6 +1,5 @@
 -- `tree::walk::judge_dots` meets its contract: `.` before `..`.
-use Rattle.std.proofs.Common.{◌≡◌, ◌+◌, ◌*◌, sym, ◌∙◌, arith, rules}
-use borrow.Author.Tests.{not-false, not-true}
+use Rattle.std.proofs.Common.{◌≡◌, ◌+◌, ◌*◌, sym, ◌∙◌, arith}
 use Rattle.layout.specs.See.{view_by}
 use Rattle.model.specs.Check.{judge_dot}
 use Rattle.model.specs.Names.{dot_dot_name, dot_name}

@@ -1,6 +1,5 @@
 -- `tree::walk::look_at` meets its contract: a name that is not met in the cells is new, another is compared.
-use Rattle.std.proofs.Common.{◌<◌, sym, ap, ◌∙◌, arith, rules}
-use borrow.Author.Tests.{not-false, not-true}
+use Rattle.std.proofs.Common.{◌<◌, sym, ap, ◌∙◌, arith}
 use Rattle.layout.specs.See.{view_by}
 use Rattle.tree.specs.Mended.{mended_page}
 use Rattle.tree.specs.Met.{most_pages}

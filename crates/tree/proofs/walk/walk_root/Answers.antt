@@ -1,5 +1,5 @@
 -- `tree::walk::walk_root` meets its contract: the root's first entry, its chain, its inside.
-use Rattle.std.proofs.Common.{◌+◌, ◌/◌, ◌%◌, sym, refl, ◌∙◌, arith, rules}
+use Rattle.std.proofs.Common.{◌+◌, ◌/◌, ◌%◌, sym, refl, ◌∙◌, arith}
 use borrow.Author.Tests.{not-false, not-true}
 use Rattle.layout.specs.See.{view_by}
 use Rattle.tree.specs.Mended.{mended_page}
