@@ -28,11 +28,11 @@ loop-k-preserved c =
     let w = c.loop-k in
     let x : c.if-k-eq1.c ≡ cluster_after t w.c w.k =
     elim c.if-k-eq1.branch [
-      then-k-eq1 v ↦ step-odd t w.c w.k _ v.if-k-eq1.true (v.c-is ∙ v.next_of-c.ensures)
+      | then-k-eq1 v ↦ step-odd t w.c w.k _ v.if-k-eq1.true (v.c-is ∙ v.next_of-c.ensures)
       | else-k-eq1 v ↦ step-even t w.c w.k _ v.if-k-eq1.false v.c-is
     ] in (
       elim c.if-k-eq1.branch [
-        then-k-eq1 v ↦ omega (arith, v.next_of-c.ensures, c.type_inv.table w.c)
+        | then-k-eq1 v ↦ omega (arith, v.next_of-c.ensures, c.type_inv.table w.c)
         | else-k-eq1 v ↦ omega arith
       ],
       scan-later _ _ _ _ _ c.loop-k-test.true _ _ c.slot_page-page.ensures.0 x (sym c.is_sought.ensures ∙ c.if-is_sought.false)

@@ -53,7 +53,7 @@ walk_dir-b-requires t c =
     (w.invariant.0 _ (inside-stands v mend a.geometry a.below a.table.now a.first a.entries a.reached a.mended.now c.requires.1 _ c.judge_dots-v.ensures.judged _ c.judge_dots-v.ensures.counted c.next_of-start.result c.slots_of-left.result c.next_of-start.ensures c.slots_of-left.ensures)) sound in
     let chain = near-joined a.table.now w.r c.task_of-task.result.first c.task_of-task.result.clusters stands.1.at c.walk_near-a.result c.walk_near-a.ensures joined.r joined.sound
     (elim joined.branch [
-      then-a-gt0 y ↦ inl (y.walk_chain-far.result, y.if-a-gt0.true, y.walk_chain-far.ensures, y.r-is, y.sound-is)
+      | then-a-gt0 y ↦ inl (y.walk_chain-far.result, y.if-a-gt0.true, y.walk_chain-far.ensures, y.r-is, y.sound-is)
       | else-a-gt0 y ↦ inr (y.if-a-gt0.false, y.r-is, y.sound-is)
     ]) in
     let go = task-inside a.table.now c.requires.0 v mend (λ n. refl) a.geometry a.below w.r stands.1 0 (record { sound = joined.sound; reached = joined.r }) c.look_at.result (rw task at c.if-task.true) (rw task at chain) (rw task at c.if-sound-task.true) in
@@ -82,32 +82,32 @@ loop-left-preserved t c =
     let sound = sym c.is_sound.ensures ∙ and_r (ltb 0 w.left) c.is_sound.result c.loop-left-test.true in
     let told : Sound w.r → Tells (entered_look v mend g b tb (marks_of w.r) count seen.result) joined.v joined.r joined.mended =
     λ kept. elim joined.branch [
-      then-task+then-sound-task z ↦
-        let chain = near-joined tb w.r made.first made.clusters kept.at z.walk_near-a.result z.walk_near-a.ensures z.if-a-gt0.r z.if-a-gt0.sound
-        (elim z.if-a-gt0.branch [
-          then-a-gt0 y ↦ inl (y.walk_chain-far.result, y.if-a-gt0.true, y.walk_chain-far.ensures, y.r-is, y.sound-is)
-          | else-a-gt0 y ↦ inr (y.if-a-gt0.false, y.r-is, y.sound-is)
-        ]) in
-        let go = task-inside tb c.requires.0 v mend (λ n. refl) g b w.r kept count (record { sound = z.if-a-gt0.sound; reached = z.if-a-gt0.r }) seen.result (rw task at z.if-task.true) (rw task at chain) (rw task at z.if-sound-task.true) in
-        rw (z.mended-is, z.v-is, z.r-is) (go.2 _ _ _ (rw task at z.walk_dir-b.ensures.tells))
+      | then-task+then-sound-task z ↦
+          let chain = near-joined tb w.r made.first made.clusters kept.at z.walk_near-a.result z.walk_near-a.ensures z.if-a-gt0.r z.if-a-gt0.sound
+          (elim z.if-a-gt0.branch [
+            | then-a-gt0 y ↦ inl (y.walk_chain-far.result, y.if-a-gt0.true, y.walk_chain-far.ensures, y.r-is, y.sound-is)
+            | else-a-gt0 y ↦ inr (y.if-a-gt0.false, y.r-is, y.sound-is)
+          ]) in
+          let go = task-inside tb c.requires.0 v mend (λ n. refl) g b w.r kept count (record { sound = z.if-a-gt0.sound; reached = z.if-a-gt0.r }) seen.result (rw task at z.if-task.true) (rw task at chain) (rw task at z.if-sound-task.true) in
+          rw (z.mended-is, z.v-is, z.r-is) (go.2 _ _ _ (rw task at z.walk_dir-b.ensures.tells))
       | then-task+else-sound-task z ↦
-        let chain = near-joined tb w.r made.first made.clusters kept.at z.walk_near-a.result z.walk_near-a.ensures z.if-a-gt0.r z.if-a-gt0.sound
-        (elim z.if-a-gt0.branch [
-          then-a-gt0 y ↦ inl (y.walk_chain-far.result, y.if-a-gt0.true, y.walk_chain-far.ensures, y.r-is, y.sound-is)
-          | else-a-gt0 y ↦ inr (y.if-a-gt0.false, y.r-is, y.sound-is)
-        ]) in
-        rw (z.mended-is, z.v-is, z.r-is, z.sound_by-v.ensures) (task-chain tb c.requires.0 v mend (λ n. refl) g b w.r kept count (record { sound = z.if-a-gt0.sound; reached = z.if-a-gt0.r }) seen.result (rw task at z.if-task.true) (rw task at chain) (rw task at z.if-sound-task.false))
+          let chain = near-joined tb w.r made.first made.clusters kept.at z.walk_near-a.result z.walk_near-a.ensures z.if-a-gt0.r z.if-a-gt0.sound
+          (elim z.if-a-gt0.branch [
+            | then-a-gt0 y ↦ inl (y.walk_chain-far.result, y.if-a-gt0.true, y.walk_chain-far.ensures, y.r-is, y.sound-is)
+            | else-a-gt0 y ↦ inr (y.if-a-gt0.false, y.r-is, y.sound-is)
+          ]) in
+          rw (z.mended-is, z.v-is, z.r-is, z.sound_by-v.ensures) (task-chain tb c.requires.0 v mend (λ n. refl) g b w.r kept count (record { sound = z.if-a-gt0.sound; reached = z.if-a-gt0.r }) seen.result (rw task at z.if-task.true) (rw task at chain) (rw task at z.if-sound-task.false))
       | else-task z ↦
-        rw (z.mended-is, z.v-is, z.r-is, task) (task-idle tb c.requires.0 v mend (λ n. refl) g b w.r kept count seen.result (rw task at z.if-task.false))
+          rw (z.mended-is, z.v-is, z.r-is, task) (task-idle tb c.requires.0 v mend (λ n. refl) g b w.r kept count seen.result (rw task at z.if-task.false))
     ] in
     let cells : Knows v tb a.first c.next_of-start.result (w.k + 1) joined.cells × Grows a.cells.now joined.cells =
     elim joined.branch [
-      then-task+then-sound-task z ↦
-        rw z.cells-is (knows_on v tb a.first _ _ _ _ _ _ w.invariant.4 seen.ensures.knows z.walk_dir-b.ensures.grows)
+      | then-task+then-sound-task z ↦
+          rw z.cells-is (knows_on v tb a.first _ _ _ _ _ _ w.invariant.4 seen.ensures.knows z.walk_dir-b.ensures.grows)
       | then-task+else-sound-task z ↦
-        rw z.cells-is (knows_on v tb a.first _ _ _ _ _ _ w.invariant.4 seen.ensures.knows (grows_self _))
+          rw z.cells-is (knows_on v tb a.first _ _ _ _ _ _ w.invariant.4 seen.ensures.knows (grows_self _))
       | else-task z ↦
-        rw z.cells-is (knows_on v tb a.first _ _ _ _ _ _ w.invariant.4 seen.ensures.knows (grows_self _))
+          rw z.cells-is (knows_on v tb a.first _ _ _ _ _ _ w.invariant.4 seen.ensures.knows (grows_self _))
     ] in (
       λ whole h.
           let here = stands-sound v mend g b tb c.next_of-start.result w.c w.k w.left whole w.v w.r w.mended (w.invariant.0 whole h) sound in
