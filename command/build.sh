@@ -1,7 +1,7 @@
 # shellcheck shell=bash disable=SC2154,SC2317
 # What ./ps2card and ./install share: proving the library and compiling the command where they are missing or older
 # than their sources. `home` is the repository. Everything said goes to standard error; what cannot be done is status 3.
-library=$home/target/staticlib/libps2card.a
+library=$home/crates/ps2card/out/libps2card.a
 command=$home/build/release/ps2card
 
 say() { echo "ps2card: $*" >&2; }
@@ -14,7 +14,11 @@ stale() {
     shift
     [ ! -e "$made" ] || [ -n "$(find "$@" -newer "$made" -print -quit)" ]
 }
-stale_library() { stale "$library" "$home/crates.txt" "$home/crates" -type f \( -name '*.rt' -o -name '*.antt' -o -name crates.txt \); }
+stale_library() {
+    # What rt makes of the sources stands in the out/ of each crate.
+    stale "$library" "$home/crates.txt" "$home/crates" -name out -prune -o \
+        -type f \( -name '*.rt' -o -name '*.antt' -o -name crates.txt \)
+}
 stale_command() { stale "$command" "$library" "$home/Cargo.toml" "$home/Cargo.lock" "$home/command" -type f; }
 
 # Runs its words in a process group of their own and waits. A signal to this script ends the whole group, so that no
@@ -66,31 +70,35 @@ crates_below() {
         END { visit(want) }' "$home/crates.txt"
 }
 
-# What a crate takes, in seconds on two processors: measured, about one for each two kilobytes of its functions' proofs.
-seconds_of() { echo $(($(find "$home/crates/$1/proofs" -name Proof.antt -exec cat {} + 2>/dev/null | wc -c) / 2000 + 4)); }
+# What a crate takes, in seconds on two processors: measured, about one for each kilobyte of its functions' proofs.
+seconds_of() { echo $(($(find "$home/crates/$1/proofs" -mindepth 2 -name '*.antt' -exec cat {} + 2>/dev/null | wc -c) / 1000 + 4)); }
 
 # Reads what rt prints, all of it into a log, and says how far it is whenever rt is silent for a second: crates that are
-# proved already pass without a word.
+# proved already pass without a word. rt names a crate as it begins it, in the order of crates_below.
 tell_progress() {
-    local log=$1 name total=0 done=0 told=-1 left=0 line part='' began=$SECONDS past=0
-    local -A seconds
+    local log=$1 name total=0 done=0 told=-1 all=0 left line part='' began=$SECONDS past=0 proving=''
+    local -A seconds place before
     for name in $(crates_below ps2card); do
         seconds[$name]=$(seconds_of "$name")
-        left=$((left + seconds[$name]))
+        place[$name]=$total
+        before[$name]=$all
+        all=$((all + ${seconds[$name]}))
         total=$((total + 1))
     done
+    left=$all
     while :; do
         if IFS= read -r -t 1 line; then
             line=$part$line
             part=
             echo "$line" >>"$log"
             case $line in
-            'rt: '*' proved ('*)
-                name=${line#rt: }
-                name=${name%% *}
-                done=$((done + 1))
-                left=$((left - ${seconds[$name]:-0}))
-                [[ $line == *'(unchanged '* ]] || past=$((past + ${seconds[$name]:-0}))
+            'rt: chose --jobs '*' for '*)
+                name=${line##* }
+                [ -n "${place[$name]-}" ] || continue
+                [ -z "$proving" ] || past=$((past + ${seconds[$proving]}))
+                proving=$name
+                done=${place[$name]}
+                left=$((all - ${before[$name]}))
                 ;;
             esac
         elif [ $? -gt 128 ]; then
@@ -106,25 +114,24 @@ how_far() {
     # By the pace so far, beside a minute of the usual one, so that the first crates do not decide it.
     local rest=$((left * (past > 0 ? SECONDS - began + 60 : 60) / (past + 60))) minutes
     minutes=$(((rest + 59) / 60))
-    # rt says nothing of the last crate but that its archive is there.
     say "proving the library: crate $((done + 1)) of $total, about $minutes minute$([ "$minutes" -eq 1 ] || echo s)"
 }
 
 prove() {
     set +m -o pipefail
-    cd "$home" || return
-    rt staticlib ps2card 2>&1 | tell_progress "$1"
+    cd "$home/crates/ps2card" || return
+    rt lib 2>&1 | tell_progress "$1"
 }
 
 # The library, by rt. Call it under the lock.
 build_library() {
     stale_library || return 0
     need rt "the Rattle kit proves the library"
-    writable "$home/target" || fail "cannot write to $home/target, where the library is proved"
+    writable "${library%/*}" || fail "cannot write to ${library%/*}, where the library is proved"
     local log=$home/build/library.log
     { : >"$log"; } 2>/dev/null || fail "cannot write to $log"
     if ! in_group prove "$log"; then
-        grep -E 'NOT PROVED|: error|^rt: ' "$log" | grep -v ' proved (' | tail -n 5 >&2 || true
+        grep -E ': not proved|: error|^rt: ' "$log" | grep -vE '^rt: (chose |rt |.*: begins with )' | tail -n 5 >&2 || true
         fail "the library is not proved; $log has what rt said"
     fi
     touch "$library"

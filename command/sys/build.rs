@@ -7,7 +7,7 @@ fn main() {
     println!("cargo:rerun-if-env-changed=PS2CARD_LIB_DIR");
     let folder = env::var_os("PS2CARD_LIB_DIR").map(PathBuf::from).unwrap_or_else(|| {
         let manifest = env::var_os("CARGO_MANIFEST_DIR").expect("cargo sets this");
-        Path::new(&manifest).join("../../target/staticlib")
+        Path::new(&manifest).join("../../crates/ps2card/out")
     });
     let archive = folder.join("libps2card.a");
     println!("cargo:rerun-if-changed={}", archive.display());

@@ -16,18 +16,19 @@ use common::Folder;
 
 const ROOT: &str = concat!(env!("CARGO_MANIFEST_DIR"), "/..");
 
-/// Proves three crates, as rt tells of it, and writes the archive. It takes its time over two of them.
+/// Proves two crates, as rt tells of it, and writes the archive: the lowest one is proved already. It takes its time over
+/// both.
 const PROVES: &str = "#!/bin/sh
-echo 'rt: low proved (unchanged since it was last proved)'
-echo 'fn low::f: proved'
+echo 'rt: chose --jobs 2 for middle'
 sleep 2
-echo '/crates/middle/proofs/f/Proof.antt:1:1: note: large solution'
-echo 'rt: middle proved (3 s)'
+echo './proofs/f/Answers.antt:1:1: note: large solution'
+echo 'fn middle::f: proved'
+echo 'crate middle: modules loaded=0 checked=13'
+echo 'logic=proved functions=1'
+echo 'rt: chose --jobs 2 for ps2card'
 sleep 2
-mkdir -p target/staticlib
-echo archive >target/staticlib/libps2card.a
-echo 'logic=proved functions=13'
-echo 'rt: target/staticlib/libps2card.a has the functions of ps2card'
+echo archive >out/libps2card.a
+echo 'logic=proved functions=12'
 ";
 
 /// Compiles a command that repeats its words.
@@ -52,8 +53,8 @@ fn repository(rt: &str) -> Folder {
         fs::copy(Path::new(ROOT).join(copied), folder.path(copied)).expect("a copy");
     }
     folder
-        .write("crates.txt", b"low:\n# the middle one\nmiddle: low check bytes\nps2card: middle low\nother: ps2card\n");
-    folder.write("crates/middle/proofs/f/Proof.antt", &[b'x'; 300_000]);
+        .write("crates.txt", b"low:\n# the middle one\nmiddle: low check\nps2card staticlib: middle low\nother: low\n");
+    folder.write("crates/middle/proofs/f/Answers.antt", &[b'x'; 150_000]);
     folder.write("Cargo.toml", b"");
     folder.write("Cargo.lock", b"");
     program(&folder.path("tools/rt"), rt);
@@ -94,7 +95,7 @@ fn first_use() {
     assert_eq!(lines[0], "ps2card: proving the library: crate 2 of 3, about 3 minutes");
     assert_eq!(lines[1], "ps2card: proving the library: crate 3 of 3, about 1 minute");
     assert_eq!(lines[2], "ps2card: compiling the command ...");
-    assert!(fs::read_to_string(folder.path("build/library.log")).expect("a log").contains("has the functions"));
+    assert!(fs::read_to_string(folder.path("build/library.log")).expect("a log").contains("functions=12"));
 
     let again = launch(&folder, &["ls"]).output().expect("it runs");
     assert_eq!(texts(&again), ("ran ls\n".to_string(), String::new()));
@@ -103,13 +104,18 @@ fn first_use() {
 /// A library that is not proved is status 3: which crate, and where all of it stands.
 #[test]
 fn not_proved() {
-    let fails =
-        "#!/bin/sh\necho 'rt: low proved (1 s)'\necho 'f.antt:1:1: error: no'\necho 'rt: middle NOT PROVED'\nexit 1\n";
+    let fails = "#!/bin/sh
+echo 'rt: chose --jobs 2 for middle'
+echo 'f.antt:1:1: error: no'
+echo 'fn middle::f: not proved'
+echo 'rt: the library middle did not build, so nothing above it was checked'
+exit 1
+";
     let folder = repository(fails);
     let output = launch(&folder, &["ls"]).output().expect("it runs");
     let (out, err) = texts(&output);
     assert_eq!((output.status.code(), out.as_str()), (Some(3), ""), "{err}");
-    assert!(err.contains("rt: middle NOT PROVED\n") && err.contains("ps2card: the library is not proved; "), "{err}");
+    assert!(err.contains("fn middle::f: not proved\n") && err.contains("ps2card: the library is not proved; "), "{err}");
     fs::remove_file(folder.path("tools/rt")).expect("no rt");
     let output = launch(&folder, &["ls"]).output().expect("it runs");
     assert_eq!((output.status.code(), texts(&output).1.contains("ps2card: rt is needed")), (Some(3), true));
@@ -133,13 +139,13 @@ fn words_without_a_proof() {
         assert_eq!((texts(&told), told.status), (texts(&real), real.status), "{words:?}");
         assert!(real.stdout.len() + real.stderr.len() > 10, "{words:?}");
     }
-    assert!(!folder.path("build").exists() && !folder.path("target").exists());
+    assert!(!folder.path("build").exists() && !folder.path("crates/ps2card/out").exists());
 }
 
 /// A folder that cannot be written, even by root, is status 3 in one plain line, before anything is proved.
 #[test]
 fn unwritable() {
-    for blocked in ["build", "target"] {
+    for blocked in ["build", "crates/ps2card/out"] {
         let folder = repository("#!/bin/sh\ntouch \"$0.called\"\nexit 1\n");
         symlink("/proc", folder.path(blocked)).expect("a link");
         let output = launch(&folder, &["ls"]).output().expect("it runs");
@@ -181,7 +187,7 @@ fn wait(child: &mut Child) -> std::process::ExitStatus {
 #[test]
 fn signals() {
     for (name, number) in [("INT", 2), ("TERM", 15), ("HUP", 1)] {
-        let folder = repository("#!/bin/sh\nsleep 300 &\necho \"rt: $$ proved (0 s)\"\necho $$ $! >\"$0.ids\"\nwait\n");
+        let folder = repository("#!/bin/sh\nsleep 300 &\necho 'rt: chose --jobs 2 for low'\necho $$ $! >\"$0.ids\"\nwait\n");
         let mut child = launch(&folder, &["ls"]).stderr(Stdio::piped()).spawn().expect("it runs");
         let mut lines = BufReader::new(child.stderr.take().expect("its words")).lines();
         assert!(lines.next().is_some_and(|line| line.is_ok_and(|line| line.contains("proving the library"))));

@@ -262,18 +262,18 @@ fn minutes() {
     assert_eq!(told, times.map(|time| Some(time.to_string())));
 }
 
-/// The proved program, as `rt check list` and `rt ci` build it.
+/// The proved program, as `rt run` in its folder and `rt ci` build it.
 fn list(input: Stdio, output: Stdio) -> Output {
-    let program = home().join("target/bin/list");
-    assert!(program.exists(), "{} is missing: rt check list builds it", program.display());
+    let program = home().join("crates/list/out/list");
+    assert!(program.exists(), "{} is missing: rt run in crates/list builds it", program.display());
     let run = Command::new(program).stdin(input).stdout(output).spawn().expect("a run");
     run.wait_with_output().expect("an end")
 }
 
-/// Its exit status is 0 whatever happens, as README says.
+/// Its exit status is 0 whatever it prints, and tells of nothing but reads and writes that fail, as README says.
 #[test]
-fn list_tells_nothing_by_its_status() {
-    says("README.md", "Rattle has no exit status, so its is 0 whatever happens");
+fn list_tells_no_refusal_by_its_status() {
+    says("README.md", "Its exit status is 0 whatever it prints, a refusal too; a read or a write that fails is status 1");
     let sample = home().join("samples/bench.ps2");
     let image = fs::read(&sample).expect("a card");
     let of = |file: &Path| Stdio::from(File::open(file).expect("a file"));
@@ -281,9 +281,9 @@ fn list_tells_nothing_by_its_status() {
     let whole = list(of(&sample), Stdio::piped());
     assert_eq!((whole.status.code(), whole.stdout), (Some(0), Card::raw(&image[..]).list().expect("a listing")));
 
-    // A folder can be opened but not read: what came before the failure is nothing, and no image.
+    // A folder can be opened but not read.
     let unread = list(of(&home()), Stdio::piped());
-    assert_eq!((unread.status.code(), &unread.stdout[..]), (Some(0), &b"refused 1\n"[..]));
+    assert_eq!((unread.status.code(), &unread.stdout[..]), (Some(1), &b""[..]));
 
     // Cut where another card could end, and elsewhere.
     let cut = std::env::temp_dir().join(format!("ps2card-cut-{}.ps2", std::process::id()));
@@ -295,5 +295,5 @@ fn list_tells_nothing_by_its_status() {
     fs::remove_file(&cut).expect("a file to remove");
 
     let full = OpenOptions::new().write(true).open("/dev/full").expect("a full device");
-    assert_eq!(list(of(&sample), Stdio::from(full)).status.code(), Some(0));
+    assert_eq!(list(of(&sample), Stdio::from(full)).status.code(), Some(1));
 }

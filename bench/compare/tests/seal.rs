@@ -14,8 +14,8 @@ const BLIND: [&str; 7] = ["model", "fields", "reached", "layout", "tree", "listi
 
 /// What only `page` may say: sizes in bytes, the sealed definitions opened, and the equations that open them.
 const SIZES: [&str; 3] = ["528", "1056", "1_056"];
-const SEALED: [&str; 5] = ["pagesIn", "pageStart", "pageAt", "mendedAt", "put"];
-const EQUATIONS: [&str; 2] = ["page-is", "put-is"];
+const SEALED: [&str; 5] = ["pages_in", "page_start", "page_at", "mended_at", "put"];
+const EQUATIONS: [&str; 2] = ["page-is", "put_is"];
 
 fn files(folder: &Path, found: &mut Vec<PathBuf>) {
     for entry in fs::read_dir(folder).into_iter().flatten() {
@@ -39,8 +39,8 @@ fn broken(line: &str) -> Option<&str> {
     if line.starts_with("--") || line.starts_with("//") {
         return None;
     }
-    let opens = line.starts_with("unfolding ");
-    let imports = line.starts_with("use Rattle·page");
+    let opens = line.starts_with("unfolding ") || line.contains("unfolding(");
+    let imports = line.starts_with("use Rattle.page");
     words(line)
         .find(|word| SIZES.contains(word) || (opens && SEALED.contains(word)) || (imports && EQUATIONS.contains(word)))
 }
@@ -58,7 +58,7 @@ fn sources(name: &str) -> Vec<PathBuf> {
 
 /// Whether a line names one of the two formats.
 fn picks(line: &str) -> bool {
-    line.contains("Format.the-variants") || line.contains("Format::Raw") || line.contains("Format::Plain")
+    line.contains("Format.TheVariants") || line.contains("Format::Raw") || line.contains("Format::Plain")
 }
 
 /// The layers between the pages and the calls go by laws over the format, never by cases on it.
@@ -91,8 +91,9 @@ fn sealed() {
 #[test]
 fn seen() {
     assert_eq!(broken("    let from = 528 * page;"), Some("528"));
-    assert_eq!(broken("unfolding put storeTable"), Some("put"));
-    assert_eq!(broken("use Rattle·page.proofs.Puts.{page-is, read-none}"), Some("page-is"));
+    assert_eq!(broken("unfolding put store_table"), Some("put"));
+    assert_eq!(broken("#[tactic(auto, unfolding(page::specs::Page::put))]"), Some("put"));
+    assert_eq!(broken("use Rattle.page.proofs.Puts.{page-is, read_none}"), Some("page-is"));
     assert_eq!(broken("-- 528 bytes"), None);
     assert_eq!(broken("put always p bytes image"), None);
     let page = Path::new(env!("CARGO_MANIFEST_DIR")).join("../../crates/page/specs/Page.antt");

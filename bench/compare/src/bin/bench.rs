@@ -29,7 +29,7 @@ const GREAT_FILES: [usize; 3] = [8000, 16_000, 32_000];
 const HEADER: &str = "\
 The library, the ordinary checker (`bench/checker`) and the independent reader check the same images, in turn, after \
 one run that is not measured. Processor time of the thread in ms: the median and, in brackets, the quartiles. All three \
-are optimised: the library as `rt staticlib` builds it, the others with `opt-level = 3`.
+are optimised: the library as `rt lib` builds it, the others with `opt-level = 3`.
 
 Buffers: the image lies in memory, read-only, the same bytes for all. The library clears its own working arrays (table \
 256 KiB, cells of names 512 KiB, record of reached clusters) on the stack in each call; checker and reader allocate \
