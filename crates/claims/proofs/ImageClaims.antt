@@ -6,7 +6,7 @@ use mathlib.Core.Option.{Option, none, some}
 use mathlib.Core.Path.{◌∙◌, ◌≡◌, ap, ap₂, refl, sym}
 use lib.ListN.{length}
 use Rattle.page.specs.declared.Format.{Format}
-use Rattle.change.proofs.ChangedLaws.{Done, accepted, answered, checked-parts, performs}
+use Rattle.change.proofs.ChangedLaws.{Done, accepted, accepts, answered, checked-parts, performs, refuses}
 use Rattle.change.proofs.ChangedView.{end_is, no_words}
 use Rattle.change.specs.Changed as change
 use Rattle.change.specs.Changed.{changed, changed_by, decided, outcome_with, rules_of}
@@ -31,7 +31,7 @@ use Rattle.model.specs.Tree.{Root}
 use Rattle.model.specs.View.{Link, View}
 use Rattle.tree.specs.Counted.{check_of, counts_in, superblock_in}
 use Rattle.tree.specs.declared.Counts.{Counts}
-use Rattle.claims.specs.Claims.{Accepts, ChangeKeeps, Commute, Demand3, Kept, Order, RefusalLeaves, by_card, final, given_back_by, held_back_by, image_left, taken_by}
+use Rattle.claims.specs.Claims.{AcceptedExactly, Accepts, ChangeKeeps, Commute, Demand3, Kept, Order, RefusalLeaves, answer_by, by_card, final, given_back_by, held_back_by, image_left, taken_by}
 use Rattle.claims.specs.Seen.{count_by, free_in, held_in, standing_in, tree_in}
 
 -- ---- an accepted image
@@ -132,6 +132,14 @@ pub keeps : ChangeKeeps
 keeps format image counts e c a =
     let k = card-of format image counts e in
     kept format image k.superblock k.root k.marks k.checked c (answered format image k.superblock k.root k.marks k.checked c a)
+
+-- `refuses` and `accepts` say it of each number
+pub accepted-exactly : AcceptedExactly
+accepted-exactly format image s root m checked c = go (refusal (rules_of s) c (see s image) root) refl
+  where
+    go : (n : ℕ) → refusal (rules_of s) c (see s image) root ≡ n → (changed format c image).answer ≡ answer_by n
+    go zero e = told format image s root m checked c (accepts format image s root m checked c e)
+    go (suc n) e = ap (λ (o : change.Outcome). o.answer) ((refuses format image s root m checked c n e).0)
 
 pub refusal-leaves : RefusalLeaves
 unfolding changed

@@ -1,5 +1,5 @@
 -- The claims on images. An accepted image is one for which the check tells counts.
-use Rattle.std.specs.Prelude.{ℕ, ◌+◌, ◌-◌, ◌≤◌, ◌||◌, cond, false, true, List, ◌↔◌, ◌≡◌, length}
+use Rattle.std.specs.Prelude.{ℕ, zero, suc, ◌+◌, ◌-◌, ◌≤◌, ◌||◌, cond, false, true, List, ◌↔◌, ◌≡◌, length}
 use Rattle.page.specs.declared.Format.{Format}
 use Rattle.change.specs.Changed.{changed, rules_of}
 use Rattle.layout.specs.declared.Superblock.{Superblock}
@@ -9,7 +9,7 @@ use Rattle.model.specs.Check.{Marks, Result, fault, ok}
 use Rattle.model.specs.Claims.{chain_back}
 use Rattle.model.specs.Names.{Path, beginning, parent, same_path}
 use Rattle.model.specs.Plan.{returned, withheld}
-use Rattle.model.specs.Refusal.{locked, needed}
+use Rattle.model.specs.Refusal.{locked, needed, refusal}
 use Rattle.model.specs.Tree.{Root}
 use Rattle.model.specs.View.{Link}
 use Rattle.tree.specs.Counted.{check_of, superblock_in}
@@ -52,7 +52,7 @@ pub record Kept (format : Format) (image : List ℕ) (c : Change) : Type 0 where
   pub room : taken_by format c image ≤ free_in format image
   pub free : free_in format (image_left format c image) ≡ free_in format image - taken_by format c image + given_back_by format c image
   pub held : held_in format (image_left format c image) ≡ held_in format image + held_back_by format c image
-  -- a free table word from the limit up is still free
+  -- a free table word whose cluster may not be taken is still free
   pub untaken : (s : Superblock) → superblock_in (check_image format image) ≡ ok s → (d : ℕ) → (rules_of s).may_take d ≡ false
       → (see s image).link d ≡ Link.free → (see s (image_left format c image)).link d ≡ Link.free
   -- what is locked stays, and so does all that stands directly inside a locked directory
@@ -61,6 +61,16 @@ pub record Kept (format : Format) (image : List ℕ) (c : Change) : Type 0 where
 
 abbrev pub ChangeKeeps : Type 0
 ChangeKeeps = (format : Format) (image : List ℕ) (counts : Counts) → check_of format image ≡ ok counts → (c : Change) → Accepts format image c → Kept format image c
+
+-- A change of an accepted image is done exactly where it meets no refusal; else its answer is the first one that it meets.
+abbrev pub answer_by : ℕ → Result (Unit {0})
+answer_by zero = ok tt
+answer_by (suc n) = fault (suc n) 0
+
+abbrev pub AcceptedExactly : Type 0
+AcceptedExactly =
+    (format : Format) (image : List ℕ) (s : Superblock) (root : Root) (m : Marks) → check_image format image ≡ ok (s, root, m)
+    → (c : Change) → (changed format c image).answer ≡ answer_by (refusal (rules_of s) c (see s image) root)
 
 -- A refusal leaves the image as it was.
 abbrev pub RefusalLeaves : Type 0

@@ -24,7 +24,7 @@ abbrev pub count_by : (Counts → ℕ) → Result Counts → ℕ
 count_by count (fault n p) = 0
 count_by count (ok c) = count c
 
--- how many of the table words below the limit are free, and how many from it up
+-- how many free table words there are whose clusters may be taken, and how many whose clusters may not
 unfoldable pub free_in : Format → List ℕ → ℕ
 free_in format image = count_by (λ c. c.free) (check_of format image)
 

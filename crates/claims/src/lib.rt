@@ -9,7 +9,7 @@ ghost use Rattle.claims.specs.Numbers.{MarkedNumbers};
 ghost use Rattle.claims.specs.Pages.{CountedOnce};
 ghost use Rattle.claims.specs.ReadsTree.{TreeIsReading};
 ghost use Rattle.claims.specs.Witness.{BenchAccepted};
-ghost use Rattle.claims.specs.Claims.{ChangeKeeps, Demand3, RefusalLeaves};
+ghost use Rattle.claims.specs.Claims.{AcceptedExactly, ChangeKeeps, Demand3, RefusalLeaves};
 
 // The numbers to meet that are marked P.
 pub fn marked_numbers()
@@ -24,6 +24,11 @@ pub fn two_flips_unreadable()
 // Free, reached, orphaned and held back clusters of an accepted image add up to the allocatable ones.
 pub fn counts_add_up()
     ensures { CountsAddUp }
+{}
+
+// A change of an accepted image is done exactly where it meets no refusal, and else answers the first that it meets.
+pub fn accepted_exactly()
+    ensures { AcceptedExactly }
 {}
 
 // A refused change leaves the image as it was.

@@ -12,7 +12,7 @@ pub mod claims;
 mod parities;
 
 // The three code bytes of a chunk.
-#[derive(Drop)]
+#[derive(Clone, Copy)]
 pub struct Code {
     pub byte0: u8,
     pub byte1: u8,

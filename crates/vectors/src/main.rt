@@ -87,16 +87,11 @@ fn code_of(chunk: &[u8; 128]) -> Code {
     ecc::chunk_code(chunk)
 }
 
-fn judged(chunk: &[u8; 128], code: &Code) -> Verdict {
-    let stored = Code {
-        byte0: code.byte0,
-        byte1: code.byte1,
-        byte2: code.byte2,
-    };
-    ecc::judge_chunk(chunk, stored)
+fn judged(chunk: &[u8; 128], code: Code) -> Verdict {
+    ecc::judge_chunk(chunk, code)
 }
 
-fn is_same(a: &Code, b: &Code) -> bool {
+fn is_same(a: Code, b: Code) -> bool {
     (a.byte0 == b.byte0) & (a.byte1 == b.byte1) & (a.byte2 == b.byte2)
 }
 
@@ -156,15 +151,15 @@ fn tried(line: &[u8], i: usize, tally: Tally) -> Tally
         byte1: byte_at(line, 259),
         byte2: byte_at(line, 261),
     };
-    let same = is_same(&code_of(&chunk), &code);
-    let good = is_good(judged(&chunk, &code));
+    let same = is_same(code_of(&chunk), code);
+    let good = is_good(judged(&chunk, code));
     let n = i % 256;
     let one = (5 * n + 3) % 1024;
     flip(&mut chunk, one);
-    let found = is_at(judged(&chunk, &code), one);
+    let found = is_at(judged(&chunk, code), one);
     let two = (8 * n + 4) % 1024;
     flip(&mut chunk, two);
-    let unreadable = is_unreadable(judged(&chunk, &code));
+    let unreadable = is_unreadable(judged(&chunk, code));
     Tally {
         vectors: counted(tally.vectors, true),
         malformed: tally.malformed,
