@@ -24,7 +24,7 @@ pub loop-k-preserved : goal.loop-k-preserved
 loop-k-preserved c =
     let l = c.loop-k in
     let a = c.args in
-    let there : c.image_page.result ≡ image_page a.geometry (2 * get_or a.clusters.now (l.k / 2) 0 + l.k % 2) = omega (arith, c.well-formed.1.0.1, c.image_page.ensures, c.shared_slice_known-in-loop-k-1.given (l.k / 2)) in
+    let there : c.image_page.result ≡ image_page a.geometry (2 * get_or a.clusters.now (l.k / 2) 0 + l.k % 2) = omega (arith, c.well_formed.1.0.1, c.image_page.ensures, c.shared_slice_known-in-loop-k-1.given (l.k / 2)) in
     (omega arith, search rules, one_less a.geometry a.clusters.now a.bytes.now l.k l.image c.requires (omega arith) c.data_page-page.ensures there c.write_page.ensures ∙ l.invariant.2)
 
 pub returns : goal.returns
