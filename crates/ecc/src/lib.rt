@@ -1,4 +1,5 @@
 #![tactic(auto)]
+
 ghost use Rattle.std.specs.Prelude.{◌≡◌, List, ℕ, ◌<◌, get_or, length, take};
 ghost use Rattle.ecc.specs.Code.{code_of, contribution, ◌⊕◌};
 ghost use Rattle.ecc.specs.Four.{code_at, codes_of, judge_four};

@@ -2,7 +2,6 @@
 pub mod NumberLaws
 pub mod NameLaws
 pub mod KindLaws
-pub mod FieldLaws
 pub mod PathLaws
 pub mod ShiftLaws
 pub mod TimeLaws

@@ -1,16 +1,16 @@
 -- The lowest free clusters, and the table after a chain is written or freed.
 use Prim.Native.Nat.{◌+◌, ◌≤◌, suc, zero, ℕ}
-use mathlib.Core.Bool.{Bool, cond, false, true}
+use mathlib.Core.Bool.{Bool, false, true}
 use mathlib.Core.List.{List, [], ◌++◌, ◌∷◌}
 use mathlib.Core.Logic.{⊎_elim}
-use mathlib.Core.Path.{◌∙◌, ◌≡◌, ap, ap₂, refl}
+use mathlib.Core.Path.{◌∙◌, ◌≡◌, ap₂, refl}
 use native.Mathlib.Omega.{arith}
 use lib.Dec.{eqb}
 use lib.ListN.{length, length-append}
 use Rattle.model.specs.Counts.{free_count, held_count, is_free, is_held, orphan_count, reached_count, takeable, total_below}
 use Rattle.model.specs.Holds.{Chain, HoldsCard}
 use Rattle.model.specs.Plan.{free_below, free_chain, if_free, link_to, write_chain}
-use Rattle.model.specs.Tree.{Root, hit, reached, times}
+use Rattle.model.specs.Tree.{Root, hit, times}
 use Rattle.model.specs.View.{Link, View}
 use Rattle.model.proofs.CountLaws.{counts, total-add, total_ext}
 use Rattle.model.proofs.Equality.{Eq-number, bool}

@@ -8,14 +8,10 @@ use mathlib.Core.Path.{◌∙◌, ◌≡◌, ap, ap₂, fun_ext, refl, sym}
 use native.Mathlib.Nat.{suc-add, zero-add}
 use native.Mathlib.Omega.{arith}
 use Rattle.model.specs.Names.{Path, same_path}
-use Rattle.model.specs.Pages.{data_pages}
-use Rattle.model.specs.Plan.{free_below, growth_clusters}
 use Rattle.model.specs.Refusal.{first}
-use Rattle.model.specs.Standing.{directory}
 use Rattle.model.proofs.Equality.{Eq-path, bool, tf}
 use Rattle.model.proofs.OperationQueues.{Oks, runs}
 use Rattle.model.proofs.Operations.{AbstractCard, Accepts, Agree, Creation, Local, Operation, Room, effect, grown, need, taken, take₁, worked, worked-adds}
-use Rattle.model.proofs.TreePlaces.{place}
 
 taken-sum : (a b : ℕ) (r : Room) → taken (a + b) r ≡ taken b (taken a r)
 unfolding taken

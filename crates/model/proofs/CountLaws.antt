@@ -8,7 +8,7 @@ use lib.Dec.{eqb}
 use Rattle.model.specs.Counts.{is_free, is_orphan, total_below}
 use Rattle.model.specs.Holds.{HoldsCard, HoldsSlot, HoldsSlots, deepest}
 use Rattle.model.specs.Tree.{Root, Slot, Tree, chain_of, cluster_uses, end, entry_pages, node, reached, times}
-use Rattle.model.specs.View.{Link, View, free}
+use Rattle.model.specs.View.{Link, View}
 use Rattle.model.proofs.Chains.{links-used}
 
 pub total-add : (f g : ℕ → ℕ) (k : ℕ) → total_below f k + total_below g k ≡ total_below (λ c. f c + g c) k

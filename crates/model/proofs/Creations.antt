@@ -8,7 +8,6 @@ use native.Mathlib.Omega.{arith}
 use lib.Dec.{leb, leb→le, ltb, ltb→lt}
 use lib.ListN.{drop, length, length-drop, length-take, take}
 use Rattle.model.specs.Change.{Change, Rules, create, make_directory}
-use Rattle.model.specs.Check.{ok}
 use Rattle.model.specs.Counts.{takeable}
 use Rattle.model.specs.Entry.{Entry, clusters_for, is_file, is_subdirectory}
 use Rattle.model.specs.Holds.{HoldsCard, deepest}

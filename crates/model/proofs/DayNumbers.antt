@@ -1,5 +1,5 @@
 -- A day later is one more in the number of days, by whole years and months; so a shift adds its minutes.
-use Prim.Native.Nat.{◌%◌, ◌*◌, ◌+◌, ◌-◌, ◌/◌, ◌<◌, ◌≤◌, suc, zero, ℕ}
+use Prim.Native.Nat.{◌*◌, ◌+◌, ◌-◌, ◌/◌, ◌<◌, ◌≤◌, suc, zero, ℕ}
 use mathlib.Core.Bool.{Bool, false, true}
 use mathlib.Core.List.{List, [], ◌∷◌}
 use mathlib.Core.Path.{◌∙◌, ◌≡◌, ap, refl, sym}
@@ -11,7 +11,7 @@ use Rattle.model.specs.declared.Moment.{Moment}
 use Rattle.model.specs.Time.{days_in, in_years, is_leap, month_days}
 use Rattle.model.specs.Calendar.{day_after, day_before, days_earlier, days_later, from_midnight, minute_of_day}
 use Rattle.model.specs.Shifts.{day_number, days_of, days_of_years, minute_number}
-use Rattle.model.proofs.Calendar.{Dated, after-before, by_after, dated-after, dated-before, dated-earlier, december, on, year-before}
+use Rattle.model.proofs.Calendar.{Dated, after-before, by_after, dated-after, dated-before, dated-earlier, december, year-before}
 use Rattle.model.proofs.Shifts.{Valid, earlier-by, later-by, sub_more, year-from}
 
 total-take : (l : List ℕ) (k : ℕ) → k < length l → days_of (take (suc k) l) ≡ days_of (take k l) + get_or l k 0

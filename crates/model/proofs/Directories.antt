@@ -9,7 +9,7 @@ use native.Mathlib.Omega.{arith}
 use lib.Dec.{eqb}
 use lib.ListN.{length}
 use Rattle.model.specs.Change.{Change, Rules, path}
-use Rattle.model.specs.Entry.{Entry, is_live}
+use Rattle.model.specs.Entry.{Entry}
 use Rattle.model.specs.Holds.{HoldsCard, HoldsSlots, deepest}
 use Rattle.model.specs.Lookup.{Found, absent, found, is_named, look_from, look_in, page_at_path, tell}
 use Rattle.model.specs.Names.{Name, Path, good_name, good_names, last_name, parent}

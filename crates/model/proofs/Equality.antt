@@ -6,7 +6,6 @@ use mathlib.Core.Logic.{◌⊎◌, inl, inr}
 use mathlib.Core.Path.{◌∙◌, ◌≡◌, ap, ap₂, refl, sym}
 use native.Mathlib.Omega.{arith}
 use lib.Dec.{T, eqb, eqb_refl, eqb→eq}
-use Rattle.model.specs.Check.{sound}
 use Rattle.model.specs.Names.{Name, Path, beginning, parent, same_list}
 
 pub tf {ℓ} : {A : Type ℓ} {b : Bool} → b ≡ true → b ≡ false → A

@@ -8,7 +8,6 @@ use native.Mathlib.Omega.{arith}
 use Rattle.model.specs.Change.{Change, Crossed, Rules, creates, path}
 use Rattle.model.specs.Holds.{HoldsCard, deepest}
 use Rattle.model.specs.Names.{Path, beginning}
-use Rattle.model.specs.Perform.{done}
 use Rattle.model.specs.Tree.{Root, Slot, reached, times}
 use Rattle.model.specs.View.{View}
 use Rattle.model.proofs.ChangeOperations.{Machine, demand-3}

@@ -3,13 +3,12 @@ use Prim.Native.Nat.{◌%◌, ◌*◌, ◌+◌, ◌-◌, ◌/◌, ◌<◌, ◌�
 use mathlib.Core.Bool.{Bool, ◌&&◌, ◌||◌, false, true}
 use mathlib.Core.List.{List, [], ◌∷◌, head-eq_of_cons-eq, map, tail-eq_of_cons-eq}
 use mathlib.Core.Logic.{inl, inr, ⊎_elim}
-use mathlib.Core.Option.{none, some}
+use mathlib.Core.Option.{some}
 use mathlib.Core.Path.{◌∙◌, ◌≡◌, ap, refl, sym}
 use native.Mathlib.Omega.{arith}
 use lib.Dec.{eqb, ltb, lt→ltb}
 use lib.ListN.{length}
 use Rattle.model.specs.Change.{Rules}
-use Rattle.model.specs.Check.{dots}
 use Rattle.model.specs.Entry.{Entry, directory_clusters, end_mark, file_clusters, is_directory, is_file, is_subdirectory}
 use Rattle.model.specs.Holds.{DotEntries, HoldsSlot}
 use Rattle.model.specs.Lookup.{first_dead}

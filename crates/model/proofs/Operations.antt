@@ -5,12 +5,8 @@ use mathlib.Core.Logic.{◌⊎◌, inl, inr}
 use mathlib.Core.Option.{Option}
 use mathlib.Core.Path.{◌∙◌, ◌≡◌, ap, refl, sym}
 use native.Mathlib.Omega.{arith}
-use lib.ListN.{length}
-use Rattle.model.specs.Change.{size}
 use Rattle.model.specs.Names.{Path, same_path}
-use Rattle.model.specs.Standing.{Standing, directory}
-use Rattle.model.specs.Tree.{dead}
-use Rattle.model.specs.View.{free, last}
+use Rattle.model.specs.Standing.{Standing}
 use Rattle.model.proofs.Equality.{Eq-path, comm, tf}
 
 -- What demand 3 does not compare: a directory's dead slots from 2 and its length, and how many clusters a node gives back when it goes.

@@ -136,7 +136,7 @@ module _ (y : Rules) where
     changed h₀ s₀ g oz bz dz k f x seen ch nx ix ex room hd fn rn wk nd fd = (
       acted y v r h tab a q nm (directory_of y wh) s D wh.st (snoc-path (path a) pos) refl (altering (directory_of y wh) s nm k (chain_of h₀) f) x sh (omega arith) ft (hd ft) ex
           (both ix) old (λ m z. sl.under m z ∙ bz m z)
-          (ap (tell standing none) ix.now ∙ fn) (ap (tell (room_of_slot y) no_room) ix.now ∙ rn)
+          (ap (tell standing none) (now_at ix) ∙ fn) (ap (tell (room_of_slot y) no_room) (now_at ix) ∙ rn)
           (rooms ∙ sym (wk ((room_of_slot y) (Slot.directory wh.directory_entry wh.directory_chain) s)))
           (omega arith) fd,
       ft,

@@ -8,7 +8,7 @@ use Rattle.model.specs.Entry.{Entry}
 use Rattle.model.specs.Holds.{UniqueNames}
 use Rattle.model.specs.Lookup.{absent, is_named, look_from, look_in, tell}
 use Rattle.model.specs.Names.{Name, Path, beginning, same_name, same_path}
-use Rattle.model.specs.Tree.{Root, Slot, Tree, end, hit, name_uses, root_slot, slot_count}
+use Rattle.model.specs.Tree.{Root, Slot, Tree, end, name_uses, root_slot, slot_count}
 use Rattle.model.specs.View.{View}
 use Rattle.model.proofs.Equality.{Eq-name, Eq-path, bool, tf}
 use Rattle.model.proofs.LookupLaws.{pre-split}

@@ -13,7 +13,6 @@ use Rattle.model.specs.Holds.{Chain, UniqueNames}
 use Rattle.model.specs.Names.{good_name, same_name}
 use Rattle.model.specs.Pages.{decoded}
 use Rattle.model.specs.Plan.{Plan, after, directory_after, free_chain, link_to, set_all, write_chain}
-use Rattle.model.specs.Refusal.{own}
 use Rattle.model.specs.Tree.{Slot, Tree, chain_of, end, entry_pages, hit, slot_count, times}
 use Rattle.model.specs.View.{Link, View, pages_of}
 use Rattle.model.proofs.Allocation.{free_in, free-out, set-in, set-links, set_out, times-append}

@@ -8,7 +8,6 @@ use mathlib.Core.Path.{◌∙◌, ◌≡◌, ap, refl, sym}
 use native.Mathlib.Omega.{arith}
 use lib.ListN.{get_or, length, length-drop, length-take, take}
 use Rattle.model.specs.Change.{Change, Rules, delete, path, remove_directory}
-use Rattle.model.specs.Check.{ok}
 use Rattle.model.specs.Claims.{chain_in}
 use Rattle.model.specs.Entry.{Entry, is_live}
 use Rattle.model.specs.Holds.{HoldsCard, HoldsSlot, HoldsSlots, deepest}

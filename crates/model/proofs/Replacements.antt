@@ -8,7 +8,6 @@ use mathlib.Core.Path.{◌∙◌, ◌≡◌, ap, refl, sym}
 use native.Mathlib.Omega.{arith}
 use lib.ListN.{length}
 use Rattle.model.specs.Change.{Change, Rules, replace, replaced}
-use Rattle.model.specs.Check.{ok}
 use Rattle.model.specs.Claims.{chain_in}
 use Rattle.model.specs.Counts.{takeable}
 use Rattle.model.specs.Entry.{Entry, clusters_for, has_bit, is_file, is_live}

@@ -8,16 +8,13 @@ use mathlib.Core.Path.{◌∙◌, ◌≡◌, ap, refl, subst}
 use native.Mathlib.Omega.{arith}
 use lib.Dec.{eqb, leb→le}
 use lib.ListN.{length}
-use Rattle.model.specs.Check.{dots}
 use Rattle.model.specs.Entry.{Entry, directory_clusters, is_directory}
 use Rattle.model.specs.Holds.{DotEntries, HoldsCard, HoldsSlot, HoldsSlots, UniqueNames, deepest}
 use Rattle.model.specs.Lookup.{found, look_from, look_in, page_among, page_at_path, tell}
 use Rattle.model.specs.Names.{Name, Path, beginning, good_name, same_name}
-use Rattle.model.specs.Refusal.{own}
 use Rattle.model.specs.Tree.{Root, Slot, Tree, cluster_uses, entry_pages, hit, reached, root_slot, times}
 use Rattle.model.specs.View.{View}
 use Rattle.model.proofs.Equality.{Eq-number, and_r, bool, tf, to-T}
-use Rattle.model.proofs.Fields.{aside}
 use Rattle.model.proofs.Frame.{hit-self, needs, parts-le}
 use Rattle.model.proofs.LookupLaws.{get_at, get_off}
 use Rattle.model.proofs.SlotLaws.{set_slot}

@@ -11,7 +11,6 @@ use Rattle.model.specs.Counts.{total_below}
 use Rattle.model.specs.Holds.{HoldsSlot, HoldsSlots}
 use Rattle.model.specs.Lookup.{first_dead, found, index_of, is_named, look_in}
 use Rattle.model.specs.Names.{Name, Path}
-use Rattle.model.specs.Refusal.{first}
 use Rattle.model.specs.Tree.{Slot, Tree, chain_of, cluster_uses, dead_hit, dead_slots, end, entry_pages, hit, name_hit, node, slot_count, times}
 use Rattle.model.specs.View.{View}
 use Rattle.model.proofs.CountLaws.{total-add}

@@ -8,7 +8,6 @@ use mathlib.Core.Path.{◌∙◌, ◌≡◌, sym}
 use native.Mathlib.Omega.{arith}
 use lib.Dec.{eqb}
 use lib.ListN.{length, take}
-use Rattle.model.specs.Check.{judge_dot}
 use Rattle.model.specs.Entry.{Entry, directory_clusters, is_directory, is_root, is_subdirectory}
 use Rattle.model.specs.Holds.{Chain, DotEntries, DotEntry, HoldsCard, HoldsSlot, HoldsSlots, UniqueNames, deepest}
 use Rattle.model.specs.Names.{Name}

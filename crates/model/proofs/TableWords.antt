@@ -8,7 +8,7 @@ use native.Mathlib.Omega.{arith}
 use lib.Dec.{eqb, ltb, ltb→lt, lt→ltb, nltb→le}
 use Rattle.model.specs.Plan.{free_chain, link_to, write_chain}
 use Rattle.model.specs.Tree.{times}
-use Rattle.model.specs.View.{Link, link_of, next, top_bit}
+use Rattle.model.specs.View.{Link, link_of, top_bit}
 use Rattle.model.specs.Writes.{chain_words, cleared_words, links_of, word_to}
 use Rattle.model.proofs.Equality.{Eq-number, bool, of_T, tf, to-T}
 use Rattle.model.proofs.Frame.{hit-self}

@@ -12,7 +12,7 @@ use Rattle.model.specs.Plan.{Plan, after, free_of, held_of, plan_of, returned, w
 use Rattle.model.specs.Refusal.{locked, needed, refusal}
 use Rattle.model.specs.Standing.{tree_of}
 use Rattle.model.specs.Tree.{Root, Slot, Tree, chain_of, reached}
-use Rattle.model.specs.View.{Link, View, free}
+use Rattle.model.specs.View.{Link, View}
 use Rattle.model.specs.Writes.{links_of, page_writes, pages_after, words_after}
 
 -- A view that the check accepts; from alloc_end on there are no table words.

@@ -8,7 +8,7 @@
 --   0x18 8     modified
 --   0x20 word  attribute
 --   0x40 32    name, ending at its first zero
-use Rattle.std.specs.Prelude.{◌%◌, ◌+◌, ◌/◌, ℕ, Bool, ◌&&◌, ◌||◌, not, List, eqb, leb, ltb, length}
+use Rattle.std.specs.Prelude.{◌%◌, ◌+◌, ◌/◌, ℕ, Bool, ◌&&◌, ◌||◌, not, List, eqb, leb, ltb}
 use Rattle.model.specs.Bytes.{before_zero, half, slice, word}
 use Rattle.model.specs.Names.{Name, dot_name, good_name, same_name}
 

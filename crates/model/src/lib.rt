@@ -1,5 +1,6 @@
 // The model of a card is in specs/. Each claim about it is the contract of a function that does nothing.
 #![tactic(auto)]
+
 ghost use Rattle.model.specs.Claims.{ChainsAreSound, CheckIsHolding, ViewCountsAddUp, AcceptedExactly, ViewChangeKeeps, WritesGiveView, ViewDemand3};
 ghost use Rattle.model.specs.Bench.{BenchNumbers};
 ghost use Rattle.model.specs.Shifts.{ShiftNumbers, ShiftsReturn};

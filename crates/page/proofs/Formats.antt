@@ -1,6 +1,6 @@
 -- What the laws of images use of a format: where a page lies, and that what is stored of a page reads back.
-use Rattle.std.proofs.Common.{◌≡◌, ℕ, suc, ◌+◌, ◌*◌, ◌/◌, ◌%◌, ◌<◌, ◌≤◌, List, ◌++◌, length, get_or, sym, refl, ap, ◌∙◌, append-nil, arith}
-use mathlib.Core.Option.{Option, some}
+use Rattle.std.proofs.Common.{◌≡◌, ℕ, ◌+◌, ◌*◌, ◌/◌, ◌%◌, ◌<◌, ◌≤◌, List, ◌++◌, length, get_or, sym, refl, ap, ◌∙◌, append-nil, arith}
+use mathlib.Core.Option.{some}
 use Rattle.page.specs.declared.Format.{Format}
 use Rattle.page.specs.declared.Format.TheVariants.{Plain, Raw}
 use Rattle.page.specs.Page.{cluster_bytes, page_bytes, page_start, pages_in, part, read_stored, stored_as, written_bytes}

@@ -1,8 +1,8 @@
 -- Laws of `part` and `put_at` on any list, and what a copy or a lent part leaves, in their words.
-use Rattle.std.proofs.Common.{◌≡◌, ℕ, zero, suc, ◌+◌, ◌-◌, ◌*◌, ◌<◌, ◌≤◌, ◌⊎◌, List, [], ◌∷◌, ◌++◌, length, get_or, take, drop, set, sym, refl, ap, ◌∙◌, ap₂, inl, inr, ⊎_elim, append_assoc, append-nil, suc-le-suc, zero-le, le_trans, zero-add, arith, lit<, length-append, length-drop, take-append-drop, drop_of_length-le, length-take-le, get_or-drop, take_all, get_or-take, take-take, drop-drop, take_at, ext_get_or, drop_at}
+use Rattle.std.proofs.Common.{◌≡◌, ℕ, zero, suc, ◌+◌, ◌-◌, ◌*◌, ◌<◌, ◌≤◌, ◌⊎◌, List, [], ◌∷◌, ◌++◌, length, get_or, take, drop, set, sym, refl, ap, ◌∙◌, ap₂, inl, inr, ⊎_elim, append_assoc, append-nil, suc-le-suc, zero-le, le_trans, arith, lit<, length-append, length-drop, take-append-drop, drop_of_length-le, length-take-le, get_or-drop, take_all, get_or-take, take-take, drop-drop, take_at, ext_get_or, drop_at}
 use native.Mathlib.Decide.{dec_lt}
 use lib.ListN.{get_or-append, get_or-eq_default}
-use lib.Seq.{take-length, take-append_seam, drop-append_seam, sets-eq}
+use lib.Seq.{take-append_seam, drop-append_seam, sets-eq}
 use borrow.Rule.Slice.PartMut.{put_mid, Post-is}
 use Rattle.page.specs.Page.{part, put_at}
 
@@ -199,10 +199,6 @@ lent_back l a n s e = ap (λ (t : List ℕ). take a l ++ (s ++ t)) (Post-is a (a
 pub copied : (s d : List ℕ) → length d ≡ length s → take (length s) s ++ drop (length s) d ≡ s
 copied s d e =
     ap₂ ◌++◌ (take_all (length s) s (omega arith)) (drop_of_length-le d {i = length s} (omega arith)) ∙ append-nil s
-
--- a copy to the beginning
-pub put_first : (l s : List ℕ) → take (length s) s ++ drop (length s) l ≡ put_at l 0 s
-put_first l s = ap₂ (λ (t : List ℕ) (k : ℕ). t ++ drop k l) (take-length s) (sym (zero-add (length s)))
 
 -- three stores in a row
 pub stored : (l : List ℕ) (a x y z : ℕ) → a + 3 ≤ length l → set (set (set l a x) (a + 1) y) (a + 2) z ≡ put_at l a (x ∷ y ∷ z ∷ [])

@@ -1,5 +1,6 @@
 // Reading and writing the pages of a card image: 512 data bytes each, in a raw image with 16 spare bytes after them.
 #![tactic(auto)]
+
 mod raw;
 
 ghost use Rattle.std.specs.Prelude.{◌≡◌, ◌+◌, ◌^◌, ◌<◌, ◌≤◌, length};

@@ -1,5 +1,6 @@
 // The clusters that chains reach: their record, the walk of one chain, and the orphans of the allocation table.
 #![tactic(auto)]
+
 pub mod takeable;
 
 ghost use Rattle.std.specs.Prelude.{◌≡◌, ◌<◌, get_or};

@@ -1,7 +1,6 @@
 -- Past the end `get_or` is zero too.
 use mathlib.Core.Path.{sym}
 use native.Mathlib.Omega.{arith}
-use borrow.Author.Rules.{rules}
 use lib.ListN.{get_or-eq_default}
 use Rattle.ecc.proofs.byte_at.Goals as goal
 

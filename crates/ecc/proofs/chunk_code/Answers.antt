@@ -1,15 +1,13 @@
 -- `chunk_code` meets its contract: one pass over the first 128 bytes (`Passes`).
-use mathlib.Core.Path.{◌≡◌, ◌∙◌}
-use mathlib.Core.Logic.{⊎_elim}
-use Prim.Native.Nat.{◌-◌, ◌≤◌}
+use mathlib.Core.Path.{◌∙◌}
+use Prim.Native.Nat.{◌≤◌}
 use native.Mathlib.Omega.{arith}
-use borrow.Author.Rules.{rules}
-use borrow.Author.Tests.{ltb-true, ltb-false}
+use borrow.Author.Tests.{ltb-true}
 use lib.ListN.{length, take, length-take}
 use lib.Seq.{get_or-take}
-use Rattle.ecc.specs.Code.{code_of}
-use Rattle.ecc.proofs.Passes.{left, first, next, last}
+use Rattle.ecc.proofs.Passes.{first, next, last}
 use Rattle.ecc.proofs.chunk_code.Goals as goal
+use Rattle.ecc.proofs.chunk_code.Goals.{then-loop-i-test+else-i-chunk, else-loop-i-test}
 
 pub loop-i-init : goal.loop-i-init
 loop-i-init c = first (take 128 c.args.chunk.now)
@@ -25,5 +23,8 @@ pub returns : goal.returns
 returns c =
     let l = c.args.chunk.now in
     let over : length (take 128 l) ≤ c.loop-i.i =
-    ⊎_elim (λ w. omega (arith, ltb-false, length-take 128 l)) (λ w. omega (arith, length-take 128 l)) c.loop-i-test.branch in
+    elim c.loop-i-test.branch [
+      | then-loop-i-test+else-i-chunk w ↦ omega (arith, length-take 128 l)
+      | else-loop-i-test w ↦ omega (arith, length-take 128 l)
+    ] in
     c.code_in.ensures ∙ last (take 128 l) c.loop-i.i c.loop-i.sums over ∙ c.loop-i.invariant

@@ -1,13 +1,8 @@
-use mathlib.Core.Path.{◌≡◌, ◌∙◌}
-use mathlib.Core.Logic.{⊎_elim}
-use Prim.Native.Nat.{◌-◌, ◌≤◌}
-use native.Mathlib.Omega.{arith}
-use borrow.Author.Rules.{rules}
-use borrow.Author.Tests.{ltb-true, ltb-false}
-use lib.ListN.{length, take, length-take}
-use lib.Seq.{get_or-take}
+use mathlib.Core.Path.{◌≡◌}
+use Prim.Native.Nat.{◌-◌}
+use lib.ListN.{take}
 use Rattle.ecc.specs.Code.{code_of}
-use Rattle.ecc.proofs.Passes.{left, first, next, last}
+use Rattle.ecc.proofs.Passes.{left}
 use Rattle.ecc.proofs.chunk_code.Given as goal
 
 abbrev pub invariant-loop-i : goal.invariant-loop-i

@@ -1,5 +1,4 @@
 -- The three bytes are those of the code.
-use borrow.Author.Rules.{rules}
 use Rattle.ecc.proofs.Codes.{code-path}
 use Rattle.ecc.proofs.code_at.Goals as goal
 

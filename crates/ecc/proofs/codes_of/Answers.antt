@@ -1,10 +1,7 @@
 -- `codes_of` meets its contract: one pass over each of the four chunks (`Passes`), byte by byte in turn.
-use mathlib.Core.Path.{◌≡◌, ◌∙◌}
-use Prim.Native.Nat.{◌-◌}
+use mathlib.Core.Path.{◌∙◌}
 use native.Mathlib.Omega.{arith}
-use borrow.Author.Rules.{rules}
-use Rattle.ecc.specs.Code.{code_of}
-use Rattle.ecc.proofs.Passes.{left, first, next, last}
+use Rattle.ecc.proofs.Passes.{first, next, last}
 use Rattle.ecc.proofs.codes_of.Goals as goal
 
 pub loop-i-init : goal.loop-i-init

@@ -1,9 +1,7 @@
-use mathlib.Core.Path.{◌≡◌, ◌∙◌}
+use mathlib.Core.Path.{◌≡◌}
 use Prim.Native.Nat.{◌-◌}
-use native.Mathlib.Omega.{arith}
-use borrow.Author.Rules.{rules}
 use Rattle.ecc.specs.Code.{code_of}
-use Rattle.ecc.proofs.Passes.{left, first, next, last}
+use Rattle.ecc.proofs.Passes.{left}
 use Rattle.ecc.proofs.codes_of.Given as goal
 
 abbrev pub invariant-loop-i : goal.invariant-loop-i

@@ -1,7 +1,6 @@
 -- `judge_chunk` meets its contract: of 128 bytes the whole code is known, by which they are judged.
 use mathlib.Core.Path.{refl, sym, ap, ◌∙◌}
 use native.Mathlib.Omega.{arith}
-use borrow.Author.Rules.{rules}
 use lib.Seq.{take_all}
 use Rattle.ecc.specs.Code.{code_of}
 use Rattle.ecc.proofs.Laws.{slice-by, slice-other}

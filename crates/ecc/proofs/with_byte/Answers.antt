@@ -2,7 +2,6 @@
 use mathlib.Core.Path.{ap, ◌∙◌}
 use Prim.Native.Nat.{ℕ}
 use native.Mathlib.Omega.{arith}
-use borrow.Author.Rules.{rules}
 use lib.Bits.{bit_and, bit_xor}
 use Rattle.ecc.specs.Parities.{code_in}
 use Rattle.ecc.proofs.Sums.{index_mask, with-entry}

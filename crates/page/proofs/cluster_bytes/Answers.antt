@@ -1,5 +1,5 @@
 -- Each size is the definition's.
-use Rattle.std.proofs.Common.{refl, lit<, rules}
+use Rattle.std.proofs.Common.{refl, lit<}
 use Rattle.page.proofs.cluster_bytes.Goals as goal
 
 pub returns-in-Raw : goal.returns-in-Raw

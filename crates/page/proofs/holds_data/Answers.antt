@@ -1,5 +1,5 @@
 -- A page that was read is compared; one that was not holds nothing.
-use Rattle.std.proofs.Common.{ℕ, List, sym, ap, ◌∙◌, rules}
+use Rattle.std.proofs.Common.{ℕ, List, sym, ap, ◌∙◌}
 use mathlib.Core.Option.{Option}
 use Rattle.page.specs.Page.{page_at, holds}
 use Rattle.page.proofs.Puts.{read_some, read_none}

@@ -1,5 +1,5 @@
 -- The answer is that of `judge_page`, and what is added are its chunks.
-use Rattle.std.proofs.Common.{◌∙◌, rules}
+use Rattle.std.proofs.Common.{◌∙◌}
 use Rattle.page.proofs.Mending.{chunks-added}
 use Rattle.page.proofs.judge_counted.Goals as goal
 

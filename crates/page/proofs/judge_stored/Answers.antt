@@ -1,5 +1,4 @@
 -- A raw page is judged as `judge_raw` does; a plain one has its data.
-use Rattle.std.proofs.Common.{rules}
 use Rattle.page.proofs.judge_stored.Goals as goal
 
 pub judge_raw-requires : goal.judge_raw-requires

@@ -1,5 +1,5 @@
 -- The count is the definition's, opened here.
-use Rattle.std.proofs.Common.{refl, arith, rules}
+use Rattle.std.proofs.Common.{refl, arith}
 use Rattle.page.specs.Page.{pages_in}
 use Rattle.page.proofs.page_count.Goals as goal
 

@@ -1,5 +1,4 @@
 -- The answer is that of `read_page`, and what is added are its chunks.
-use Rattle.std.proofs.Common.{rules}
 use Rattle.page.proofs.Mending.{chunks-added}
 use Rattle.page.proofs.read_counted.Goals as goal
 

@@ -1,6 +1,4 @@
 -- A raw page is read as `read_raw` does; a plain one is its data.
-use Rattle.std.proofs.Common.{sym, ◌∙◌, arith, rules}
-use Rattle.page.proofs.Lists.{copied}
 use Rattle.page.proofs.read_stored.Goals as goal
 
 pub read_raw-requires : goal.read_raw-requires
@@ -17,7 +15,7 @@ returns-in-Raw c =
 pub returns-in-Plain : goal.returns-in-Plain
 returns-in-Plain c =
     let plain = c.in-Plain.is in
-    let h = rw plain at c.requires.0 in record {
-      read = rw plain (record { readable = c.unmended.ensures.0; buffer = c.copy.ensures.1 ∙ copied c.args.page.now c.args.out.now (c.requires.1 ∙ sym h) });
+    record {
+      read = rw plain (record { readable = c.unmended.ensures.0; buffer = c.copy_from_slice.ensures.after });
       mended = rw plain c.unmended.ensures.1;
     }

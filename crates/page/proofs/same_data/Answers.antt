@@ -1,6 +1,5 @@
 -- `check::same` is true just where the lists are equal, as `same_bytes` is.
 use Rattle.page.proofs.Puts.{same_by}
-use Rattle.std.proofs.Common.{rules}
 use Rattle.page.proofs.same_data.Goals as goal
 
 pub returns : goal.returns

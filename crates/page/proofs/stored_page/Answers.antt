@@ -26,3 +26,8 @@ returns c =
     let kept = lent c.args.format c.args.image.now c.args.page c.page_start-from.ensures c.page_bytes.ensures in
     let whole = inside-whole c.args.format (length c.args.image.now) c.args.page c.requires in
     (kept, ap length kept ∙ length_part c.args.image.now (page_start c.args.format c.args.page) (page_bytes c.args.format) whole)
+
+pub slice_bounds-result-end : goal.slice_bounds-result-end
+slice_bounds-result-end c =
+    let h = lent-whole c.args.format c.args.image.now c.args.page refl c.requires c.page_start-from.ensures c.page_bytes.ensures in
+    search rules

@@ -35,10 +35,16 @@ overflow_add-to c =
 pub returns-then-page-page_count : goal.returns-then-page-page_count
 returns-then-page-page_count c =
     let a = c.args in
-    wrote-lent a.format a.image.now a.page a.bytes.now c.write_stored.new.1.0 c.page_start-from.ensures c.page_bytes.ensures
+    wrote-lent a.format a.image.now a.page a.bytes.now c.write_stored.new.page c.page_start-from.ensures c.page_bytes.ensures
     (counted-whole a.format a.image.now a.page c.page_count.ensures.0 (search rules)) (search rules) c.write_stored.ensures
 
 pub returns-else-page-page_count : goal.returns-else-page-page_count
 returns-else-page-page_count c =
     let a = c.args in
     sym (put-outside a.format true a.page a.bytes.now a.image.now (rw (← c.page_count.ensures.0) (search rules)))
+
+pub slice_bounds-write_stored-end : goal.slice_bounds-write_stored-end
+slice_bounds-write_stored-end c =
+    let a = c.args in
+    let h = lent-whole a.format a.image.now a.page c.page_count.ensures.0 (search rules) c.page_start-from.ensures c.page_bytes.ensures in
+    search rules

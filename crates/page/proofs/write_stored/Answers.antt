@@ -1,6 +1,4 @@
 -- A raw page is written as `write_raw` does; a plain one becomes its data.
-use Rattle.std.proofs.Common.{sym, ◌∙◌, arith, rules}
-use Rattle.page.proofs.Lists.{copied}
 use Rattle.page.proofs.write_stored.Goals as goal
 
 pub write_raw-requires : goal.write_raw-requires
@@ -12,6 +10,4 @@ returns-in-Raw c = rw c.in-Raw.is c.write_raw.ensures
 
 pub returns-in-Plain : goal.returns-in-Plain
 returns-in-Plain c =
-    let h = rw c.in-Plain.is at c.requires.0 in
-    rw c.in-Plain.is
-    (c.copy.ensures.1 ∙ copied c.args.bytes.now c.args.page.now (h ∙ sym c.requires.1))
+    rw c.in-Plain.is c.copy_from_slice.ensures.after

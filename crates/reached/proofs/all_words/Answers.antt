@@ -1,5 +1,4 @@
 -- A word that is none of the record's is put nowhere, as the definition has it.
-use borrow.Author.Rules.{rules}
 use borrow.Author.Tests.{le-ltb, lt-ltb}
 use Rattle.reached.specs.Marks.{words_of}
 use Rattle.reached.proofs.all_words.Goals as goal

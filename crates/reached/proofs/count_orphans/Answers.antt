@@ -1,14 +1,13 @@
 -- The loop keeps the count of the orphaned clusters passed; the code's test of a word and its mark is the model's.
-use Prim.Native.Nat.{◌-◌, ◌<◌, ◌≤◌}
-use mathlib.Core.Logic.{⊎_elim}
+use Prim.Native.Nat.{◌<◌}
 use mathlib.Core.Path.{◌∙◌, ◌≡◌, ap, refl}
 use native.Mathlib.Omega.{arith}
-use borrow.Author.Rules.{rules}
 use lib.ListN.{length}
 use mathlib.Core.Bool.{false, true}
 use Rattle.model.specs.Counts.{total_below}
 use Rattle.reached.proofs.CountLaws.{orphan-test, orphan_in, total-same, total-step}
 use Rattle.reached.proofs.count_orphans.Goals as goal
+use Rattle.reached.proofs.count_orphans.Goals.{then-table-i, else-table-i}
 
 pub loop-i-init : goal.loop-i-init
 loop-i-init c = (omega arith, refl, omega arith)
@@ -35,11 +34,11 @@ loop-i-preserved c =
     let l = c.loop-i in
     let inside : l.i < length t = omega arith in (
       omega arith,
-      ⊎_elim
-          (λ w. w.1 ∙ total-step (orphan_in t words) l.n 1 l.i l.invariant.1 (orphan-test t l.i inside words true (rw (← c.has_mark.ensures) w.0.taken)))
-          (λ w. w.1 ∙ total-same (orphan_in t words) l.n l.i l.invariant.1 (orphan-test t l.i inside words false (rw (← c.has_mark.ensures) w.0.left)))
-          c.if-table-i.branch,
-      ⊎_elim (λ w. omega (arith, w.1)) (λ w. omega (arith, w.1)) c.if-table-i.branch,
+      elim c.if-table-i.branch [
+        | then-table-i w ↦ w.n-is ∙ total-step (orphan_in t words) l.n 1 l.i l.invariant.1 (orphan-test t l.i inside words true (rw (← c.has_mark.ensures) w.if-table-i.true))
+        | else-table-i w ↦ w.n-is ∙ total-same (orphan_in t words) l.n l.i l.invariant.1 (orphan-test t l.i inside words false (rw (← c.has_mark.ensures) w.if-table-i.false))
+      ],
+      elim c.if-table-i.branch [ then-table-i w ↦ omega (arith, w.n-is) | else-table-i w ↦ omega (arith, w.n-is) ],
     )
 
 pub returns : goal.returns

@@ -1,12 +1,8 @@
-use Prim.Native.Nat.{◌-◌, ◌<◌, ◌≤◌}
-use mathlib.Core.Logic.{⊎_elim}
-use mathlib.Core.Path.{◌∙◌, ◌≡◌, ap, refl}
-use native.Mathlib.Omega.{arith}
-use borrow.Author.Rules.{rules}
+use Prim.Native.Nat.{◌-◌, ◌≤◌}
+use mathlib.Core.Path.{◌≡◌}
 use lib.ListN.{length}
-use mathlib.Core.Bool.{false, true}
 use Rattle.model.specs.Counts.{total_below}
-use Rattle.reached.proofs.CountLaws.{orphan-test, orphan_in, total-same, total-step}
+use Rattle.reached.proofs.CountLaws.{orphan_in}
 use Rattle.reached.proofs.count_orphans.Given as goal
 
 abbrev pub invariant-loop-i : goal.invariant-loop-i

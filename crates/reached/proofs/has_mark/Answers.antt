@@ -1,5 +1,4 @@
 -- Past the last mark the answer is false, and else it is the bit of the cluster's word.
-use borrow.Author.Rules.{rules}
 use borrow.Author.Tests.{le-ltb, lt-ltb}
 use Rattle.reached.specs.Marks.{marked_in}
 use Rattle.reached.proofs.has_mark.Goals as goal

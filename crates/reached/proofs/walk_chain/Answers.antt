@@ -1,12 +1,10 @@
 -- What is left to do gives the whole answer: the loop keeps `rest_of` of its locals. A cluster past the last mark breaks the chain.
-use Prim.Native.Nat.{◌<◌, ◌≤◌, ◌^◌, ℕ}
+use Prim.Native.Nat.{◌<◌, ◌≤◌, ℕ}
 use mathlib.Core.Bool.{Bool, ◌&&◌, false}
 use mathlib.Core.List.{List}
-use mathlib.Core.Logic.{⊎_elim}
 use mathlib.Core.Path.{◌∙◌, ◌≡◌, refl, sym}
 use native.Mathlib.Decide.{ℕ_discrete}
 use native.Mathlib.Omega.{arith}
-use borrow.Author.Rules.{rules}
 use borrow.Author.Tests.{lt-ltb, ltb-false, ltb-true, ne_eqb}
 use lib.Dec.{ltb}
 use Rattle.model.proofs.Equality.{and_l, and_r}
@@ -17,6 +15,7 @@ use Rattle.reached.proofs.ChainSteps.{chain-past}
 use Rattle.reached.proofs.MarkLaws.{turned-far, turned-near}
 use Rattle.reached.proofs.NearLaws.{near_again, near-comes-on, near-untold-left, rest-start, rest_of}
 use Rattle.reached.proofs.walk_chain.Goals as goal
+use Rattle.reached.proofs.walk_chain.Goals.{then-k-at, else-k-at}
 
 -- the loop is over where no cluster is left, or the next lies past the last mark
 over : (t : List ℕ) (r : Reached) (sound : Bool) (c left : ℕ) → (0 < left → sound ≡ false) → (ltb 0 left && ltb c most_clusters) ≡ false
@@ -52,7 +51,10 @@ loop-left-smaller c =
     let more = ltb-true _ _ (and_l _ _ c.loop-left-test.true) in
     let small = ltb-true _ _ (and_r (ltb 0 l.left) _ c.loop-left-test.true) in
     let there : c.if-k-at.r ≡ turned l.r l.c =
-    ⊎_elim (λ w. w.3 ∙ turned-far l.r l.c w.0.taken w.2.last.0 w.2.result w.2.ensures.0 w.2.ensures.1) (λ w. w.1 ∙ sym (turned-near l.r l.c w.0.left)) c.if-k-at.branch in
+    elim c.if-k-at.branch [
+      | then-k-at w ↦ w.r-is ∙ turned-far l.r l.c w.if-k-at.true w.turn-next.new.words w.turn-next.result w.turn-next.ensures.0 w.turn-next.ensures.1
+      | else-k-at w ↦ w.r-is ∙ sym (turned-near l.r l.c w.if-k-at.false)
+    ] in
     near-comes-on t l.r l.c l.left more c.walk_near-near.result small (rw there at c.walk_near-near.ensures)
 
 pub loop-left-preserved : goal.loop-left-preserved
@@ -63,7 +65,10 @@ loop-left-preserved c =
     let more = ltb-true _ _ (and_l _ _ c.loop-left-test.true) in
     let small = ltb-true _ _ (and_r (ltb 0 l.left) _ c.loop-left-test.true) in
     let there : c.if-k-at.r ≡ turned l.r l.c =
-    ⊎_elim (λ w. w.3 ∙ turned-far l.r l.c w.0.taken w.2.last.0 w.2.result w.2.ensures.0 w.2.ensures.1) (λ w. w.1 ∙ sym (turned-near l.r l.c w.0.left)) c.if-k-at.branch in
+    elim c.if-k-at.branch [
+      | then-k-at w ↦ w.r-is ∙ turned-far l.r l.c w.if-k-at.true w.turn-next.new.words w.turn-next.result w.turn-next.ensures.0 w.turn-next.ensures.1
+      | else-k-at w ↦ w.r-is ∙ sym (turned-near l.r l.c w.if-k-at.false)
+    ] in
     (l.invariant.0 ∙ near_again t l.r l.c l.left more near.result small (rw there at near.ensures) l.sound, near-untold-left t c.if-k-at.r l.c l.left more near.result near.ensures, omega arith)
 
 pub returns : goal.returns

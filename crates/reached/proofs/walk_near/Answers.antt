@@ -1,12 +1,10 @@
 -- What is left to do gives the whole answer: the loop keeps `near_from` of its locals equal to that at the start.
-use Prim.Native.Nat.{◌/◌, ◌<◌, ◌^◌}
-use mathlib.Core.Path.{◌∙◌, ◌≡◌, refl, sym}
+use Prim.Native.Nat.{◌/◌}
+use mathlib.Core.Path.{◌∙◌, refl, sym}
 use native.Mathlib.Omega.{arith}
-use borrow.Author.Rules.{rules}
 use borrow.Author.Tests.{eq-eqb, eqb-true, lt-ltb, ltb-true}
 use lib.Dec.{ltb}
 use Rattle.model.proofs.Equality.{and_l, and_r, tf}
-use Rattle.reached.specs.Chain.{near_from}
 use Rattle.reached.proofs.NearLaws.{near-over, near_step, step_less}
 use Rattle.reached.proofs.walk_near.Goals as goal
 

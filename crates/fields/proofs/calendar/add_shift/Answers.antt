@@ -6,7 +6,6 @@ use mir.Syntax.{w32}
 use mir.Val.{to_z}
 use mir.ValLaws.{to_z-of_z}
 use Rattle.fields.proofs.ShiftLaws.{near, small-fits, small-read}
-use borrow.Author.Rules.{rules}
 use Rattle.fields.proofs.calendar.add_shift.Goals as goal
 
 pub overflow_add-result : goal.overflow_add-result

@@ -2,7 +2,6 @@
 use mathlib.Core.Path.{sym}
 use native.Mathlib.Omega.{arith}
 use Rattle.model.proofs.Calendar.{after-day, after-month, after-year}
-use borrow.Author.Rules.{rules}
 use Rattle.fields.proofs.ShiftLaws.{date-room}
 use Rattle.fields.proofs.calendar.day_after.Goals as goal
 

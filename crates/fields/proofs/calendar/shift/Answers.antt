@@ -6,7 +6,6 @@ use mir.ValLaws.{to_z-of_z}
 use Rattle.model.specs.Calendar.{is_shift}
 use Rattle.model.proofs.Shifts.{minute-below, valid-facts}
 use Rattle.fields.proofs.ShiftLaws.{lands-after, lands-before, lands_within, moment-date, shifts_by}
-use borrow.Author.Rules.{rules}
 use Rattle.fields.proofs.calendar.shift.Goals as goal
 
 pub overflow_mul-moment : goal.overflow_mul-moment

@@ -7,7 +7,6 @@ use mir.ValLaws.{to_z-of_z}
 use Rattle.model.specs.Bytes.{slice}
 use Rattle.model.specs.Calendar.{shown}
 use Rattle.fields.specs.Calendar.{shown_as}
-use borrow.Author.Rules.{rules}
 use Rattle.fields.proofs.calendar.shop_time_at.Goals as goal
 
 pub returns : goal.returns

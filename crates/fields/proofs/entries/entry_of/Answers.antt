@@ -1,5 +1,4 @@
 -- Each field is read where the model has it; the mode fits 16 bits.
-use borrow.Author.Rules.{rules}
 use Rattle.fields.proofs.NumberLaws.{half-below}
 use Rattle.fields.proofs.entries.entry_of.Goals as goal
 

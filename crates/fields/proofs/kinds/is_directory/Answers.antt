@@ -1,5 +1,4 @@
 -- The tests of the mode's bits are the model's, in its order.
-use borrow.Author.Rules.{rules}
 use Rattle.fields.proofs.kinds.is_directory.Goals as goal
 
 pub returns : goal.returns

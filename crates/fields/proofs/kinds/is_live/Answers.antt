@@ -1,5 +1,4 @@
 -- The test of the mode's bit is the model's.
-use borrow.Author.Rules.{rules}
 use Rattle.fields.proofs.kinds.is_live.Goals as goal
 
 pub returns : goal.returns

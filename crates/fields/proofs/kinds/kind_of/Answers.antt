@@ -1,6 +1,5 @@
 -- Each test is one of the model's, with the mode's live bit known.
 use Prim.Native.Nat.{◌%◌, ◌/◌}
-use borrow.Author.Rules.{rules}
 use borrow.Author.Tests.{ne_eqb}
 use Rattle.fields.specs.Kinds.{kind_of}
 use Rattle.fields.proofs.KindLaws.{kind-bad, kind-directory, kind-file}

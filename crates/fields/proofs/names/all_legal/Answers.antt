@@ -1,12 +1,7 @@
 -- The bytes from the turn's place on are all legal exactly when all are.
-use Prim.Native.Nat.{◌-◌, ◌≤◌}
-use mathlib.Core.Path.{◌∙◌, ◌≡◌, refl, sym}
+use mathlib.Core.Path.{◌∙◌, refl, sym}
 use native.Mathlib.Omega.{arith}
-use borrow.Author.Rules.{rules}
-use borrow.Author.Tests.{not-false, not-true}
-use lib.ListN.{drop, length}
 use Rattle.fields.proofs.NameLaws.{legal-done, legal-more, legal-stop}
-use Rattle.model.specs.Names.{legal_bytes}
 use Rattle.fields.proofs.names.all_legal.Goals as goal
 
 pub loop-i-init : goal.loop-i-init
@@ -14,11 +9,11 @@ loop-i-init c = (omega arith, refl)
 
 pub returns-then-not-is_legal : goal.returns-then-not-is_legal
 returns-then-not-is_legal c =
-    sym (c.loop-i.invariant.1 ∙ legal-stop _ _ c.loop-i-test.true (sym c.is_legal.ensures ∙ not-true _ c.if-not-is_legal.true-raw))
+    sym (c.loop-i.invariant.1 ∙ legal-stop _ _ c.loop-i-test.true (sym c.is_legal.ensures ∙ c.if-not-is_legal.true))
 
 pub loop-i-preserved : goal.loop-i-preserved
 loop-i-preserved c =
-    (omega arith, c.loop-i.invariant.1 ∙ legal-more _ _ c.loop-i-test.true (sym c.is_legal.ensures ∙ not-false _ c.if-not-is_legal.false-raw))
+    (omega arith, c.loop-i.invariant.1 ∙ legal-more _ _ c.loop-i-test.true (sym c.is_legal.ensures ∙ c.if-not-is_legal.false))
 
 pub returns : goal.returns
 returns c =

@@ -1,10 +1,6 @@
 use Prim.Native.Nat.{◌-◌, ◌≤◌}
-use mathlib.Core.Path.{◌∙◌, ◌≡◌, refl, sym}
-use native.Mathlib.Omega.{arith}
-use borrow.Author.Rules.{rules}
-use borrow.Author.Tests.{not-false, not-true}
+use mathlib.Core.Path.{◌≡◌}
 use lib.ListN.{drop, length}
-use Rattle.fields.proofs.NameLaws.{legal-done, legal-more, legal-stop}
 use Rattle.model.specs.Names.{legal_bytes}
 use Rattle.fields.proofs.names.all_legal.Given as goal
 

@@ -1,11 +1,7 @@
 -- What is left to count from the turn's place on, added to the place, is the whole count.
-use Prim.Native.Nat.{◌+◌, ◌-◌, ◌≤◌}
-use mathlib.Core.Path.{◌∙◌, ◌≡◌, sym}
+use mathlib.Core.Path.{◌∙◌, sym}
 use native.Mathlib.Omega.{arith}
-use borrow.Author.Rules.{rules}
-use lib.ListN.{drop, length}
 use Rattle.fields.proofs.NameLaws.{zero-found, zero-later, zero-nowhere}
-use Rattle.model.specs.Bytes.{before_zero}
 use Rattle.fields.proofs.names.count_before_zero.Goals as goal
 
 pub loop-i-init : goal.loop-i-init

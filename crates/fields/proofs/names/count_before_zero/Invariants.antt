@@ -1,9 +1,6 @@
 use Prim.Native.Nat.{◌+◌, ◌-◌, ◌≤◌}
-use mathlib.Core.Path.{◌∙◌, ◌≡◌, sym}
-use native.Mathlib.Omega.{arith}
-use borrow.Author.Rules.{rules}
+use mathlib.Core.Path.{◌≡◌}
 use lib.ListN.{drop, length}
-use Rattle.fields.proofs.NameLaws.{zero-found, zero-later, zero-nowhere}
 use Rattle.model.specs.Bytes.{before_zero}
 use Rattle.fields.proofs.names.count_before_zero.Given as goal
 

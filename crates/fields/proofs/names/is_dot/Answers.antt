@@ -1,5 +1,4 @@
 -- The name is the model's, and so is the comparison.
-use borrow.Author.Rules.{rules}
 use Rattle.fields.proofs.names.is_dot.Goals as goal
 
 pub returns : goal.returns

@@ -1,5 +1,4 @@
 -- The tests are the rule's own, in its order.
-use borrow.Author.Rules.{rules}
 use Rattle.fields.proofs.names.is_good_name.Goals as goal
 
 pub returns : goal.returns

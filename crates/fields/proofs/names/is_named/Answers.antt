@@ -1,5 +1,4 @@
 -- The name is the model's, and so is the comparison.
-use borrow.Author.Rules.{rules}
 use Rattle.fields.proofs.names.is_named.Goals as goal
 
 pub returns : goal.returns

@@ -1,6 +1,5 @@
 -- The count is that of the field's name, so the part lent is the name.
 use mathlib.Core.Path.{sym}
-use borrow.Author.Rules.{rules}
 use lib.Seq.{length-take-le}
 use Rattle.fields.proofs.NameLaws.{name-in-field, name-short}
 use Rattle.model.specs.Bytes.{slice}

@@ -1,5 +1,4 @@
 -- The name is the model's, and so is the judgement.
-use borrow.Author.Rules.{rules}
 use Rattle.fields.proofs.names.name_is_good.Goals as goal
 
 pub returns : goal.returns

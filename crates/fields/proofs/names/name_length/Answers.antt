@@ -1,6 +1,5 @@
 -- The length of the name that is lent.
 use mathlib.Core.Path.{ap}
-use borrow.Author.Rules.{rules}
 use lib.ListN.{length}
 use Rattle.fields.proofs.names.name_length.Goals as goal
 

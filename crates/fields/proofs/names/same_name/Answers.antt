@@ -1,5 +1,4 @@
 -- The comparison is true exactly of equal bytes, as the model's test is.
-use borrow.Author.Rules.{rules}
 use Rattle.fields.proofs.NameLaws.{same-exactly}
 use Rattle.fields.proofs.names.same_name.Goals as goal
 

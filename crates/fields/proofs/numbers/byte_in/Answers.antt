@@ -1,6 +1,5 @@
 -- Inside, the byte is read; past the end there is none, and the list gives the zero.
 use mathlib.Core.Path.{sym}
-use borrow.Author.Rules.{rules}
 use lib.ListN.{get_or-eq_default}
 use Rattle.fields.proofs.numbers.byte_in.Goals as goal
 

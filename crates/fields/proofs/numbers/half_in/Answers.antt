@@ -1,6 +1,5 @@
 -- The bytes from the place on make the number; past the end it is zero.
 use mathlib.Core.Path.{sym}
-use borrow.Author.Rules.{rules}
 use Rattle.fields.proofs.NumberLaws.{half-bytes, little-past}
 use Rattle.fields.proofs.numbers.half_in.Goals as goal
 

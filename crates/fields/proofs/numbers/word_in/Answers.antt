@@ -1,6 +1,5 @@
 -- The bytes from the place on make the number; past the end it is zero.
 use mathlib.Core.Path.{sym}
-use borrow.Author.Rules.{rules}
 use Rattle.fields.proofs.NumberLaws.{little-past, word_bytes}
 use Rattle.fields.proofs.numbers.word_in.Goals as goal
 

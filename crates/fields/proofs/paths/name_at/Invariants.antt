@@ -1,11 +1,8 @@
-use Prim.Native.Nat.{◌-◌, ◌≤◌}
+use Prim.Native.Nat.{◌≤◌}
 use mathlib.Core.List.{[]}
-use mathlib.Core.Path.{◌∙◌, ◌≡◌, sym}
-use native.Mathlib.Omega.{arith}
-use borrow.Author.Rules.{rules}
+use mathlib.Core.Path.{◌≡◌}
 use lib.ListN.{drop, get_or, length}
 use Rattle.fields.specs.PathBytes.{name_at, split_names}
-use Rattle.fields.proofs.PathLaws.{end-inside, name-here, name-later, name-nowhere, name-past, rest-empty}
 use Rattle.fields.proofs.paths.name_at.Given as goal
 
 abbrev pub invariant-loop-left : goal.invariant-loop-left

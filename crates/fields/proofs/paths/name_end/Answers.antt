@@ -1,10 +1,7 @@
 -- The place reached, with the length of the first name from there on, is the end of the name that began at the start.
-use Prim.Native.Nat.{◌+◌, ◌-◌, ◌≤◌}
-use mathlib.Core.Path.{◌∙◌, ◌≡◌, refl, sym}
+use mathlib.Core.Path.{◌∙◌, refl, sym}
 use native.Mathlib.Omega.{arith}
-use borrow.Author.Rules.{rules}
-use lib.ListN.{drop, length}
-use Rattle.fields.proofs.PathLaws.{end-last, end_more, end-slash, first_name}
+use Rattle.fields.proofs.PathLaws.{end-last, end_more, end-slash}
 use Rattle.fields.proofs.paths.name_end.Goals as goal
 
 pub loop-end-init : goal.loop-end-init

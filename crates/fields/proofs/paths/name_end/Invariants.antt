@@ -1,9 +1,7 @@
 use Prim.Native.Nat.{◌+◌, ◌-◌, ◌≤◌}
-use mathlib.Core.Path.{◌∙◌, ◌≡◌, refl, sym}
-use native.Mathlib.Omega.{arith}
-use borrow.Author.Rules.{rules}
+use mathlib.Core.Path.{◌≡◌}
 use lib.ListN.{drop, length}
-use Rattle.fields.proofs.PathLaws.{end-last, end_more, end-slash, first_name}
+use Rattle.fields.proofs.PathLaws.{first_name}
 use Rattle.fields.proofs.paths.name_end.Given as goal
 
 abbrev pub invariant-loop-end : goal.invariant-loop-end

@@ -1,21 +1,11 @@
 -- The names passed are good, and those from the turn's place on are the rest.
-use Prim.Native.Nat.{◌+◌, ◌-◌, ◌≤◌}
-use mathlib.Core.Path.{◌∙◌, ◌≡◌, ap, sym}
+use Prim.Native.Nat.{◌+◌}
+use mathlib.Core.Path.{◌∙◌, ap, sym}
 use native.Mathlib.Omega.{arith}
-use borrow.Author.Rules.{rules}
-use borrow.Author.Tests.{not-false, not-true}
 use lib.ListN.{drop, length}
-use Rattle.fields.specs.PathBytes.{split_names}
 use Rattle.fields.proofs.PathLaws.{bad-first, end-inside, names-last, names_more, names-some, parse-bad, parse-good, parse-many, parse-nothing, parse-relative, parse-root}
-use Rattle.model.specs.Holds.{most_names}
 use Rattle.model.specs.Names.{Path, good_names}
 use Rattle.fields.proofs.paths.parse_path.Goals as goal
-
--- a name ends inside the bytes
-inside : (c : tie.After-name-end invariant-loop decreases-loop) → c.name-end.result ≤ length c.before.before.before.before.before.before.before.before.args.path.now
-inside c =
-    let loop = c.before.before.loop in
-    end-inside c.before.before.before.before.before.before.before.before.args.path.now loop.from c.name-end.result loop.invariant.0 c.name-end.ensures
 
 pub returns-then-path-eq0 : goal.returns-then-path-eq0
 returns-then-path-eq0 c = parse-nothing c.args.path.now c.if-path-eq0.true
@@ -30,25 +20,27 @@ returns-then-path-eq1 c =
 pub returns-then-not-is_good_name : goal.returns-then-not-is_good_name
 returns-then-not-is_good_name c =
     let loop = c.loop-count in
-    parse-bad c.args.path.now c.if-path-ne47.false (omega arith) (loop.invariant.2 ∙ bad-first _ _ _ loop.invariant.0 c.name_end-end.ensures (sym c.is_good_name.ensures ∙ not-true _ c.if-not-is_good_name.true-raw))
+    parse-bad c.args.path.now c.if-path-ne47.false (omega arith) (loop.invariant.2 ∙ bad-first _ _ _ loop.invariant.0 c.name_end-end.ensures (sym c.is_good_name.ensures ∙ c.if-not-is_good_name.true))
 
 pub returns-then-end-path : goal.returns-then-end-path
 returns-then-end-path c =
     let loop = c.loop-count in
-    let good = not-false c.is_good_name.result c.if-not-is_good_name.false-raw in
     let only = names-last _ _ _ loop.invariant.0 c.name_end-end.ensures c.if-end-path.true in
-    parse-good c.args.path.now c.if-path-ne47.false (omega arith) _ (loop.invariant.1 ∙ ap (λ (p : Path). loop.count + length p) only) (omega arith) (omega arith) (loop.invariant.2 ∙ ap good_names only ∙ rw (← c.is_good_name.ensures, good))
+    parse-good c.args.path.now c.if-path-ne47.false (omega arith) _ (loop.invariant.1 ∙ ap (λ (p : Path). loop.count + length p) only) (omega arith) (omega arith) (loop.invariant.2 ∙ ap good_names only ∙ rw (← c.is_good_name.ensures, c.if-not-is_good_name.false))
 
 pub overflow_add-from : goal.overflow_add-from
-overflow_add-from c = omega (arith, inside c)
+overflow_add-from c = omega (arith, end-inside c.args.path.now c.loop-count.from c.name_end-end.result c.loop-count.invariant.0 c.name_end-end.ensures)
 
 pub loop-count-preserved : goal.loop-count-preserved
 loop-count-preserved c =
     let loop = c.loop-count in
-    let good = not-false c.is_good_name.result c.if-not-is_good_name.false-raw in
     let more = names_more _ _ _ loop.invariant.0 c.name_end-end.ensures c.if-end-path.false in
-    (omega (arith, inside c), omega (arith, loop.invariant.1 ∙ ap (λ (p : Path). loop.count + length p) more), loop.invariant.2 ∙ ap good_names more ∙ rw (← c.is_good_name.ensures, good))
+    (omega (arith, end-inside c.args.path.now c.loop-count.from c.name_end-end.result c.loop-count.invariant.0 c.name_end-end.ensures), omega (arith, loop.invariant.1 ∙ ap (λ (p : Path). loop.count + length p) more), loop.invariant.2 ∙ ap good_names more ∙ rw (← c.is_good_name.ensures, c.if-not-is_good_name.false))
 
 pub returns : goal.returns
 returns c =
     parse-many c.args.path.now c.if-path-ne47.false (omega arith) (omega (arith, names-some (drop c.loop-count.from c.args.path.now)))
+
+pub slice_bounds-is_good_name-end : goal.slice_bounds-is_good_name-end
+slice_bounds-is_good_name-end c =
+    omega (arith, end-inside c.args.path.now c.loop-count.from c.name_end-end.result c.loop-count.invariant.0 c.name_end-end.ensures)

@@ -1,13 +1,9 @@
 use Prim.Native.Nat.{◌+◌, ◌-◌, ◌≤◌}
-use mathlib.Core.Path.{◌∙◌, ◌≡◌, ap, sym}
-use native.Mathlib.Omega.{arith}
-use borrow.Author.Rules.{rules}
-use borrow.Author.Tests.{not-false, not-true}
+use mathlib.Core.Path.{◌≡◌}
 use lib.ListN.{drop, length}
 use Rattle.fields.specs.PathBytes.{split_names}
-use Rattle.fields.proofs.PathLaws.{bad-first, end-inside, names-last, names_more, names-some, parse-bad, parse-good, parse-many, parse-nothing, parse-relative, parse-root}
 use Rattle.model.specs.Holds.{most_names}
-use Rattle.model.specs.Names.{Path, good_names}
+use Rattle.model.specs.Names.{good_names}
 use Rattle.fields.proofs.paths.parse_path.Given as goal
 
 abbrev pub invariant-loop-count : goal.invariant-loop-count

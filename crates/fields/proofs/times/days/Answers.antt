@@ -1,6 +1,5 @@
 -- The row is chosen by leapness, and the rows are the model's.
 use native.Mathlib.Omega.{arith}
-use borrow.Author.Rules.{rules}
 use Rattle.fields.proofs.TimeLaws.{row_below, row-days}
 use Rattle.fields.proofs.times.days.Goals as goal
 

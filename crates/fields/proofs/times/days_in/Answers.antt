@@ -1,5 +1,4 @@
 -- The table's row by leapness, a place before the month's number.
-use borrow.Author.Rules.{rules}
 use Rattle.fields.proofs.times.days_in.Goals as goal
 
 pub returns : goal.returns

@@ -1,6 +1,5 @@
 -- A time of eight bytes with a month is judged by the rule's tests in its order; without, it is no time.
 use native.Mathlib.Omega.{arith}
-use borrow.Author.Rules.{rules}
 use borrow.Author.Tests.{eq-eqb, le-leb, ne_eqb}
 use lib.ListN.{get_or, length}
 use Rattle.fields.proofs.TimeLaws.{month-early, month-late}
@@ -12,7 +11,7 @@ unfolding valid_time
 returns-then-time-ne8 c = rw (ne_eqb (length c.args.time.now) 8 c.if-time-ne8.true)
 
 pub overflow_cast-month : goal.overflow_cast-month
-overflow_cast-month c = omega (arith, c.shared_slice_known-2-1.given 5)
+overflow_cast-month c = omega (arith, c.type_inv.time 5)
 
 pub returns-then-month-lt1 : goal.returns-then-month-lt1
 returns-then-month-lt1 c = month-early c.args.time.now c.if-month-lt1.true

@@ -1,5 +1,4 @@
 -- Each field is the byte or the half that the model reads.
-use borrow.Author.Rules.{rules}
 use Rattle.fields.proofs.times.moment_of.Goals as goal
 
 pub returns : goal.returns

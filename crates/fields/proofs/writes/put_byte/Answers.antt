@@ -1,6 +1,5 @@
 -- Past the end the list stays as it is.
 use mathlib.Core.Path.{sym}
-use borrow.Author.Rules.{rules}
 use lib.Seq.{set_out}
 use Rattle.fields.proofs.writes.put_byte.Goals as goal
 

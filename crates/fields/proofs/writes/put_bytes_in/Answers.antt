@@ -1,11 +1,8 @@
 -- What is left to put, put into the bytes as they are, gives the whole.
-use Prim.Native.Nat.{◌+◌, ◌-◌, ◌<◌, ◌≤◌}
-use mathlib.Core.Path.{◌∙◌, ◌≡◌, ap, refl, sym}
+use mathlib.Core.Path.{◌∙◌, ap, refl, sym}
 use native.Mathlib.Nat.{add-zero}
 use native.Mathlib.Omega.{arith}
-use borrow.Author.Rules.{rules}
-use lib.ListN.{drop, length, length-set}
-use lib.Seq.{sets}
+use lib.ListN.{length, length-set}
 use Rattle.fields.proofs.WriteLaws.{puts-done, puts-more, puts-past}
 use Rattle.fields.proofs.writes.put_bytes_in.Goals as goal
 

@@ -1,6 +1,5 @@
 -- The field's bytes are those of the number.
 use mathlib.Core.Path.{◌∙◌}
-use borrow.Author.Rules.{rules}
 use Rattle.fields.proofs.writes.put_half.Goals as goal
 
 pub returns : goal.returns

@@ -1,5 +1,5 @@
 -- Four chunks put side by side fill `out`.
-use Rattle.std.proofs.Common.{◌≡◌, ℕ, List, [], ◌++◌, length, refl, ap, ◌∙◌, append-nil, arith, drop_of_length-le, rules}
+use Rattle.std.proofs.Common.{◌≡◌, ℕ, List, [], ◌++◌, length, refl, ap, ◌∙◌, append-nil, arith, drop_of_length-le}
 use Rattle.ecc.specs.declared.Verdict.{Verdict}
 use Rattle.ecc.specs.Judge.{corrected}
 use Rattle.page.specs.Page.{put_at, chunk_of, corrected_data}

@@ -1,16 +1,14 @@
 -- Only a verdict that names a data bit changes the chunk.
-use Rattle.std.proofs.Common.{◌≡◌, ℕ, ◌⊎◌, List, sym, refl, ap, ◌∙◌, subst, ⊎_elim, arith, rules}
-use denote.Enum.Declared.{tag_of}
+use Rattle.std.proofs.Common.{◌≡◌, ℕ, List, sym, refl, ap, ◌∙◌, subst, arith}
 use Rattle.ecc.specs.declared.Verdict.{Verdict}
 use Rattle.ecc.specs.declared.Verdict.TheVariants.{Good, DataBit, CodeBit, Unreadable}
 use Rattle.ecc.specs.Judge.{corrected}
 use Rattle.page.specs.Page.{Placed}
-use Rattle.ecc.specs.contracts.Verdict.{the_type}
 use Rattle.page.proofs.raw.correct.Goals as goal
 
-kept : (v : Verdict) (l : List ℕ) → (tag_of the_type v ≡ 0) ⊎ ((tag_of the_type v ≡ 2) ⊎ (tag_of the_type v ≡ 3)) → l ≡ corrected v l
+kept : (v : Verdict) (l : List ℕ) → ((i j : ℕ) → v ≡ DataBit i j → ⊥) → l ≡ corrected v l
 kept Good l k = refl
-kept (DataBit i j) l k = absurd (⊎_elim (λ e. omega arith) (⊎_elim (λ e. omega arith) (λ e. omega arith)) k)
+kept (DataBit i j) l k = absurd (k i j refl)
 kept CodeBit l k = refl
 kept Unreadable l k = refl
 
@@ -26,4 +24,4 @@ returns-in-DataBit c =
 
 pub returns-in_default : goal.returns-in_default
 returns-in_default c =
-    kept c.args.verdict c.args.chunk.now c.in_default.keys2
+    kept c.args.verdict c.args.chunk.now c.in_default.not-DataBit

@@ -1,5 +1,5 @@
 -- The shifted one is the power of two that `flip_at` names, since it fits a byte.
-use Rattle.std.proofs.Common.{◌≡◌, ℕ, ◌*◌, ◌%◌, ◌^◌, ◌<◌, get_or, set, ap, ◌∙◌, mod-eq_of_lt, one-mul, arith, rules}
+use Rattle.std.proofs.Common.{◌≡◌, ℕ, ◌*◌, ◌%◌, ◌^◌, ◌<◌, get_or, set, ap, ◌∙◌, mod-eq_of_lt, one-mul, arith}
 use lib.Bits.{bit_xor}
 use Rattle.page.proofs.Chunks.{bit_byte}
 use Rattle.page.proofs.raw.flip_bit.Goals as goal

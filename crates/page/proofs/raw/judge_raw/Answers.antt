@@ -1,5 +1,5 @@
 -- The parts lent are the page's chunks and code bytes, so the verdicts are the page's, and the branch taken is its branch.
-use Rattle.std.proofs.Common.{◌≡◌, ℕ, Bool, true, false, cond, ◌&&◌, List, sym, refl, ◌∙◌, rules}
+use Rattle.std.proofs.Common.{◌≡◌, ℕ, Bool, true, false, cond, ◌&&◌, List, sym, refl, ◌∙◌}
 use mathlib.Core.Option.{none, some}
 use Rattle.ecc.specs.declared.FourVerdicts.{FourVerdicts}
 use Rattle.page.specs.declared.Mended.{Mended}

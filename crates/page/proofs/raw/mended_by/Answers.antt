@@ -1,5 +1,4 @@
 -- Each field is what the chunk of its number was judged.
-use Rattle.std.proofs.Common.{rules}
 use Rattle.page.proofs.raw.mended_by.Goals as goal
 
 pub returns : goal.returns

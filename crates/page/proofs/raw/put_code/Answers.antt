@@ -1,5 +1,5 @@
 -- The three stores put the code of the lent chunk, which is chunk k of the data, into its place.
-use Rattle.std.proofs.Common.{◌+◌, ◌*◌, ap, ◌∙◌, arith, length-set, rules}
+use Rattle.std.proofs.Common.{◌+◌, ◌*◌, ap, ◌∙◌, arith, length-set}
 use Rattle.page.specs.Page.{put_at}
 use Rattle.page.proofs.Lists.{stored}
 use Rattle.page.proofs.Chunks.{fresh}

@@ -1,7 +1,6 @@
 -- The code's test is the definition's, and a shift of 1 is the power that the definition sets.
 use Prim.Native.Nat.{◌%◌, ◌/◌, ◌<◌}
 use native.Mathlib.Omega.{arith}
-use borrow.Author.Rules.{rules}
 use borrow.Author.Tests.{ltb-true}
 use lib.Dec.{eqb}
 use Rattle.model.proofs.Equality.{and_l, and_r}

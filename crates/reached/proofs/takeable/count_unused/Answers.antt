@@ -1,17 +1,15 @@
 -- The loop keeps the counts of the free clusters passed and of those held back, and of the block looked up last whether it is listed.
-use Prim.Native.Nat.{◌-◌, ◌<◌, ◌≤◌}
+use Prim.Native.Nat.{◌<◌}
 use mathlib.Core.Bool.{◌&&◌, false, not, true}
-use mathlib.Core.Logic.{⊎_elim}
 use mathlib.Core.Path.{◌∙◌, ◌≡◌, ap, refl}
 use native.Mathlib.Omega.{arith}
-use borrow.Author.Rules.{rules}
 use lib.Dec.{ltb}
 use lib.ListN.{length}
 use Rattle.model.specs.Counts.{may_take_on, total_below}
-use Rattle.reached.specs.Blocks.{Knows}
 use Rattle.reached.specs.Totals.{free_at, held_at}
 use Rattle.reached.proofs.CountLaws.{free-test, held_test, total-same, total-step}
 use Rattle.reached.proofs.takeable.count_unused.Goals as goal
+use Rattle.reached.proofs.takeable.count_unused.Goals.{then-takeable-table, else-takeable-table, then-takeable-table-2, else-takeable-table-2}
 
 pub loop-i-init : goal.loop-i-init
 loop-i-init c = (omega arith, refl, refl, omega arith, omega arith, c.new-last.ensures)
@@ -54,16 +52,16 @@ loop-i-preserved c =
     let may : (ltb l.i c.take_limit-limit.result && not c.at-last.result.listed) ≡ may_take l.i =
     rw (c.take_limit-limit.ensures, known, c.at-last.ensures.0) in (
       omega arith,
-      ⊎_elim
-          (λ w. w.1 ∙ total-step (free_at may_take t) l.free 1 l.i l.invariant.1 (free-test t l.i inside may_take _ may true w.0.taken))
-          (λ w. w.1 ∙ total-same (free_at may_take t) l.free l.i l.invariant.1 (free-test t l.i inside may_take _ may false w.0.left))
-          c.if-takeable-table.branch,
-      ⊎_elim
-          (λ w. w.1 ∙ total-step (held_at may_take t) l.held 1 l.i l.invariant.2 (held_test t l.i inside may_take _ may true w.0.taken))
-          (λ w. w.1 ∙ total-same (held_at may_take t) l.held l.i l.invariant.2 (held_test t l.i inside may_take _ may false w.0.left))
-          c.if-takeable-table-2.branch,
-      ⊎_elim (λ w. omega (arith, w.1)) (λ w. omega (arith, w.1)) c.if-takeable-table.branch,
-      ⊎_elim (λ w. omega (arith, w.1)) (λ w. omega (arith, w.1)) c.if-takeable-table-2.branch,
+      elim c.if-takeable-table.branch [
+        | then-takeable-table w ↦ w.free-is ∙ total-step (free_at may_take t) l.free 1 l.i l.invariant.1 (free-test t l.i inside may_take _ may true w.if-takeable-table.true)
+        | else-takeable-table w ↦ w.free-is ∙ total-same (free_at may_take t) l.free l.i l.invariant.1 (free-test t l.i inside may_take _ may false w.if-takeable-table.false)
+      ],
+      elim c.if-takeable-table-2.branch [
+        | then-takeable-table-2 w ↦ w.held-is ∙ total-step (held_at may_take t) l.held 1 l.i l.invariant.2 (held_test t l.i inside may_take _ may true w.if-takeable-table-2.true)
+        | else-takeable-table-2 w ↦ w.held-is ∙ total-same (held_at may_take t) l.held l.i l.invariant.2 (held_test t l.i inside may_take _ may false w.if-takeable-table-2.false)
+      ],
+      elim c.if-takeable-table.branch [ then-takeable-table w ↦ omega (arith, w.free-is) | else-takeable-table w ↦ omega (arith, w.free-is) ],
+      elim c.if-takeable-table-2.branch [ then-takeable-table-2 w ↦ omega (arith, w.held-is) | else-takeable-table-2 w ↦ omega (arith, w.held-is) ],
       known,
     )
 

@@ -1,15 +1,9 @@
-use Prim.Native.Nat.{◌-◌, ◌<◌, ◌≤◌}
-use mathlib.Core.Bool.{◌&&◌, false, not, true}
-use mathlib.Core.Logic.{⊎_elim}
-use mathlib.Core.Path.{◌∙◌, ◌≡◌, ap, refl}
-use native.Mathlib.Omega.{arith}
-use borrow.Author.Rules.{rules}
-use lib.Dec.{ltb}
+use Prim.Native.Nat.{◌-◌, ◌≤◌}
+use mathlib.Core.Path.{◌≡◌}
 use lib.ListN.{length}
 use Rattle.model.specs.Counts.{may_take_on, total_below}
 use Rattle.reached.specs.Blocks.{Knows}
 use Rattle.reached.specs.Totals.{free_at, held_at}
-use Rattle.reached.proofs.CountLaws.{free-test, held_test, total-same, total-step}
 use Rattle.reached.proofs.takeable.count_unused.Given as goal
 
 abbrev pub invariant-loop-i : goal.invariant-loop-i

@@ -1,11 +1,6 @@
 -- The loop's invariant: whether the block was met, or stands in what is left of the list, is the answer.
-use Prim.Native.Nat.{◌-◌, ◌≤◌}
-use mathlib.Core.Bool.{◌||◌}
-use mathlib.Core.Path.{◌≡◌, ◌∙◌, refl, sym}
+use mathlib.Core.Path.{◌∙◌, refl, sym}
 use native.Mathlib.Omega.{arith}
-use borrow.Author.Rules.{rules}
-use lib.ListN.{drop, length}
-use Rattle.model.specs.Counts.{is_listed}
 use Rattle.reached.proofs.ListLaws.{listed-all, listed_more}
 use Rattle.reached.proofs.takeable.is_listed.Goals as goal
 

@@ -1,11 +1,8 @@
 use Prim.Native.Nat.{◌-◌, ◌≤◌}
 use mathlib.Core.Bool.{◌||◌}
-use mathlib.Core.Path.{◌≡◌, ◌∙◌, refl, sym}
-use native.Mathlib.Omega.{arith}
-use borrow.Author.Rules.{rules}
+use mathlib.Core.Path.{◌≡◌}
 use lib.ListN.{drop, length}
 use Rattle.model.specs.Counts.{is_listed}
-use Rattle.reached.proofs.ListLaws.{listed-all, listed_more}
 use Rattle.reached.proofs.takeable.is_listed.Given as goal
 
 abbrev pub invariant-loop-i : goal.invariant-loop-i
