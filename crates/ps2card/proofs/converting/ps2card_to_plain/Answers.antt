@@ -8,11 +8,19 @@ use Rattle.ps2card.proofs.converting.ps2card_to_plain.Goals as goal
 pub returns-in-Refused : goal.returns-in-Refused
 returns-in-Refused c =
     let done = c.to_plain.ensures in
-    let e = sym (ap (λ (r : Conversion). told_conversion r c.to_plain.new.1.0) c.in-Refused.is) ∙ done.told in
-    rw (← e) (c.tell_refusal.ensures.0, (c.tell_refusal.ensures.1, rw (← e) at done.output))
+    let e = sym (ap (λ (r : Conversion). told_conversion r c.to_plain.new.out) c.in-Refused.is) ∙ done.told in
+    rw (← e) (record {
+      value = c.tell_refusal.ensures.0;
+      page_after = c.tell_refusal.ensures.1;
+      out_after = rw (← e) at done.output;
+    })
 
 pub returns-in-Done : goal.returns-in-Done
 returns-in-Done c =
     let done = c.to_plain.ensures in
-    let e = sym (ap (λ (r : Conversion). told_conversion r c.to_plain.new.1.0) c.in-Done.is) ∙ done.told in
-    rw (← e) (refl, (refl, refl))
+    let e = sym (ap (λ (r : Conversion). told_conversion r c.to_plain.new.out) c.in-Done.is) ∙ done.told in
+    rw (← e) (record {
+      value = refl;
+      page_after = refl;
+      out_after = refl;
+    })

@@ -8,11 +8,17 @@ use Rattle.ps2card.proofs.converting.ps2card_to_raw.Goals as goal
 pub returns-in-Refused : goal.returns-in-Refused
 returns-in-Refused c =
     let done = c.to_raw.ensures in
-    let e = sym (ap (λ (r : Conversion). told_conversion r c.to_raw.new.1.0) c.in-Refused.is) ∙ done.told in
-    rw (← e) (c.number.ensures, rw (← e) at done.output)
+    let e = sym (ap (λ (r : Conversion). told_conversion r c.to_raw.new.out) c.in-Refused.is) ∙ done.told in
+    rw (← e) (record {
+      value = c.number.ensures;
+      out_after = rw (← e) at done.output;
+    })
 
 pub returns-in-Done : goal.returns-in-Done
 returns-in-Done c =
     let done = c.to_raw.ensures in
-    let e = sym (ap (λ (r : Conversion). told_conversion r c.to_raw.new.1.0) c.in-Done.is) ∙ done.told in
-    rw (← e) (refl, refl)
+    let e = sym (ap (λ (r : Conversion). told_conversion r c.to_raw.new.out) c.in-Done.is) ∙ done.told in
+    rw (← e) (record {
+      value = refl;
+      out_after = refl;
+    })

@@ -13,14 +13,26 @@ use Rattle.ps2card.proofs.reading.ps2card_read.Goals as goal
 pub returns-in-Unknown : goal.returns-in-Unknown
 returns-in-Unknown c =
     let a = c.args in
-    rw (unknown-so (fault 1 0) (λ f. read_of f a.image.now a.path.now a.offset (length a.out.now)) a.format c.format_of-named.ensures c.in-Unknown.is) (c.tell_refusal.ensures.0, (c.tell_refusal.ensures.1, (refl, (refl, refl))))
+    rw (unknown-so (fault 1 0) (λ f. read_of f a.image.now a.path.now a.offset (length a.out.now)) a.format c.format_of-named.ensures c.in-Unknown.is) (record {
+      value = c.tell_refusal.ensures.0;
+      page_after = c.tell_refusal.ensures.1;
+      count_after = refl;
+      mended_after = refl;
+      out_after = refl;
+    })
 
 pub returns-in-Refused : goal.returns-in-Refused
 returns-in-Refused c =
     let a = c.args in
     let refused = told-refused length (sym (ap told_read c.in-Refused.is) ∙ c.read.ensures.told.count) in
     rw (known_so (fault 1 0) (λ f. read_of f a.image.now a.path.now a.offset (length a.out.now)) a.format c.format_of-named.ensures c.in-Known.is ∙ refused)
-    (c.tell_refusal-in-Refused.ensures.0, (c.tell_refusal-in-Refused.ensures.1, (refl, (rw refused at c.read.ensures.counted, rw refused at c.read.ensures.told.buffer))))
+    (record {
+      value = c.tell_refusal-in-Refused.ensures.0;
+      page_after = c.tell_refusal-in-Refused.ensures.1;
+      count_after = refl;
+      mended_after = rw refused at c.read.ensures.counted;
+      out_after = rw refused at c.read.ensures.told.buffer;
+    })
 
 pub returns-in-Bytes : goal.returns-in-Bytes
 returns-in-Bytes c =
@@ -28,4 +40,10 @@ returns-in-Bytes c =
     let e = told-value length (sym (ap told_read c.in-Bytes.is) ∙ c.read.ensures.told.count) in
     let mended = known_so 0 (λ f. read_mended f a.image.now a.path.now a.offset (length a.out.now)) a.format c.format_of-named.ensures c.in-Known.is in
     rw (known_so (fault 1 0) (λ f. read_of f a.image.now a.path.now a.offset (length a.out.now)) a.format c.format_of-named.ensures c.in-Known.is ∙ e.1)
-    (refl, (refl, (e.2, (rw e.1 at c.read.ensures.counted ∙ sym mended, rw e.1 at c.read.ensures.told.buffer))))
+    (record {
+      value = refl;
+      page_after = refl;
+      count_after = e.2;
+      mended_after = rw e.1 at c.read.ensures.counted ∙ sym mended;
+      out_after = rw e.1 at c.read.ensures.told.buffer;
+    })

@@ -30,11 +30,17 @@ returns-in-Unknown c =
     let a = c.args in
     let image = a.image.now in
     let e = unknown-so (none a.minutes) (λ f. listing_of f image a.minutes) a.format c.format_of-named.ensures c.in-Unknown.is ∙ sym (none-listed a.minutes) ∙ ap (listing_of Raw []) (sym (to_z-of_z w32 a.minutes c.ranges.minutes)) in
-    rw e (c.list.ensures.length, c.list.ensures.text)
+    rw e (record {
+      value = c.list.ensures.length;
+      out_after = c.list.ensures.text;
+    })
 
 pub returns-in-Known : goal.returns-in-Known
 returns-in-Known c =
     let a = c.args in
     let image = a.image.now in
     let e = known_so (none a.minutes) (λ f. listing_of f image a.minutes) a.format c.format_of-named.ensures c.in-Known.is ∙ ap (listing_of _ image) (sym (to_z-of_z w32 a.minutes c.ranges.minutes)) in
-    rw e (c.list-in-Known.ensures.length, c.list-in-Known.ensures.text)
+    rw e (record {
+      value = c.list-in-Known.ensures.length;
+      out_after = c.list-in-Known.ensures.text;
+    })
