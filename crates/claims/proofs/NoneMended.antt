@@ -1,6 +1,6 @@
 -- Where no page has a corrected chunk, no call reports one: a plain image, and a raw one whose codes all match.
-use Prim.Native.Nat.{ℕ, zero, suc, ◌+◌}
-use mathlib.Core.List.{List, ◌++◌, map}
+use Prim.Native.Nat.{ℕ, zero, suc}
+use mathlib.Core.List.{List, map}
 use mathlib.Core.Option.{Option, none, some}
 use mathlib.Core.Path.{◌∙◌, ◌≡◌, ap, refl, sym}
 use native.Mathlib.Omega.{arith}
@@ -19,7 +19,6 @@ use Rattle.model.proofs.NeededPages.{total-zero}
 use Rattle.model.specs.Check.{Marks, Result, and_then, fault, ok}
 use Rattle.model.specs.Lookup.{Found, absent, found, look_up, tell}
 use Rattle.model.specs.Names.{Path}
-use Rattle.model.specs.Needed.{total_over}
 use Rattle.model.specs.Refusal.{way}
 use Rattle.model.specs.Tree.{Root, Slot, Tree}
 use Rattle.claims.specs.Formats.{NoneMended}

@@ -20,7 +20,7 @@ use Rattle.lookup.proofs.Arrivals.{arrive}
 use Rattle.lookup.proofs.CardLaws.{call-accepted}
 use Rattle.lookup.proofs.EnterLaws.{file-kind}
 use Rattle.tree.proofs.PageReads.{view-sized}
-use Rattle.lookup.proofs.PathWalk.{at_path}
+use Rattle.lookup.proofs.PathWalk.{at_path_lem}
 use Rattle.lookup.specs.Find.{find_in, find_of, found_entry}
 use Rattle.lookup.specs.Paths.{with_path}
 use Rattle.lookup.specs.Read.{read_from, read_in, read_of}
@@ -155,13 +155,13 @@ module _ (format : Format) (image : List ℕ) (s : Superblock) (root : Root) (m 
   tree-at = ap (λ r. standing_in r names) checked
 
   found_at : find_of format image path ≡ and_then there (λ x. found_entry x.0 x.1)
-  found_at = call-accepted format image path (λ s. find_in) s root m checked ∙ ap (λ o. with_path o (find_in root)) parsed ∙ at_path found_entry root names
+  found_at = call-accepted format image path (λ s. find_in) s root m checked ∙ ap (λ o. with_path o (find_in root)) parsed ∙ at_path_lem found_entry root names
 
   read_at : (from room : ℕ) → read_of format image path from room ≡ on_image s.geometry (and_then there (λ x. read_from from room x.0 x.1))
   read_at from room =
       call-accepted format image path (λ t r q. on_image t.geometry (read_in r q from room)) s root m checked
       ∙ ap (λ o. with_path o (λ q. on_image s.geometry (read_in root q from room))) parsed
-      ∙ ap (on_image s.geometry) (at_path (read_from from room) root names)
+      ∙ ap (on_image s.geometry) (at_path_lem (read_from from room) root names)
 
   page-at : page_read format image path ≡ (λ k. on_image s.geometry (and_then there (λ x. read_from (512 * k) 512 x.0 x.1)))
   page-at = λ i k. read_at (512 * k) 512 i

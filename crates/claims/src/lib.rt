@@ -1,5 +1,6 @@
 // What is claimed of images. Each function does nothing; its contract is the claim.
 #![tactic(auto)]
+
 ghost use Rattle.ecc.specs.Claims.{TwoFlipsUnreadable};
 ghost use Rattle.tree.specs.Counted.{CountsAddUp};
 ghost use Rattle.claims.specs.Conversions.{ConversionExact, ConversionKeeps, ConversionReturns};

@@ -1,5 +1,5 @@
 -- The count of corrected chunks as the check up to the table grows it, page by page.
-use Rattle.std.proofs.Common.{◌≡◌, ℕ, suc, ◌+◌, ◌*◌, ◌^◌, ◌<◌, ◌≤◌, List, [], ◌∷◌, length, drop, sym, refl, ap, ◌∙◌, add-one, arith, drop_of_length-le, drop-cons}
+use Rattle.std.proofs.Common.{◌≡◌, ℕ, suc, ◌+◌, ◌*◌, ◌^◌, ◌<◌, ◌≤◌, List, [], ◌∷◌, length, drop, sym, ap, ◌∙◌, add-one, arith, drop_of_length-le, drop-cons}
 use Rattle.page.specs.declared.Format.{Format}
 use Rattle.page.specs.Mended.{mended_chunks, wrapped}
 use Rattle.page.proofs.Mending.{count-on, mended-most}

@@ -1,5 +1,6 @@
 // The superblock and the allocation table of a card, with the refusals in the paper's order.
 #![tactic(auto)]
+
 pub mod page0;
 pub mod table;
 

@@ -1,5 +1,5 @@
 -- The table is loaded only where the whole check was passed, so that a refusal leaves it.
-use Rattle.std.proofs.Common.{◌≡◌, ℕ, List, sym, ap, ◌∙◌, arith, rules}
+use Rattle.std.proofs.Common.{◌≡◌, ℕ, List, sym, ap, ◌∙◌, arith}
 use Rattle.page.specs.declared.Format.{Format}
 use Rattle.model.specs.Check.{Result}
 use Rattle.layout.specs.declared.Superblock.{Superblock}

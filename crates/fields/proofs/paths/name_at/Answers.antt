@@ -10,6 +10,7 @@ pub returns-then-path-eq0 : goal.returns-then-path-eq0
 returns-then-path-eq0 c =
     name-nowhere c.args.path.now c.args.index c.if-path-eq0.true
 
+-- a name ends inside the bytes
 pub slice_bounds-result-count : goal.slice_bounds-result-count
 slice_bounds-result-count c = omega (arith, end-inside c.args.path.now c.loop-left.from c.name_end-end.result c.loop-left.invariant.0 c.name_end-end.ensures)
 

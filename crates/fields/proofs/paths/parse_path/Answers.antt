@@ -28,6 +28,7 @@ returns-then-end-path c =
     let only = names-last _ _ _ loop.invariant.0 c.name_end-end.ensures c.if-end-path.true in
     parse-good c.args.path.now c.if-path-ne47.false (omega arith) _ (loop.invariant.1 ∙ ap (λ (p : Path). loop.count + length p) only) (omega arith) (omega arith) (loop.invariant.2 ∙ ap good_names only ∙ rw (← c.is_good_name.ensures, c.if-not-is_good_name.false))
 
+-- a name ends inside the bytes
 pub overflow_add-from : goal.overflow_add-from
 overflow_add-from c = omega (arith, end-inside c.args.path.now c.loop-count.from c.name_end-end.result c.loop-count.invariant.0 c.name_end-end.ensures)
 

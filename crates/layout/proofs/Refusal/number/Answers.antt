@@ -1,5 +1,4 @@
 -- Each case's number is the table's.
-use Rattle.std.proofs.Common.{rules}
 use Rattle.layout.proofs.Refusal.number.Goals as goal
 
 pub returns-in-BadShift : goal.returns-in-BadShift

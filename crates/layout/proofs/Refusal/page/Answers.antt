@@ -1,5 +1,4 @@
 -- The page of 2, and 0 for every other case.
-use Rattle.std.proofs.Common.{rules}
 use Rattle.layout.proofs.Refusal.page.Goals as goal
 
 pub returns-in-BadShift : goal.returns-in-BadShift

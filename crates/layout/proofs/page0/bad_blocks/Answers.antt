@@ -1,8 +1,8 @@
 -- The loop's invariant: the first words of the list are read, the others zero.
-use Rattle.std.proofs.Common.{◌≡◌, ℕ, ◌+◌, ◌-◌, ◌*◌, ◌≤◌, List, replicate, sym, refl, ◌∙◌, arith, rules}
+use Rattle.std.proofs.Common.{◌≡◌, ◌+◌, ◌*◌, sym, refl, ◌∙◌, arith}
 use Rattle.model.specs.Bytes.{word}
 use Rattle.model.specs.Counts.{list_words}
-use Rattle.layout.proofs.UpTo.{filled, filled_more, filled_none, filled-whole}
+use Rattle.layout.proofs.UpTo.{filled_more, filled_none, filled-whole}
 use Rattle.layout.proofs.page0.bad_blocks.Invariants.{zeros}
 use Rattle.layout.proofs.page0.bad_blocks.Goals as goal
 

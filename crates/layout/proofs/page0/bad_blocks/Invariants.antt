@@ -1,7 +1,7 @@
-use Rattle.std.proofs.Common.{◌≡◌, ℕ, ◌+◌, ◌-◌, ◌*◌, ◌≤◌, List, replicate, sym, refl, ◌∙◌, arith, rules}
+use Rattle.std.proofs.Common.{◌≡◌, ℕ, ◌+◌, ◌-◌, ◌*◌, ◌≤◌, List, replicate}
 use Rattle.model.specs.Bytes.{word}
 use Rattle.model.specs.Counts.{list_words}
-use Rattle.layout.proofs.UpTo.{filled, filled_more, filled_none, filled-whole}
+use Rattle.layout.proofs.UpTo.{filled}
 use Rattle.layout.proofs.page0.bad_blocks.Given as goal
 
 abbrev pub zeros : List ℕ

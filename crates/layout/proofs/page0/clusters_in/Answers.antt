@@ -1,5 +1,4 @@
 -- The divisor is the format's.
-use Rattle.std.proofs.Common.{rules}
 use Rattle.layout.proofs.page0.clusters_in.Goals as goal
 
 pub returns : goal.returns

@@ -1,5 +1,4 @@
 -- Each number of the rule is the one that was read.
-use Rattle.std.proofs.Common.{rules}
 use Rattle.layout.proofs.page0.fixed_numbers.Goals as goal
 
 pub returns : goal.returns

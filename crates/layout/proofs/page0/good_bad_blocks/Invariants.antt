@@ -1,7 +1,5 @@
-use Rattle.std.proofs.Common.{◌≡◌, ◌-◌, ◌≤◌, length, drop, sym, refl, ◌∙◌, arith, rules}
-use borrow.Author.Tests.{not-false, not-true}
+use Rattle.std.proofs.Common.{◌≡◌, ◌-◌, ◌≤◌, length, drop}
 use Rattle.layout.specs.Superblock.{good_bad_blocks}
-use Rattle.layout.proofs.ListLaws.{list_done, list-more, list-stop}
 use Rattle.layout.proofs.page0.good_bad_blocks.Given as goal
 
 abbrev pub invariant-loop-i : goal.invariant-loop-i

@@ -1,5 +1,4 @@
 -- Each test is the definition's, on the format's numbers.
-use Rattle.std.proofs.Common.{rules}
 use Rattle.layout.proofs.page0.good_length.Goals as goal
 
 pub returns : goal.returns

@@ -1,5 +1,4 @@
 -- The rules are those of the four parts, in the same order.
-use Rattle.std.proofs.Common.{rules}
 use Rattle.layout.proofs.page0.good_superblock.Goals as goal
 
 pub returns : goal.returns

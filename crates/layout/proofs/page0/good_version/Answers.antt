@@ -1,5 +1,4 @@
 -- One of the two texts stands at 0x1C.
-use Rattle.std.proofs.Common.{rules}
 use Rattle.layout.proofs.page0.good_version.Goals as goal
 
 pub returns : goal.returns

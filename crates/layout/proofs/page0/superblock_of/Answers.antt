@@ -1,5 +1,4 @@
 -- Each field is the word, or the words, that were read at its place.
-use Rattle.std.proofs.Common.{rules}
 use Rattle.layout.proofs.page0.superblock_of.Goals as goal
 
 pub returns : goal.returns

@@ -1,5 +1,5 @@
 -- The part that is lent is the slice, and `check::same` is true just where two texts are the same.
-use Rattle.std.proofs.Common.{◌≡◌, ℕ, ◌+◌, ◌-◌, length, take, drop, sym, ap, ◌∙◌, arith, rules}
+use Rattle.std.proofs.Common.{◌≡◌, ℕ, ◌+◌, ◌-◌, length, take, drop, sym, ap, ◌∙◌, arith}
 use Rattle.model.specs.Bytes.{slice}
 use Rattle.layout.proofs.Texts.{same_text}
 use Rattle.layout.proofs.page0.text_stands.Goals as goal

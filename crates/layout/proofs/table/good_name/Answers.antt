@@ -1,5 +1,4 @@
 -- Both halves are the callees' answers.
-use Rattle.std.proofs.Common.{rules}
 use Rattle.layout.proofs.table.good_name.Goals as goal
 
 pub returns : goal.returns

@@ -1,9 +1,8 @@
 -- The loop's invariant: judging the names from i on, those before them seen, is judging them all.
-use Rattle.std.proofs.Common.{◌≡◌, ℕ, ◌-◌, ◌*◌, ◌≤◌, Bool, ◌&&◌, List, ◌++◌, sym, refl, ◌∙◌, arith, rules}
-use borrow.Author.Tests.{not-true, not-false}
+use Rattle.std.proofs.Common.{◌≡◌, ℕ, ◌*◌, Bool, ◌&&◌, List, ◌++◌, sym, refl, ◌∙◌, arith}
 use Rattle.model.specs.Bytes.{word}
 use Rattle.layout.specs.Table.{good_name}
-use Rattle.layout.proofs.Names.{is_new, good_from, good_at, names-stop, names_more, names-done}
+use Rattle.layout.proofs.Names.{is_new, good_at, names-stop, names_more, names-done}
 use Rattle.layout.proofs.table.good_names.Goals as goal
 
 tested : (f : ℕ → ℕ) (indirect offset : ℕ) (bad : List ℕ) (count i name : ℕ) (a b : Bool) → name ≡ f i → a ≡ good_name offset bad name → b ≡ is_new f indirect name i
@@ -24,7 +23,7 @@ returns-then-not-good_name-is_new c =
     let a = c.args in
     let f : ℕ → ℕ = λ j. word (a.first.now ++ a.second.now) (4 * j) in
     let test = tested f a.indirect a.offset a.bad.now a.count c.loop-i.i c.name_at-name.result c.good_name.result c.is_new.result c.name_at-name.ensures c.good_name.ensures c.is_new.ensures in
-    sym (c.loop-i.invariant.1 ∙ names-stop f a.indirect a.offset a.bad.now a.count c.loop-i.i c.loop-i-test.true (test ∙ not-true _ c.if-not-good_name-is_new.true-raw))
+    sym (c.loop-i.invariant.1 ∙ names-stop f a.indirect a.offset a.bad.now a.count c.loop-i.i c.loop-i-test.true (test ∙ c.if-not-good_name-is_new.true))
 
 pub overflow_add-i : goal.overflow_add-i
 overflow_add-i c = omega arith
@@ -37,7 +36,7 @@ loop-i-preserved c =
     let a = c.args in
     let f : ℕ → ℕ = λ j. word (a.first.now ++ a.second.now) (4 * j) in
     let test = tested f a.indirect a.offset a.bad.now a.count c.loop-i.i c.name_at-name.result c.good_name.result c.is_new.result c.name_at-name.ensures c.good_name.ensures c.is_new.ensures in
-    (omega arith, c.loop-i.invariant.1 ∙ names_more f a.indirect a.offset a.bad.now a.count c.loop-i.i c.loop-i-test.true (test ∙ not-false _ c.if-not-good_name-is_new.false-raw))
+    (omega arith, c.loop-i.invariant.1 ∙ names_more f a.indirect a.offset a.bad.now a.count c.loop-i.i c.loop-i-test.true (test ∙ c.if-not-good_name-is_new.false))
 
 pub returns : goal.returns
 returns c =

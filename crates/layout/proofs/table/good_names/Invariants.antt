@@ -1,8 +1,6 @@
-use Rattle.std.proofs.Common.{◌≡◌, ℕ, ◌-◌, ◌*◌, ◌≤◌, Bool, ◌&&◌, List, ◌++◌, sym, refl, ◌∙◌, arith, rules}
-use borrow.Author.Tests.{not-true, not-false}
+use Rattle.std.proofs.Common.{◌≡◌, ◌-◌, ◌*◌, ◌≤◌, ◌++◌}
 use Rattle.model.specs.Bytes.{word}
-use Rattle.layout.specs.Table.{good_name}
-use Rattle.layout.proofs.Names.{is_new, good_from, good_at, names-stop, names_more, names-done}
+use Rattle.layout.proofs.Names.{good_from}
 use Rattle.layout.proofs.table.good_names.Given as goal
 
 abbrev pub invariant-loop-i : goal.invariant-loop-i

@@ -1,7 +1,7 @@
 -- From the last name down: a name that is met is not new, one that differs leaves the question as it was.
-use Rattle.std.proofs.Common.{◌≡◌, ◌*◌, ◌≤◌, ◌++◌, sym, refl, ◌∙◌, arith}
+use Rattle.std.proofs.Common.{◌*◌, ◌++◌, sym, refl, ◌∙◌, arith}
 use Rattle.model.specs.Bytes.{word}
-use Rattle.layout.proofs.Names.{is_new, new_none, new-not, new-later}
+use Rattle.layout.proofs.Names.{new_none, new-not, new-later}
 use Rattle.layout.proofs.table.is_new.Goals as goal
 
 pub loop-left-init : goal.loop-left-init

@@ -1,6 +1,6 @@
-use Rattle.std.proofs.Common.{◌≡◌, ◌*◌, ◌≤◌, ◌++◌, sym, refl, ◌∙◌, arith}
+use Rattle.std.proofs.Common.{◌≡◌, ◌*◌, ◌≤◌, ◌++◌}
 use Rattle.model.specs.Bytes.{word}
-use Rattle.layout.proofs.Names.{is_new, new_none, new-not, new-later}
+use Rattle.layout.proofs.Names.{is_new}
 use Rattle.layout.proofs.table.is_new.Given as goal
 
 abbrev pub invariant-loop-left : goal.invariant-loop-left

@@ -1,18 +1,16 @@
 -- The loop's invariant: judging the pages from page t of the table on is judging them all.
-use Rattle.std.proofs.Common.{◌≡◌, ℕ, ◌+◌, ◌-◌, ◌*◌, ◌<◌, ◌≤◌, ◌++◌, length, sym, refl, ◌∙◌, arith, rules}
-use borrow.Author.Tests.{not-true, not-false}
-use Rattle.page.specs.Mended.{mended_chunks, wrapped}
+use Rattle.std.proofs.Common.{ℕ, ◌*◌, ◌<◌, ◌≤◌, ◌++◌, length, sym, refl, ◌∙◌, arith}
+use Rattle.page.specs.Mended.{mended_chunks}
 use Rattle.page.specs.Page.{page_at}
 use Rattle.page.proofs.Puts.{judged-none}
 use Rattle.model.specs.Bytes.{word}
 use Rattle.model.specs.Check.{ok}
-use Rattle.layout.specs.declared.Superblock.{Superblock}
 use Rattle.layout.specs.Superblock.{up_to}
 use Rattle.layout.specs.Table.{table_names}
 use Rattle.layout.proofs.Stages.{there}
-use Rattle.layout.proofs.MendedLaws.{count-done, count-more, count_from}
+use Rattle.layout.proofs.MendedLaws.{count-done, count-more}
 use Rattle.layout.proofs.UpTo.{length-up_to}
-use Rattle.layout.proofs.TablePages.{pages_from, pages-stop, pages-more, pages-done}
+use Rattle.layout.proofs.TablePages.{pages-stop, pages-more, pages-done}
 use Rattle.layout.proofs.table.judge_pages.Goals as goal
 
 pub loop-t-init : goal.loop-t-init
@@ -27,7 +25,7 @@ returns-then-not-judge_counted c =
     let a = c.args in
     let f : ℕ → ℕ = λ i. word (a.first.now ++ a.second.now) (4 * i) in
     let inside : l.t < 2 * length (up_to f a.count) = omega (arith, length-up_to f a.count) in
-    let gone = judged-none (page_at a.format a.image.now c.table_page-p.result) (sym c.judge_counted.ensures.readable ∙ not-true _ c.if-not-judge_counted.true-raw) in record {
+    let gone = judged-none (page_at a.format a.image.now c.table_page-p.result) (sym c.judge_counted.ensures.readable ∙ c.if-not-judge_counted.true) in record {
       judged = λ s. sym (l.invariant.2 s ∙ pages-stop a.format a.image.now (up_to f a.count) (ok s) l.t inside (rw c.table_page-p.ensures at gone) ∙ rw c.table_page-p.ensures);
       counted = tt;
     }
@@ -44,7 +42,7 @@ loop-t-preserved c =
     let a = c.args in
     let f : ℕ → ℕ = λ i. word (a.first.now ++ a.second.now) (4 * i) in
     let inside : l.t < 2 * length (up_to f a.count) = omega (arith, length-up_to f a.count) in
-    let found = there (page_at a.format a.image.now c.table_page-p.result) (sym c.judge_counted.ensures.readable ∙ not-false _ c.if-not-judge_counted.false-raw) in (
+    let found = there (page_at a.format a.image.now c.table_page-p.result) (sym c.judge_counted.ensures.readable ∙ c.if-not-judge_counted.false) in (
       omega arith,
       count-more (mended_chunks a.format a.image.now) (up_to f a.count) a.mended.now l.mended l.t inside (rw c.table_page-p.ensures at c.judge_counted.ensures.counted) l.invariant.1,
       λ s. l.invariant.2 s ∙ pages-more a.format a.image.now (up_to f a.count) (ok s) l.t inside (rw c.table_page-p.ensures at found),

@@ -1,17 +1,10 @@
-use Rattle.std.proofs.Common.{◌≡◌, ℕ, ◌+◌, ◌-◌, ◌*◌, ◌<◌, ◌≤◌, ◌++◌, length, sym, refl, ◌∙◌, arith, rules}
-use borrow.Author.Tests.{not-true, not-false}
+use Rattle.std.proofs.Common.{◌≡◌, ◌+◌, ◌-◌, ◌*◌, ◌≤◌, ◌++◌}
 use Rattle.page.specs.Mended.{mended_chunks, wrapped}
-use Rattle.page.specs.Page.{page_at}
-use Rattle.page.proofs.Puts.{judged-none}
-use Rattle.model.specs.Bytes.{word}
 use Rattle.model.specs.Check.{ok}
 use Rattle.layout.specs.declared.Superblock.{Superblock}
-use Rattle.layout.specs.Superblock.{up_to}
 use Rattle.layout.specs.Table.{table_names}
-use Rattle.layout.proofs.Stages.{there}
-use Rattle.layout.proofs.MendedLaws.{count-done, count-more, count_from}
-use Rattle.layout.proofs.UpTo.{length-up_to}
-use Rattle.layout.proofs.TablePages.{pages_from, pages-stop, pages-more, pages-done}
+use Rattle.layout.proofs.MendedLaws.{count_from}
+use Rattle.layout.proofs.TablePages.{pages_from}
 use Rattle.layout.proofs.table.judge_pages.Given as goal
 
 abbrev pub invariant-loop-t : goal.invariant-loop-t

@@ -1,6 +1,5 @@
 -- Each stage's answer is the test that the definition makes there; the first that fails decides. Each page that was read is counted.
 use Rattle.std.proofs.Common.{◌+◌, ◌*◌, sym, ◌∙◌, rules}
-use borrow.Author.Tests.{not-true, not-false}
 use Rattle.page.specs.Mended.{mended_chunks}
 use Rattle.page.specs.Page.{page_at}
 use Rattle.page.proofs.Puts.{read_some, read_none}
@@ -11,16 +10,16 @@ use Rattle.layout.proofs.table.judge_table.Goals as goal
 pub returns-then-not-good_name : goal.returns-then-not-good_name
 unfolding open_table unless with_page
 returns-then-not-good_name c = record {
-      judged = rw (sym c.good_name.ensures ∙ not-true _ c.if-not-good_name.true-raw);
-      counted = tt;
-    }
+  judged = rw (sym c.good_name.ensures ∙ c.if-not-good_name.true);
+  counted = tt;
+}
 
 pub returns-then-not-read_counted : goal.returns-then-not-read_counted
 unfolding open_table unless with_page
 returns-then-not-read_counted c =
     let a = c.args in
-    let name = sym c.good_name.ensures ∙ not-false _ c.if-not-good_name.false-raw in
-    let none = read_none (page_at a.s.geometry.format a.image.now (2 * a.s.indirect)) c.read_counted.ensures.read (not-true _ c.if-not-read_counted.true-raw) in record {
+    let name = sym c.good_name.ensures ∙ c.if-not-good_name.false in
+    let none = read_none (page_at a.s.geometry.format a.image.now (2 * a.s.indirect)) c.read_counted.ensures.read c.if-not-read_counted.true in record {
       judged = rw (name, none);
       counted = tt;
     }
@@ -29,16 +28,16 @@ pub returns-then-not-read_counted-2 : goal.returns-then-not-read_counted-2
 unfolding open_table unless with_page
 returns-then-not-read_counted-2 c =
     let a = c.args in
-    let name = sym c.good_name.ensures ∙ not-false _ c.if-not-good_name.false-raw in
-    let one = read_some (page_at a.s.geometry.format a.image.now (2 * a.s.indirect)) c.read_counted.ensures.read (not-false _ c.if-not-read_counted.false-raw) in
-    let none = read_none (page_at a.s.geometry.format a.image.now (2 * a.s.indirect + 1)) c.read_counted-2.ensures.read (not-true _ c.if-not-read_counted-2.true-raw) in record {
+    let name = sym c.good_name.ensures ∙ c.if-not-good_name.false in
+    let one = read_some (page_at a.s.geometry.format a.image.now (2 * a.s.indirect)) c.read_counted.ensures.read c.if-not-read_counted.false in
+    let none = read_none (page_at a.s.geometry.format a.image.now (2 * a.s.indirect + 1)) c.read_counted-2.ensures.read c.if-not-read_counted-2.true in record {
       judged = rw (name, one, none);
       counted = tt;
     }
 
 pub slice_bounds-good_names-end : goal.slice_bounds-good_names-end
 slice_bounds-good_names-end c =
-    let known = c.well-formed.1.0 in
+    let known = c.well_formed.1.0 in
     search rules
 
 pub returns-then-good_names : goal.returns-then-good_names
@@ -47,9 +46,9 @@ returns-then-good_names c =
     let a = c.args in
     let format = a.s.geometry.format in
     let image = a.image.now in
-    let name = sym c.good_name.ensures ∙ not-false _ c.if-not-good_name.false-raw in
-    let one = read_some (page_at format image (2 * a.s.indirect)) c.read_counted.ensures.read (not-false _ c.if-not-read_counted.false-raw) in
-    let two = read_some (page_at format image (2 * a.s.indirect + 1)) c.read_counted-2.ensures.read (not-false _ c.if-not-read_counted-2.false-raw) in
+    let name = sym c.good_name.ensures ∙ c.if-not-good_name.false in
+    let one = read_some (page_at format image (2 * a.s.indirect)) c.read_counted.ensures.read c.if-not-read_counted.false in
+    let two = read_some (page_at format image (2 * a.s.indirect + 1)) c.read_counted-2.ensures.read c.if-not-read_counted-2.false in
     let names = sym c.good_names.ensures ∙ c.if-good_names.true in record {
       judged = c.judge_pages.ensures.judged a.s ∙ rw (name, one, two, names);
       counted = rw (one, two) (adds_on c.judge_pages.result a.mended.now (mended_chunks format image (2 * a.s.indirect)) _ _ c.read_counted.ensures.counted
@@ -60,9 +59,9 @@ pub returns : goal.returns
 unfolding open_table unless with_page
 returns c =
     let a = c.args in
-    let name = sym c.good_name.ensures ∙ not-false _ c.if-not-good_name.false-raw in
-    let one = read_some (page_at a.s.geometry.format a.image.now (2 * a.s.indirect)) c.read_counted.ensures.read (not-false _ c.if-not-read_counted.false-raw) in
-    let two = read_some (page_at a.s.geometry.format a.image.now (2 * a.s.indirect + 1)) c.read_counted-2.ensures.read (not-false _ c.if-not-read_counted-2.false-raw) in
+    let name = sym c.good_name.ensures ∙ c.if-not-good_name.false in
+    let one = read_some (page_at a.s.geometry.format a.image.now (2 * a.s.indirect)) c.read_counted.ensures.read c.if-not-read_counted.false in
+    let two = read_some (page_at a.s.geometry.format a.image.now (2 * a.s.indirect + 1)) c.read_counted-2.ensures.read c.if-not-read_counted-2.false in
     let names = sym c.good_names.ensures ∙ c.if-good_names.false in record {
       judged = rw (name, one, two, names);
       counted = tt;

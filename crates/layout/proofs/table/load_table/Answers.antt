@@ -1,5 +1,5 @@
 -- On a card that passed the check both indirect pages are read, so the names are the card's, and every table page is there.
-use Rattle.std.proofs.Common.{◌≡◌, ℕ, ◌+◌, ◌*◌, ◌<◌, true, List, ◌++◌, drop, ap, ◌∙◌, arith, rules}
+use Rattle.std.proofs.Common.{◌≡◌, ℕ, ◌+◌, ◌*◌, ◌<◌, true, List, ◌++◌, drop, ap, ◌∙◌, arith}
 use Rattle.page.specs.Page.{page_at, is_some}
 use Rattle.layout.specs.declared.Superblock.{Superblock}
 use Rattle.layout.specs.Superblock.{up_to}

@@ -1,9 +1,10 @@
 -- The loop's invariant: the first c words are the table's, the others as they were; the buffer has the page of word c, but where word c starts a page.
-use Rattle.std.proofs.Common.{◌≡◌, ◌-◌, ◌/◌, ◌%◌, ◌≤◌, ◌++◌, length, sym, refl, ◌∙◌, ⊎_elim, arith, length-set, rules}
-use Rattle.layout.specs.Table.{table_clusters, table_names, table_word}
-use Rattle.layout.proofs.UpTo.{filled, filled_none}
+use Rattle.std.proofs.Common.{◌≡◌, ◌/◌, ◌++◌, sym, refl, ◌∙◌, arith, length-set}
+use Rattle.layout.specs.Table.{table_clusters, table_names}
+use Rattle.layout.proofs.UpTo.{filled_none}
 use Rattle.layout.proofs.TableLaws.{Holding, just-read, word_more, still-held}
 use Rattle.layout.proofs.table.load_words.Goals as goal
+use Rattle.layout.proofs.table.load_words.Goals.{then-c-eq0, else-c-eq0}
 
 pub loop-c-init : goal.loop-c-init
 loop-c-init c = (omega arith, sym (filled_none _ _), refl, λ n. absurd (n refl))
@@ -29,8 +30,10 @@ loop-c-preserved c =
     let image = a.image.now in
     let names = table_names (a.first.now ++ a.second.now) (table_clusters a.end) in
     let here : Holding format image names l.c joined.page =
-    ⊎_elim (λ w. just-read format image names l.c w.1.ensures (c.requires.2 (l.c / 128) (omega arith)) w.3.ensures.0 w.4)
-    (λ w. w.1 ∙ l.invariant.3 w.0.left) joined.branch in (
+    elim joined.branch [
+      | then-c-eq0 w ↦ just-read format image names l.c w.table_page.ensures (c.requires.2 (l.c / 128) (omega arith)) w.read_page.ensures.read w.page-is
+      | else-c-eq0 w ↦ w.page-is ∙ l.invariant.3 w.if-c-eq0.false
+    ] in (
       omega arith,
       word_more format image names a.table.now l.table joined.page l.c (omega arith) here c.word_at.result c.word_at.ensures l.invariant.1,
       simp length-set l.invariant.2,

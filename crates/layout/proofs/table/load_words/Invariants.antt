@@ -1,7 +1,7 @@
-use Rattle.std.proofs.Common.{◌≡◌, ◌-◌, ◌/◌, ◌%◌, ◌≤◌, ◌++◌, length, sym, refl, ◌∙◌, ⊎_elim, arith, length-set, rules}
+use Rattle.std.proofs.Common.{◌≡◌, ◌-◌, ◌%◌, ◌≤◌, ◌++◌, length}
 use Rattle.layout.specs.Table.{table_clusters, table_names, table_word}
-use Rattle.layout.proofs.UpTo.{filled, filled_none}
-use Rattle.layout.proofs.TableLaws.{Holding, just-read, word_more, still-held}
+use Rattle.layout.proofs.UpTo.{filled}
+use Rattle.layout.proofs.TableLaws.{Holding}
 use Rattle.layout.proofs.table.load_words.Given as goal
 
 abbrev pub invariant-loop-c : goal.invariant-loop-c

@@ -1,5 +1,5 @@
 -- Name t / 2 of the list is the word that was read; past the list it is zero.
-use Rattle.std.proofs.Common.{◌*◌, ◌/◌, ◌++◌, arith, rules}
+use Rattle.std.proofs.Common.{◌*◌, ◌/◌, ◌++◌, arith}
 use lib.ListN.{get_or-eq_default}
 use Rattle.model.specs.Bytes.{word}
 use Rattle.layout.specs.Table.{table_names}

@@ -5,10 +5,6 @@ use Rattle.lookup.proofs.CardLaws.{words-fit}
 use borrow.Author.Rules.{rules}
 use Rattle.lookup.proofs.call.stand.Goals as goal
 
--- the count beside the rest
-with-count : {A B C D : Type 0} → A × (B × C) → D → A × (B × (C × D))
-with-count x d = (x.0, (x.1.0, (x.1.1, d)))
-
 pub stand_words-requires : goal.stand_words-requires
 stand_words-requires c =
     let a = c.args in
@@ -19,10 +15,20 @@ pub returns-in-Refused : goal.returns-in-Refused
 returns-in-Refused c =
     let a = c.args in
     let s = c.open_checked-opened.result.superblock in
-    with-count (stand-refused a.format a.image.now a.path.now _ _ c.open_checked-opened.ensures.working_room c.refused.result c.in-Refused.refusal c.refused.ensures (as-told s c.in-Refused.is c.open_checked-opened.ensures.checked)) c.open_checked-opened.ensures.mended
+    let x = stand-refused a.format a.image.now a.path.now _ _ c.open_checked-opened.ensures.working_room c.refused.result c.in-Refused.refusal c.refused.ensures (as-told s c.in-Refused.is c.open_checked-opened.ensures.checked) in record {
+      told = x.0;
+      working_room = x.1.0;
+      fits = x.1.1;
+      counted = c.open_checked-opened.ensures.mended;
+    }
 
 pub returns-in-Sound : goal.returns-in-Sound
 returns-in-Sound c =
     let a = c.args in
     let s = c.open_checked-opened.result.superblock in
-    with-count (stand-accepted a.format a.image.now a.path.now _ _ c.open_checked-opened.ensures.working_room c.stand_words.result s (as-told s c.in-Sound.is c.open_checked-opened.ensures.checked) c.stand_words.ensures) c.open_checked-opened.ensures.mended
+    let x = stand-accepted a.format a.image.now a.path.now _ _ c.open_checked-opened.ensures.working_room c.stand_words.result s (as-told s c.in-Sound.is c.open_checked-opened.ensures.checked) c.stand_words.ensures in record {
+      told = x.0;
+      working_room = x.1.0;
+      fits = x.1.1;
+      counted = c.open_checked-opened.ensures.mended;
+    }

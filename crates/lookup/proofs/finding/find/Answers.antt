@@ -21,8 +21,7 @@ returns-in-Refused c =
 pub returns-in-At : goal.returns-in-At
 returns-in-At c =
     let a = c.args in
-    let at = c.enum_told-1.given in
-    let answer = find_at _ _ _ (entry_of c.stand-stood.result.page) _ (ask-at (λ geometry. found_entry) a.format _ a.image.now a.path.now c.stand-stood.result c.stand-stood.ensures.told at.0.0 at.0.1.0 at.0.1.1.0 at.1) c.entry_of.ensures in record {
+    let answer = find_at _ _ _ (entry_of c.stand-stood.result.page) _ (ask-at (λ geometry. found_entry) a.format _ a.image.now a.path.now c.stand-stood.result c.stand-stood.ensures.told c.in-At.end c.in-At.geometry c.in-At.first c.in-At.is) c.entry_of.ensures in record {
       told = answer;
       counted = c.stand-stood.ensures.counted.0 ∙ reports _ (λ e. tt) (mended_of a.format a.image.now) a.mended.now answer.refusal;
     }

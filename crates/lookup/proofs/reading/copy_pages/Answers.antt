@@ -21,6 +21,7 @@ use Rattle.lookup.proofs.MendedLaws.{count-end, count-page}
 use Rattle.lookup.proofs.PagesLaws.{copy-end, copy_more, copy_step}
 use Rattle.tree.proofs.LookLaws.{step-even, step-odd}
 use Rattle.lookup.proofs.reading.copy_pages.Goals as goal
+use Rattle.lookup.proofs.reading.copy_pages.Goals.{then-k-eq1, else-k-eq1}
 
 pub loop-done-init : goal.loop-done-init
 loop-done-init c =
@@ -63,13 +64,13 @@ loop-done-preserved c =
     let n = cut.result in
     let count = a.count in
     let x : c.if-k-eq1.c ≡ cluster_after t w.c w.k =
-    ⊎_elim (λ v. step-odd t w.c w.k _ v.0.taken (v.2 ∙ v.1.ensures)) (λ v. step-even t w.c w.k _ v.0.left v.1) c.if-k-eq1.branch in
+    elim c.if-k-eq1.branch [ then-k-eq1 v ↦ step-odd t w.c w.k _ v.if-k-eq1.true (v.c-is ∙ v.next_of-c.ensures) | else-k-eq1 v ↦ step-even t w.c w.k _ v.if-k-eq1.false v.c-is ] in
     let less : count - (w.done + n) ≡ count - w.done - n = omega arith in
     let step = copy_step v (view-sized _ _ _) t w.c w.k w.from (count - w.done) n c.if-k-eq1.c _ (count - (w.done + n)) w.invariant.2 (omega (arith, c.loop-done-test.true)) cut.ensures x c.slot_page.ensures.0 less w.invariant.5 c.read_needed.ensures.read in (
       search rules,
       omega (arith, cut.ensures.wanted, w.invariant.1),
       omega arith,
-      ⊎_elim (λ v. omega (arith, v.2, v.1.ensures, c.shared_slice_known-2-1.given w.c)) (λ v. omega (arith, v.1)) c.if-k-eq1.branch,
+      elim c.if-k-eq1.branch [ then-k-eq1 v ↦ omega (arith, v.c-is, v.next_of-c.ensures, c.type_inv.table w.c) | else-k-eq1 v ↦ omega (arith, v.c-is) ],
       omega (arith, step.fewer, w.invariant.4),
       step.later,
       copy_more v (view-sized _ _ _) t w.c w.k w.from (count - w.done) n c.if-k-eq1.c (count - (w.done + n)) step cut.ensures.within _ _ w.done _ c.put_page_part.ensures refl ∙ w.invariant.6,

@@ -35,12 +35,11 @@ returns-in-Refused c =
 pub returns-in-At : goal.returns-in-At
 returns-in-At c =
     let a = c.args in
-    let at = c.standing-in-At-1.given in
     let room = length a.out.now in
-    let there = stood-at a.format _ a.image.now a.path.now c.stand-stood.result c.stand-stood.ensures.told at.0.0 at.0.1.0 at.0.1.1.0 at.1 in
+    let there = stood-at a.format _ a.image.now a.path.now c.stand-stood.result c.stand-stood.ensures.told c.in-At.end c.in-At.geometry c.in-At.first c.in-At.is in
     let counted = c.stand-stood.ensures.counted in
-    let answer = read-there a.format a.image.now a.path.now a.from room there.0 there.1 there.2 there.3 at.0.1.0 there.4 _ _ _ (c.read_words-outcome.ensures.told there.1 there.2 there.5) in record {
+    let answer = read-there a.format a.image.now a.path.now a.from room there.0 there.1 there.2 there.3 c.in-At.geometry there.4 _ _ _ (c.read_words-outcome.ensures.told there.1 there.2 there.5) in record {
       told = answer;
-      counted = read-reports a.format a.image.now a.path.now a.from room there.0 there.1 there.2 there.3 at.0.1.0 there.4 c.read_words-outcome.result _ _ c.settled.result a.mended.now counted.0 counted.1
+      counted = read-reports a.format a.image.now a.path.now a.from room there.0 there.1 there.2 there.3 c.in-At.geometry there.4 c.read_words-outcome.result _ _ c.settled.result a.mended.now counted.0 counted.1
           (c.read_words-outcome.ensures.counted there.1 there.2 there.5) c.settled.ensures.0 c.settled.ensures.1 answer.count c.report_read.ensures;
     }

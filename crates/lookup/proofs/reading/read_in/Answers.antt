@@ -64,7 +64,7 @@ copy_pages-requires c =
 
 pub returns-in-At : goal.returns-in-At
 returns-in-At c =
-    let known = c.well-formed in
+    let known = c.well_formed in
     let a = c.args in record {
       told = λ h s x. tells-unreadable (view_by a.geometry a.table.now a.image.now) a.table.now (λ z. refl) (view-sized _ _ _) a.geometry a.first a.from (length a.out.now) c.word_at-size.result c.least-count.result (entry_of a.page.now) c.word_at-size.ensures c.least-count.ensures _ c.cluster_at-start.ensures _ c.first_unreadable-bad.ensures.0 h s x (sym c.is_directory.ensures ∙ c.if-is_directory.false) (omega (arith, c.if-size-from.false)) c.if-count-eq0.false _ _ _ c.in-At.is (omega (arith, c.image_page.ensures, (within _ _ _ _ c.first_unreadable-bad.ensures.1 c.in-At.is).0)) _;
       counted = λ h s x. tt;

@@ -34,8 +34,7 @@ returns-in-Refused c =
 pub returns-in-At : goal.returns-in-At
 returns-in-At c =
     let a = c.args in
-    let at = c.standing-in-At-1.given in
-    let answer = step-at a.slot _ _ _ (entry_of c.stand-stood.result.page) _ (ask-at (λ geometry. step_from a.slot) a.format _ a.image.now a.path.now c.stand-stood.result c.stand-stood.ensures.told at.0.0 at.0.1.0 at.0.1.1.0 at.1) c.step_words-stepped.ensures in record {
+    let answer = step-at a.slot _ _ _ (entry_of c.stand-stood.result.page) _ (ask-at (λ geometry. step_from a.slot) a.format _ a.image.now a.path.now c.stand-stood.result c.stand-stood.ensures.told c.in-At.end c.in-At.geometry c.in-At.first c.in-At.is) c.step_words-stepped.ensures in record {
       told = answer;
       counted = rw c.stand-stood.ensures.counted.0 at c.report_step.ensures ∙ reports _ slot_in (mended_of a.format a.image.now) a.mended.now answer.slot;
     }

@@ -15,11 +15,11 @@ use Rattle.lookup.proofs.stepping.step_in.Goals as goal
 
 pub returns-then-not-is_directory : goal.returns-then-not-is_directory
 returns-then-not-is_directory c =
-    λ h s x. step-refused _ WrongKind _ (step-file (view_by c.args.geometry c.args.table.now c.args.image.now) c.args.table.now (λ a. refl) c.args.first c.args.slot (entry_of c.args.page.now) h s x (sym c.is_directory.ensures ∙ not-true _ c.if-not-is_directory.true-raw)) c.no_entry.ensures
+    λ h s x. step-refused _ WrongKind _ (step-file (view_by c.args.geometry c.args.table.now c.args.image.now) c.args.table.now (λ a. refl) c.args.first c.args.slot (entry_of c.args.page.now) h s x (sym c.is_directory.ensures ∙ c.if-not-is_directory.true)) c.no_entry.ensures
 
 pub returns-then-not-read_slot : goal.returns-then-not-read_slot
 returns-then-not-read_slot c =
-    λ h s x. absurd (let f = step-readable (view_by c.args.geometry c.args.table.now c.args.image.now) c.args.table.now (λ a. refl) c.args.first c.args.slot (entry_of c.args.page.now) h s x (sym c.is_directory.ensures ∙ not-false _ c.if-not-is_directory.false-raw) _ _ (live-as (view_by c.args.geometry c.args.table.now c.args.image.now) c.args.table.now c.args.first c.args.slot (entry_of c.args.page.now).length _ _ _ _ c.next_of.ensures c.slots_of.ensures c.word_at.ensures c.slots_of-2.ensures c.first_live-found.ensures.0 ∙ c.in-At.is) in tf (readable c.read_slot.ensures f.1) (not-true _ c.if-not-read_slot.true-raw))
+    λ h s x. absurd (let f = step-readable (view_by c.args.geometry c.args.table.now c.args.image.now) c.args.table.now (λ a. refl) c.args.first c.args.slot (entry_of c.args.page.now) h s x (sym c.is_directory.ensures ∙ c.if-not-is_directory.false) _ _ (live-as (view_by c.args.geometry c.args.table.now c.args.image.now) c.args.table.now c.args.first c.args.slot (entry_of c.args.page.now).length _ _ _ _ c.next_of.ensures c.slots_of.ensures c.word_at.ensures c.slots_of-2.ensures c.first_live-found.ensures.0 ∙ c.in-At.is) in tf (readable c.read_slot.ensures f.1) c.if-not-read_slot.true)
 
 pub overflow_add-result : goal.overflow_add-result
 overflow_add-result c =
@@ -27,8 +27,8 @@ overflow_add-result c =
 
 pub returns-in-Nowhere : goal.returns-in-Nowhere
 returns-in-Nowhere c =
-    λ h s x. step_end (view_by c.args.geometry c.args.table.now c.args.image.now) c.args.table.now (λ a. refl) c.args.first c.args.slot (entry_of c.args.page.now) h s x (sym c.is_directory.ensures ∙ not-false _ c.if-not-is_directory.false-raw) _ (live-as (view_by c.args.geometry c.args.table.now c.args.image.now) c.args.table.now c.args.first c.args.slot (entry_of c.args.page.now).length _ _ _ _ c.next_of.ensures c.slots_of.ensures c.word_at.ensures c.slots_of-2.ensures c.first_live-found.ensures.0 ∙ c.in-Nowhere.is) c.no_entry-in-Nowhere.ensures
+    λ h s x. step_end (view_by c.args.geometry c.args.table.now c.args.image.now) c.args.table.now (λ a. refl) c.args.first c.args.slot (entry_of c.args.page.now) h s x (sym c.is_directory.ensures ∙ c.if-not-is_directory.false) _ (live-as (view_by c.args.geometry c.args.table.now c.args.image.now) c.args.table.now c.args.first c.args.slot (entry_of c.args.page.now).length _ _ _ _ c.next_of.ensures c.slots_of.ensures c.word_at.ensures c.slots_of-2.ensures c.first_live-found.ensures.0 ∙ c.in-Nowhere.is) c.no_entry-in-Nowhere.ensures
 
 pub returns-else-not-read_slot : goal.returns-else-not-read_slot
 returns-else-not-read_slot c =
-    λ h s x. step-slot (view_by c.args.geometry c.args.table.now c.args.image.now) c.args.table.now (λ a. refl) c.args.first c.args.slot (entry_of c.args.page.now) h s x (sym c.is_directory.ensures ∙ not-false _ c.if-not-is_directory.false-raw) _ _ (live-as (view_by c.args.geometry c.args.table.now c.args.image.now) c.args.table.now c.args.first c.args.slot (entry_of c.args.page.now).length _ _ _ _ c.next_of.ensures c.slots_of.ensures c.word_at.ensures c.slots_of-2.ensures c.first_live-found.ensures.0 ∙ c.in-At.is) _ _ (was_read c.read_slot.ensures (not-false _ c.if-not-read_slot.false-raw)) c.entry_of.ensures
+    λ h s x. step-slot (view_by c.args.geometry c.args.table.now c.args.image.now) c.args.table.now (λ a. refl) c.args.first c.args.slot (entry_of c.args.page.now) h s x (sym c.is_directory.ensures ∙ c.if-not-is_directory.false) _ _ (live-as (view_by c.args.geometry c.args.table.now c.args.image.now) c.args.table.now c.args.first c.args.slot (entry_of c.args.page.now).length _ _ _ _ c.next_of.ensures c.slots_of.ensures c.word_at.ensures c.slots_of-2.ensures c.first_live-found.ensures.0 ∙ c.in-At.is) _ _ (was_read c.read_slot.ensures c.if-not-read_slot.false) c.entry_of.ensures

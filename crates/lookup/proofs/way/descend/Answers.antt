@@ -14,13 +14,13 @@ use Rattle.lookup.proofs.way.descend.Goals as goal
 pub returns-then-not-read_slot : goal.returns-then-not-read_slot
 returns-then-not-read_slot c =
     let a = c.args in
-    stays-zero (page_in a.geometry (length a.table.now) a.image.now 0) _ _ c.read_slot.ensures (not-true _ c.if-not-read_slot.true-raw)
-    ∙ way-none (view_by a.geometry a.table.now a.image.now) a.table.now a.path.now a.count (read_none _ c.read_slot.ensures (not-true _ c.if-not-read_slot.true-raw))
+    stays-zero (page_in a.geometry (length a.table.now) a.image.now 0) _ _ c.read_slot.ensures c.if-not-read_slot.true
+    ∙ way-none (view_by a.geometry a.table.now a.image.now) a.table.now a.path.now a.count (read_none _ c.read_slot.ensures c.if-not-read_slot.true)
 
 pub loop-i-init : goal.loop-i-init
 loop-i-init c =
     let a = c.args in
-    (omega arith, omega arith, omega arith, way-start (view_by a.geometry a.table.now a.image.now) a.table.now a.path.now a.count _ (read_some _ c.read_slot.ensures (not-false _ c.if-not-read_slot.false-raw)))
+    (omega arith, omega arith, omega arith, way-start (view_by a.geometry a.table.now a.image.now) a.table.now a.path.now a.count _ (read_some _ c.read_slot.ensures c.if-not-read_slot.false))
 
 pub returns-in-Absent : goal.returns-in-Absent
 returns-in-Absent c =
