@@ -1,4 +1,3 @@
--- The loop's invariant: what is left to free, freed from here on, gives the whole.
 use Prim.Native.Nat.{◌<◌, ◌^◌}
 use mathlib.Core.Path.{◌∙◌, ◌≡◌, refl, sym, ap}
 use mathlib.Core.Logic.{⊎_elim}
@@ -19,7 +18,7 @@ loop-left-preserved c =
       search rules,
       c.if-i-table.auto.table ∙ c.loop-left.auto.table,
       elim c.if-i-table.branch [
-          then-i-table w ↦ rw (w.table-is, c.next_of-next.ensures) (sym (freed l.table l.c l.left (omega arith))) ∙ l.invariant.2
+        | then-i-table w ↦ rw (w.table-is, c.next_of-next.ensures) (sym (freed l.table l.c l.left (omega arith))) ∙ l.invariant.2
         | else-i-table w ↦ rw (w.table-is, c.next_of-next.ensures) (sym (freed-past l.table l.c l.left (omega arith) w.if-i-table.false)) ∙ l.invariant.2
       ],
     )

@@ -1,5 +1,3 @@
--- The loop's invariant: the first `count` of the list are the free clusters below c that may be taken, and of the block
--- looked up last it is known whether it is listed.
 use Prim.Native.Nat.{◌+◌, ◌-◌, ◌≤◌, ℕ}
 use mathlib.Core.Bool.{Bool, ◌&&◌, not}
 use mathlib.Core.List.{List}
@@ -32,7 +30,7 @@ loop-c-preserved c =
     let known = c.at-last.ensures.1 l.invariant.4 in
     let may : (ltb l.c c.take_limit-limit.result && not c.at-last.result.listed) ≡ pool l.c = rw (known, c.at-last.ensures.0) in
     elim c.if-c-limit.branch [
-        then-c-limit w ↦ (omega arith, omega arith, c.if-c-limit.auto.list ∙ c.loop-c.auto.list, rw (w.list-is, w.count-is) (one_more pool t l.list l.count l.c l.invariant.3 _ may (omega arith) w.if-c-limit.true), known)
+      | then-c-limit w ↦ (omega arith, omega arith, c.if-c-limit.auto.list ∙ c.loop-c.auto.list, rw (w.list-is, w.count-is) (one_more pool t l.list l.count l.c l.invariant.3 _ may (omega arith) w.if-c-limit.true), known)
       | else-c-limit w ↦ (omega arith, omega arith, c.if-c-limit.auto.list ∙ c.loop-c.auto.list, rw (w.list-is, w.count-is) (not-one pool t l.list l.count l.c l.invariant.3 _ may w.if-c-limit.false), known)
     ]
 

@@ -1,4 +1,3 @@
--- The loop's invariant: the clusters from `left` on are linked, and `word` leads to the first of them.
 use Prim.Native.Nat.{◌-◌, ◌≤◌}
 use mathlib.Core.Path.{◌∙◌, ◌≡◌, refl, ap}
 use mathlib.Core.Logic.{⊎_elim}
@@ -31,7 +30,7 @@ loop-left-preserved c =
       c.if-i-table.auto.table ∙ c.loop-left.auto.table,
       word-to cs t l.table l.word l.left (omega arith) l.invariant.0 l.invariant.3 l.invariant.2,
       elim c.if-i-table.branch [
-          then-i-table w ↦ w.table-is ∙ linked cs t l.table l.word l.left (omega arith) l.invariant.0 l.invariant.3 l.invariant.2
+        | then-i-table w ↦ w.table-is ∙ linked cs t l.table l.word l.left (omega arith) l.invariant.0 l.invariant.3 l.invariant.2
         | else-i-table w ↦ w.table-is ∙ linked-past cs t l.table l.word l.left (omega arith) l.invariant.0 l.invariant.3 l.invariant.2 w.if-i-table.false
       ],
     )
