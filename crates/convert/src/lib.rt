@@ -1,5 +1,6 @@
 // An image in the other format: the data of each page as read, written in turn.
 #![tactic(auto)]
+
 ghost use Rattle.std.specs.Prelude.{◌≡◌, true, List, ℕ, ◌<◌, length, replicate};
 ghost use Rattle.page.specs.declared.Format.TheVariants.{Plain, Raw};
 ghost use Rattle.page.specs.Page.{is_some, page_at, pages_in};
@@ -21,7 +22,7 @@ pub enum Conversion {
 
 // Every page of the image in turn: the first that is unreadable decides.
 fn judge_pages(format: Format, image: &[u8]) -> Conversion
-    ensures* { λ r. ⌜ ((result : List ℕ) → told_conversion r result ≡ need_pages format image.now (up_to (λ p. p) (pages_in format (length image.now))) (ok result)) ⌝ }
+    ensures { (made : List ℕ) → told_conversion result made ≡ need_pages format image.now (up_to (λ p. p) (pages_in format (length image.now))) (ok made) }
 {
     let pages = page_count(format, image);
     let mut p = 0;

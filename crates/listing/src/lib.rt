@@ -1,5 +1,6 @@
 // The listing of a card as text in a lent buffer.
 #![tactic(auto)]
+
 mod emit;
 mod entries;
 mod lines;

@@ -1,7 +1,7 @@
 -- A read at a path: what it answers is what the slot there gives, and what it reports the check's count with its own pages'.
 use Prim.Native.Nat.{◌+◌, ◌<◌, ◌^◌, ℕ}
 use mathlib.Core.List.{List, map}
-use mathlib.Core.Path.{◌∙◌, ◌≡◌, ap, refl, sym}
+use mathlib.Core.Path.{◌∙◌, ◌≡◌, ap, sym}
 use native.Mathlib.Omega.{arith}
 use lib.ListN.{length}
 use Rattle.page.specs.declared.Format.{Format}
@@ -11,7 +11,7 @@ use Rattle.layout.specs.declared.Superblock.{Superblock}
 use Rattle.layout.specs.Mended.{mended_of, mended_over}
 use Rattle.layout.specs.See.{image_page, on_image}
 use Rattle.model.proofs.NeededPages.{total-map}
-use Rattle.model.specs.Check.{Result, and_then, fault, ok}
+use Rattle.model.specs.Check.{and_then, ok}
 use Rattle.model.specs.Needed.{total_over}
 use Rattle.model.specs.Tree.{Slot, Tree}
 use Rattle.tree.specs.Mended.{mended_page}

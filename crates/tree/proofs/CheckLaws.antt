@@ -1,13 +1,13 @@
 -- The counts that the code tells are the check's, by the table that was loaded.
 use Rattle.page.specs.declared.Format.{Format}
-use Rattle.std.proofs.Common.{◌≡◌, ℕ, ◌+◌, ◌^◌, ◌<◌, ◌≤◌, Bool, List, length, take, drop, sym, refl, ap, ◌∙◌, arith, length-append, take_at, le-ltb}
+use Rattle.std.proofs.Common.{◌≡◌, ℕ, ◌^◌, ◌<◌, ◌≤◌, Bool, List, length, take, drop, sym, refl, ap, ◌∙◌, arith, length-append, take_at, le-ltb}
 use mathlib.Core.Path.{fun_ext}
 use Rattle.layout.proofs.OpenFacts.{open-facts}
 use Rattle.layout.proofs.TableLaws.{length-table}
 use Rattle.layout.specs.declared.Refusal.{Refusal}
 use Rattle.layout.specs.declared.Superblock.{Superblock}
 use Rattle.layout.specs.Refusal.{number_of, page_of}
-use Rattle.layout.specs.See.{check_image, on_image, see, view_by}
+use Rattle.layout.specs.See.{check_image, on_image, view_by}
 use Rattle.layout.specs.Table.{open_card, table_after, table_of, told}
 use Rattle.model.proofs.CheckHolds.{check-holds}
 use Rattle.model.proofs.CountLaws.{card-used}
@@ -18,7 +18,7 @@ use Rattle.model.specs.View.{View, most_clusters}
 use Rattle.reached.proofs.CountLaws.{free-count, held-count, orphan-count, reached-count}
 use Rattle.reached.specs.Totals.{free_words, held_words, orphans_in}
 use Rattle.reached.specs.declared.Reached.{Reached}
-use Rattle.tree.specs.Counted.{check_of, counts_by, counts_in, counts_with, mended_unless, opened_by, superblock_in, tree_by, with_tree}
+use Rattle.tree.specs.Counted.{check_of, counts_by, counts_with, mended_unless, opened_by, superblock_in, tree_by, with_tree}
 use Rattle.tree.specs.Mended.{mended_page}
 use Rattle.tree.specs.declared.Counts.{Counts}
 use Rattle.layout.specs.declared.Verdict.{Verdict}

@@ -46,10 +46,6 @@ read-adds {o} chunks n {count} k e = go o (sym k.readable ∙ e)
     go none h c = tf h refl
     go (some d) h c = rw c (mod-mod (n + chunks) (2 ^ 64))
 
--- a third fact beside two
-pub also : {A B C : Type 0} → A × B → C → A × (B × C)
-also x y = (x.0, (x.1, y))
-
 pub look-adds : (seen : Look) (n chunks count : ℕ) → wrapped count ≡ wrapped (n + chunks) → LookAdds seen n chunks count
 look-adds (look.Unreadable page) n chunks count h = tt
 look-adds look.Bad n chunks count h = h

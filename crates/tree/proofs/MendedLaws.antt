@@ -1,6 +1,6 @@
 -- The count of corrected chunks is the sum over the pages that the check needs, and 64 bits hold it.
 use Rattle.page.specs.declared.Format.{Format}
-use Rattle.std.proofs.Common.{◌≡◌, ℕ, ◌+◌, ◌*◌, ◌^◌, ◌<◌, ◌≤◌, List, map, length, sym, refl, ap, ◌∙◌, arith, le-ltb}
+use Rattle.std.proofs.Common.{◌≡◌, ℕ, ◌+◌, ◌^◌, ◌<◌, ◌≤◌, List, map, length, sym, refl, ap, ◌∙◌, arith, le-ltb}
 use Rattle.page.proofs.Mending.{mended-most}
 use Rattle.page.specs.Mended.{mended_chunks, wrapped}
 use Rattle.layout.proofs.MendedLaws.{opening-small}
@@ -17,7 +17,7 @@ use Rattle.model.specs.Check.{Marks, Result, and_then, check_tree, fault, ok}
 use Rattle.model.specs.Holds.{HoldsCard}
 use Rattle.model.specs.Needed.{entry_pages_of, total_over}
 use Rattle.model.specs.Tree.{Root}
-use Rattle.model.specs.View.{View, most_clusters}
+use Rattle.model.specs.View.{most_clusters}
 use Rattle.tree.specs.Counted.{check_of, counts_by, counts_in, counts_with, mended_unless, opened_by, superblock_in, tree_by, with_tree}
 use Rattle.tree.specs.Mended.{mended_page}
 

@@ -7,7 +7,7 @@ use Rattle.page.specs.Mended.{wrapped}
 use Rattle.layout.specs.declared.Refusal.TheVariants as is
 use Rattle.layout.specs.See.{image_page, on_image}
 use Rattle.model.proofs.Equality.{and_r, to-T}
-use Rattle.model.specs.Check.{Marks, Result, and_then, check_tree, fault, follow_chain, judge_dots, marks, ok, sound, walk_directory}
+use Rattle.model.specs.Check.{Marks, Result, and_then, check_tree, fault, follow_chain, judge_dots, ok, sound, walk_directory}
 use Rattle.model.specs.Entry.{Entry, directory_clusters, is_directory, is_root}
 use Rattle.model.specs.Holds.{deepest}
 use Rattle.model.specs.Names.{dot_name, same_name}

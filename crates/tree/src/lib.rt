@@ -1,5 +1,6 @@
 // The check of a card: the walk of its directory tree and the counts of its clusters.
 #![tactic(auto)]
+
 pub mod along;
 mod names;
 pub mod slots;

@@ -1,8 +1,11 @@
 // Runs the chunk code on known vectors: a line has a chunk's 128 bytes and its code's three, in hexadecimal.
 #![tactic(auto)]
+
 ghost use Rattle.std.specs.Prelude.{◌≡◌, ◌+◌, ◌<◌, length};
 
 use ecc::{Code, Verdict};
+use std::io::{Read, Write};
+use std::{fs, io};
 
 // A line: 256 digits, a space, six digits, a newline.
 const LINE: usize = 264;
@@ -84,11 +87,16 @@ fn code_of(chunk: &[u8; 128]) -> Code {
     ecc::chunk_code(chunk)
 }
 
-fn judged(chunk: &[u8; 128], code: Code) -> Verdict {
-    ecc::judge_chunk(chunk, code)
+fn judged(chunk: &[u8; 128], code: &Code) -> Verdict {
+    let stored = Code {
+        byte0: code.byte0,
+        byte1: code.byte1,
+        byte2: code.byte2,
+    };
+    ecc::judge_chunk(chunk, stored)
 }
 
-fn is_same(a: Code, b: Code) -> bool {
+fn is_same(a: &Code, b: &Code) -> bool {
     (a.byte0 == b.byte0) & (a.byte1 == b.byte1) & (a.byte2 == b.byte2)
 }
 
@@ -148,15 +156,15 @@ fn tried(line: &[u8], i: usize, tally: Tally) -> Tally
         byte1: byte_at(line, 259),
         byte2: byte_at(line, 261),
     };
-    let same = is_same(code_of(&chunk), code);
-    let good = is_good(judged(&chunk, code));
+    let same = is_same(&code_of(&chunk), &code);
+    let good = is_good(judged(&chunk, &code));
     let n = i % 256;
     let one = (5 * n + 3) % 1024;
     flip(&mut chunk, one);
-    let found = is_at(judged(&chunk, code), one);
+    let found = is_at(judged(&chunk, &code), one);
     let two = (8 * n + 4) % 1024;
     flip(&mut chunk, two);
-    let unreadable = is_unreadable(judged(&chunk, code));
+    let unreadable = is_unreadable(judged(&chunk, &code));
     Tally {
         vectors: counted(tally.vectors, true),
         malformed: tally.malformed,
@@ -167,10 +175,9 @@ fn tried(line: &[u8], i: usize, tally: Tally) -> Tally
     }
 }
 
-fn report(name: &[u8], n: u64) {
-    io::write_all(1, name);
-    io::print_decimal(1, n);
-    io::write_all(1, b"\n");
+fn report(rt: &impl Print, name: &[u8], n: u64) -> io::Result<()> {
+    io::writer(rt).write_all(name)?;
+    println!(rt; "{n}")
 }
 
 fn all_tried(text: &[u8]) -> Tally {
@@ -193,26 +200,24 @@ fn all_tried(text: &[u8]) -> Tally {
     tally
 }
 
-fn run(text: &[u8]) {
+fn run(rt: &impl Print, text: &[u8]) -> io::Result<()> {
     let tally = all_tried(text);
-    report(b"vectors ", tally.vectors);
-    report(b"malformed ", tally.malformed);
-    report(b"left over bytes ", (text.len() % LINE) as u64);
-    report(b"code differs ", tally.differs);
-    report(b"good ", tally.good);
-    report(b"one flip found ", tally.found);
-    report(b"two flips unreadable ", tally.unreadable);
+    report(rt, b"vectors ", tally.vectors)?;
+    report(rt, b"malformed ", tally.malformed)?;
+    report(rt, b"left over bytes ", (text.len() % LINE) as u64)?;
+    report(rt, b"code differs ", tally.differs)?;
+    report(rt, b"good ", tally.good)?;
+    report(rt, b"one flip found ", tally.found)?;
+    report(rt, b"two flips unreadable ", tally.unreadable)
 }
 
-fn main() {
-    let path = b"ecc-vectors.txt";
-    let file = os::open_read(path);
-    if file < 0 {
-        os::fail(path);
-        return;
-    }
-    let mut text = [0u8; 68000];
-    let n = io::read_full(file, &mut text);
-    libc::close(file);
-    run(&text[..n]);
+fn main(rt: HostRuntime) -> io::Result<()> {
+    let path = "ecc-vectors.txt";
+    let file = match fs::open(&rt, path) {
+        Ok(file) => file,
+        Err(error) => return eprintln!(rt; "{path}: {error}"),
+    };
+    let mut text = Vec::new(rt.alloc());
+    file.take(68000).read_to_end(&mut text)?;
+    run(&rt, text.as_slice())
 }

@@ -1,10 +1,10 @@
 -- The loop's invariant: the first i bytes are zero, the others as they were.
-use Prim.Native.Nat.{ℕ, ◌-◌, ◌≤◌}
+use Prim.Native.Nat.{ℕ}
 use mathlib.Core.List.{List, ◌++◌, append-nil}
 use mathlib.Core.Path.{◌≡◌, refl, ap, ◌∙◌}
 use native.Mathlib.Omega.{arith}
 use borrow.Author.Fill.{fill_none, fill_more}
-use lib.ListN.{length, set, drop, replicate, drop_of_length-le, length-set}
+use lib.ListN.{length, set, replicate, drop_of_length-le, length-set}
 use Rattle.convert.proofs.clear.Goals as goal
 
 pub loop-i-init : goal.loop-i-init

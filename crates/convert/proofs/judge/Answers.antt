@@ -4,8 +4,8 @@ use mathlib.Core.Bool.{Bool, true, ◌&&◌}
 use mathlib.Core.Path.{◌≡◌, sym, ◌∙◌}
 use native.Mathlib.Nat.{mul-le-mul_left}
 use native.Mathlib.Omega.{arith}
-use borrow.Author.Rules.{rules}
-use borrow.Author.Tests.{leb-true, not-true, not-false}
+use Rattle.std.proofs.Common.{ne_eqb, eq-eqb}
+use borrow.Author.Tests.{leb-true}
 use lib.Dec.{eqb, leb}
 use lib.ListN.{length}
 use Rattle.page.specs.declared.Format.{Format}
@@ -30,25 +30,25 @@ room_fits size n h k = omega (arith, mul-le-mul_left size k)
 
 pub returns-then-not-good_length : goal.returns-then-not-good_length
 unfolding converted unless
-returns-then-not-good_length c = rw (sym c.good_length.ensures ∙ not-true _ c.if-not-good_length.true-raw)
+returns-then-not-good_length c = rw (sym c.good_length.ensures ∙ c.if-not-good_length.true)
 
 pub overflow_mul-cluster_bytes : goal.overflow_mul-cluster_bytes
 overflow_mul-cluster_bytes c =
     let a = c.args in
-    let good = sym c.good_length.ensures ∙ not-false _ c.if-not-good_length.false-raw in
+    let good = sym c.good_length.ensures ∙ c.if-not-good_length.false in
     record { fits = room_fits c.cluster_bytes.result c.clusters_in.result c.cluster_bytes.ensures.2 (rw c.clusters_in.ensures (few-clusters a.from (length a.image.now) good)) }
 
 pub returns-then-not-room-cluster_bytes : goal.returns-then-not-room-cluster_bytes
 unfolding converted unless
 returns-then-not-room-cluster_bytes c =
-    let good = sym c.good_length.ensures ∙ not-false _ c.if-not-good_length.false-raw in
-    let room = rw (c.cluster_bytes.ensures.0, c.clusters_in.ensures) at (not-true (eqb c.args.room (c.cluster_bytes.result * c.clusters_in.result)) c.if-not-room-cluster_bytes.true-raw) in
+    let good = sym c.good_length.ensures ∙ c.if-not-good_length.false in
+    let room = rw (c.cluster_bytes.ensures.0, c.clusters_in.ensures) at (ne_eqb c.args.room (c.cluster_bytes.result * c.clusters_in.result) c.if-not-room-cluster_bytes.true) in
     rw (good, room)
 
 pub returns : goal.returns
 unfolding converted unless
 returns c =
     let a = c.args in
-    let good = sym c.good_length.ensures ∙ not-false _ c.if-not-good_length.false-raw in
-    let room = rw (c.cluster_bytes.ensures.0, c.clusters_in.ensures) at (not-false (eqb a.room (c.cluster_bytes.result * c.clusters_in.result)) c.if-not-room-cluster_bytes.false-raw) in
+    let good = sym c.good_length.ensures ∙ c.if-not-good_length.false in
+    let room = rw (c.cluster_bytes.ensures.0, c.clusters_in.ensures) at (eq-eqb a.room (c.cluster_bytes.result * c.clusters_in.result) c.if-not-room-cluster_bytes.false) in
     c.judge_pages.ensures (in_format a.from a.to a.image.now) ∙ rw (good, room)

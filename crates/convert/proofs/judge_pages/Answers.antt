@@ -1,15 +1,12 @@
 -- The loop's invariant: judging the pages from p on is judging them all.
-use Prim.Native.Nat.{ℕ, ◌-◌, ◌≤◌}
-use mathlib.Core.List.{List}
-use mathlib.Core.Path.{◌≡◌, refl, sym, ◌∙◌}
+use mathlib.Core.Path.{refl, sym, ◌∙◌}
 use native.Mathlib.Omega.{arith}
-use borrow.Author.Rules.{rules}
 use borrow.Author.Tests.{not-true, not-false}
 use Rattle.page.specs.Page.{page_at}
 use Rattle.page.proofs.Puts.{judged-none}
 use Rattle.model.specs.Check.{ok}
 use Rattle.layout.proofs.Stages.{there}
-use Rattle.convert.proofs.AllPages.{all_from, all-stop, all_more, all_done}
+use Rattle.convert.proofs.AllPages.{all-stop, all_more, all_done}
 use Rattle.convert.proofs.judge_pages.Goals as goal
 
 pub loop-p-init : goal.loop-p-init

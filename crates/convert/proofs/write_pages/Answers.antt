@@ -1,15 +1,12 @@
 -- The loop's invariant: the pages below p are written, and nothing else.
-use Prim.Native.Nat.{◌-◌, ◌≤◌}
 use mathlib.Core.Bool.{true}
 use mathlib.Core.Path.{◌≡◌, refl, sym, ap, ◌∙◌}
 use native.Mathlib.Omega.{arith}
-use borrow.Author.Rules.{rules}
 use lib.ListN.{length}
 use Rattle.page.specs.Page.{page_at, pages_in}
 use Rattle.page.proofs.Laws.{length-put, page-length}
 use Rattle.layout.specs.Table.{data_of}
 use Rattle.layout.proofs.Stages.{read-data, there}
-use Rattle.convert.specs.Converted.{filled}
 use Rattle.convert.proofs.Filled.{filled_none, page-more}
 use Rattle.convert.proofs.write_pages.Goals as goal
 

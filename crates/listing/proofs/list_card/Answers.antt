@@ -9,7 +9,6 @@ use Rattle.lookup.proofs.CardLaws.{accepted, words-fit, words-hold}
 use Rattle.listing.specs.Text.{tree_text}
 use Rattle.listing.proofs.EmitLaws.{wrote-append, wrote_as}
 use Rattle.listing.proofs.ListingLaws.{listing-card, opens, passes}
-use borrow.Author.Rules.{rules}
 use Rattle.listing.proofs.list_card.Goals as goal
 
 pub list_words-requires : goal.list_words-requires
@@ -35,4 +34,4 @@ returns-in-Sound c =
     let root = (accepted format image s passed).root in
     let tree = c.list_words.ensures root (words-hold format image s passed _ _ c.open_card-opened.ensures.loaded) in
     wrote_as (listing-card format image a.minutes c.requires.1 a.counts c.requires.0 s opened)
-    (wrote-append (omega (arith, c.well-formed.1.1.1.1.1.0)) c.put_counts-at.ensures (wrote_as (ap (λ y. tree_text y [] root.slots) (to_z-of_z w32 a.minutes c.ranges.minutes)) tree))
+    (wrote-append (omega arith) c.put_counts-at.ensures (wrote_as (ap (λ y. tree_text y [] root.slots) (to_z-of_z w32 a.minutes c.ranges.minutes)) tree))

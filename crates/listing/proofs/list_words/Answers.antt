@@ -6,7 +6,6 @@ use mir.Syntax.{w32}
 use mir.ValLaws.{to_z-of_z}
 use Rattle.listing.specs.Text.{tree_text}
 use Rattle.listing.proofs.EmitLaws.{wrote_as}
-use borrow.Author.Rules.{rules}
 use Rattle.listing.proofs.list_words.Goals as goal
 
 pub slice_bounds-list_tree-end : goal.slice_bounds-list_tree-end

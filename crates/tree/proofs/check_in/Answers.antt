@@ -1,5 +1,5 @@
 -- `tree::check_in` meets its contract: the card that was opened is walked and counted.
-use Rattle.std.proofs.Common.{◌∙◌, rules}
+use Rattle.std.proofs.Common.{◌∙◌}
 use Rattle.layout.proofs.Stages.{as-told}
 use Rattle.tree.proofs.CheckLaws.{check-bad, end_fits, table-loaded, table-room}
 use Rattle.tree.proofs.MendedLaws.{check-card, opening-fits}

@@ -13,7 +13,7 @@ walk_root-walked-requires c =
 
 pub slice_bounds-count_unused-end : goal.slice_bounds-count_unused-end
 slice_bounds-count_unused-end c =
-    let known = c.well-formed in
+    let known = c.well_formed in
     search rules
 
 pub returns-in-Refused : goal.returns-in-Refused

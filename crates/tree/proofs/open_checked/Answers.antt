@@ -1,5 +1,5 @@
 -- `tree::open_checked` meets its contract: opened, then walked.
-use Rattle.std.proofs.Common.{◌∙◌, arith, rules}
+use Rattle.std.proofs.Common.{◌∙◌, arith}
 use Rattle.layout.proofs.Stages.{as-told}
 use Rattle.tree.proofs.CheckLaws.{end_fits, table-loaded, table-room, unopened}
 use Rattle.tree.proofs.MendedLaws.{mended-fits, mended-is, opened-is, opening-fits, unopened-mended}

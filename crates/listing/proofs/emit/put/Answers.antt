@@ -1,10 +1,6 @@
 -- The loop of `put` keeps that the bytes before i are written.
-use mathlib.Core.Path.{◌∙◌, ◌≡◌, refl}
-use Prim.Native.Nat.{◌-◌, ◌≤◌}
+use mathlib.Core.Path.{◌∙◌, refl}
 use native.Mathlib.Omega.{arith}
-use borrow.Author.Rules.{rules}
-use lib.ListN.{length, take}
-use Rattle.listing.specs.Emit.{Wrote}
 use Rattle.listing.proofs.EmitLaws.{wrote-length, wrote-more, wrote_none, wrote-whole}
 use Rattle.listing.proofs.emit.put.Goals as goal
 

@@ -1,10 +1,7 @@
-use mathlib.Core.Path.{◌∙◌, ◌≡◌, refl}
+use mathlib.Core.Path.{◌≡◌}
 use Prim.Native.Nat.{◌-◌, ◌≤◌}
-use native.Mathlib.Omega.{arith}
-use borrow.Author.Rules.{rules}
 use lib.ListN.{length, take}
 use Rattle.listing.specs.Emit.{Wrote}
-use Rattle.listing.proofs.EmitLaws.{wrote-length, wrote-more, wrote_none, wrote-whole}
 use Rattle.listing.proofs.emit.put.Given as goal
 
 abbrev pub invariant-loop-i : goal.invariant-loop-i

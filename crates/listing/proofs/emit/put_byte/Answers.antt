@@ -1,7 +1,6 @@
 -- `put_byte` stores the byte where there is room for it; past the end the buffer stays.
 use mathlib.Core.Path.{sym}
 use lib.Seq.{set_out}
-use borrow.Author.Rules.{rules}
 use Rattle.listing.proofs.emit.put_byte.Goals as goal
 
 pub returns : goal.returns

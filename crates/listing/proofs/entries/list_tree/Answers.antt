@@ -1,7 +1,6 @@
 -- `list_tree` lists the slots behind cluster 0, as many as the root's first page counts.
 use mathlib.Core.List.{[]}
 use mathlib.Core.Path.{◌∙◌, ap, refl}
-use borrow.Author.Tests.{not-false, not-true}
 use mir.Syntax.{w32}
 use mir.Val.{of_z, to_z}
 use mir.ValLaws.{to_z-of_z}
@@ -13,16 +12,15 @@ use Rattle.tree.proofs.LookLaws.{was_read}
 use Rattle.listing.specs.Text.{tree_text}
 use Rattle.listing.proofs.EmitLaws.{wrote_as}
 use Rattle.listing.proofs.TreeLaws.{root-read}
-use borrow.Author.Rules.{rules}
 use Rattle.listing.proofs.entries.list_tree.Goals as goal
 
 pub returns-then-not-read_slot : goal.returns-then-not-read_slot
 returns-then-not-read_slot c =
-    λ root card. tf (readable c.read_slot.ensures card.root_page) (not-true _ c.if-not-read_slot.true-raw)
+    λ root card. tf (readable c.read_slot.ensures card.root_page) c.if-not-read_slot.true
 
 pub returns : goal.returns
 returns c =
     let a = c.args in
     λ root card.
-    let text = root-read (to_z w32 (of_z w32 a.minutes)) (view_by a.geometry a.table.now a.image.now) a.table.now (λ n. refl) root card (entry_of c.read_slot.new.1.1.1.1.0) _ _ _ _ (was_read c.read_slot.ensures (not-false _ c.if-not-read_slot.false-raw)) c.root_path.ensures.0 c.next_of.ensures c.slots_of.ensures c.word_at.ensures in
+    let text = root-read (to_z w32 (of_z w32 a.minutes)) (view_by a.geometry a.table.now a.image.now) a.table.now (λ n. refl) root card (entry_of c.read_slot.new.out) _ _ _ _ (was_read c.read_slot.ensures c.if-not-read_slot.false) c.root_path.ensures.0 c.next_of.ensures c.slots_of.ensures c.word_at.ensures in
     wrote_as (text ∙ ap (λ s. tree_text s [] root.slots) (to_z-of_z w32 a.minutes c.ranges.minutes)) c.list_slots.ensures

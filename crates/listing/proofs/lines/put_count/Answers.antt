@@ -2,7 +2,6 @@
 use native.Mathlib.Omega.{arith}
 use Rattle.listing.specs.Text.{count_line}
 use Rattle.listing.proofs.EmitLaws.{wrote-append}
-use borrow.Author.Rules.{rules}
 use Rattle.listing.proofs.lines.put_count.Goals as goal
 
 pub returns : goal.returns

@@ -2,15 +2,13 @@
 use native.Mathlib.Omega.{arith}
 use Rattle.listing.specs.Text.{counts_text}
 use Rattle.listing.proofs.EmitLaws.{wrote-append}
-use borrow.Author.Rules.{rules}
 use Rattle.listing.proofs.lines.put_counts.Goals as goal
 
 pub returns : goal.returns
 unfolding counts_text
 returns c =
-    let small = c.well-formed.0 in
-    wrote-append (omega (arith, small))
-    (wrote-append (omega (arith, small))
-    (wrote-append (omega (arith, small)) (wrote-append (omega (arith, small)) (wrote-append (omega (arith, small)) c.put_count-a.ensures c.put_count-b.ensures) c.put_count-c.ensures) c.put_count-d.ensures)
+    wrote-append (omega arith)
+    (wrote-append (omega arith)
+    (wrote-append (omega arith) (wrote-append (omega arith) (wrote-append (omega arith) c.put_count-a.ensures c.put_count-b.ensures) c.put_count-c.ensures) c.put_count-d.ensures)
     c.put_count-e.ensures)
     c.put_count.ensures

@@ -2,20 +2,18 @@
 use native.Mathlib.Omega.{arith}
 use Rattle.listing.specs.Text.{entry_line}
 use Rattle.listing.proofs.EmitLaws.{wrote-append}
-use borrow.Author.Rules.{rules}
 use Rattle.listing.proofs.lines.put_entry.Goals as goal
 
 pub returns : goal.returns
 unfolding entry_line
 returns c =
-    let known = c.well-formed in
-    wrote-append (omega (arith, known.0))
-    (wrote-append (omega (arith, known.0))
-    (wrote-append (omega (arith, known.0))
-    (wrote-append (omega (arith, known.0))
-    (wrote-append (omega (arith, known.0))
-    (wrote-append (omega (arith, known.0))
-    (wrote-append (omega (arith, known.0)) c.put_byte-a.ensures c.put_byte-b.ensures)
+    wrote-append (omega arith)
+    (wrote-append (omega arith)
+    (wrote-append (omega arith)
+    (wrote-append (omega arith)
+    (wrote-append (omega arith)
+    (wrote-append (omega arith)
+    (wrote-append (omega arith) c.put_byte-a.ensures c.put_byte-b.ensures)
     c.put_number-c.ensures)
     c.put_byte-d.ensures)
     c.put_path-e.ensures)

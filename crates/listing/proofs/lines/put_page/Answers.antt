@@ -1,7 +1,6 @@
 -- `put_page` writes a page after the number 2, and nothing after any other.
 use native.Mathlib.Omega.{arith}
 use Rattle.listing.proofs.EmitLaws.{page-other, page-two, wrote-append, wrote_as, wrote_none}
-use borrow.Author.Rules.{rules}
 use Rattle.listing.proofs.lines.put_page.Goals as goal
 
 pub returns-then-number-eq2 : goal.returns-then-number-eq2

@@ -3,7 +3,6 @@ use mathlib.Core.Path.{ap, ap₂}
 use native.Mathlib.Omega.{arith}
 use Rattle.listing.specs.Text.{decimal_of, page_text, refusal_text}
 use Rattle.listing.proofs.EmitLaws.{wrote-append, wrote_as}
-use borrow.Author.Rules.{rules}
 use Rattle.listing.proofs.lines.put_refusal.Goals as goal
 
 pub returns : goal.returns

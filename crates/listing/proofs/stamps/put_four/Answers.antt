@@ -1,7 +1,6 @@
 -- The upper two digits, then the lower two.
 use native.Mathlib.Omega.{arith}
 use Rattle.listing.proofs.EmitLaws.{wrote-append}
-use borrow.Author.Rules.{rules}
 use Rattle.listing.proofs.stamps.put_four.Goals as goal
 
 pub returns : goal.returns

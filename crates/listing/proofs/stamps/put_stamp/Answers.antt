@@ -2,7 +2,6 @@
 use mathlib.Core.Path.{ap, sym}
 use Rattle.listing.specs.Stamps.{shown_text}
 use Rattle.listing.proofs.EmitLaws.{wrote_as}
-use borrow.Author.Rules.{rules}
 use Rattle.listing.proofs.stamps.put_stamp.Goals as goal
 
 pub returns-in-Unknown : goal.returns-in-Unknown

@@ -1,7 +1,6 @@
 -- Two digits one after the other.
 use native.Mathlib.Omega.{arith}
 use Rattle.listing.proofs.EmitLaws.{wrote-append}
-use borrow.Author.Rules.{rules}
 use Rattle.listing.proofs.stamps.put_two.Goals as goal
 
 pub returns : goal.returns

@@ -2,7 +2,6 @@
 use Rattle.layout.proofs.Stages.{as-told}
 use Rattle.lookup.proofs.AskLaws.{stand-accepted, stand-refused}
 use Rattle.lookup.proofs.CardLaws.{words-fit}
-use borrow.Author.Rules.{rules}
 use Rattle.lookup.proofs.call.stand.Goals as goal
 
 pub stand_words-requires : goal.stand_words-requires

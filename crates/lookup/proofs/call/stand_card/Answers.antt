@@ -5,7 +5,6 @@ use Rattle.lookup.specs.Paths.{stands_there}
 use Rattle.lookup.proofs.AskLaws.{way_at, way-refused}
 use Rattle.lookup.proofs.CallLaws.{call-absent, call_at, call-kind, call-malformed}
 use Rattle.lookup.proofs.DescendLaws.{leads}
-use borrow.Author.Rules.{rules}
 use Rattle.lookup.proofs.call.stand_card.Goals as goal
 
 pub returns-in-Malformed : goal.returns-in-Malformed

@@ -1,7 +1,6 @@
 -- The words are the part of the table that is lent on.
 use mathlib.Core.Path.{sym}
 use lib.Seq.{length-take-le}
-use borrow.Author.Rules.{rules}
 use Rattle.lookup.proofs.call.stand_words.Goals as goal
 
 pub slice_bounds-stand_card-end : goal.slice_bounds-stand_card-end

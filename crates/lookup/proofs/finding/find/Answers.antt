@@ -6,7 +6,6 @@ use Rattle.lookup.specs.Find.{found_entry}
 use Rattle.lookup.proofs.AnswerLaws.{find_at, find-refused}
 use Rattle.lookup.proofs.AskLaws.{ask-at, ask-refused}
 use Rattle.lookup.proofs.MendedLaws.{reports}
-use borrow.Author.Rules.{rules}
 use Rattle.lookup.proofs.finding.find.Goals as goal
 
 pub returns-in-Refused : goal.returns-in-Refused

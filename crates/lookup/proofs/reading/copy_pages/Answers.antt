@@ -1,21 +1,14 @@
 -- The loop of `copy_pages` keeps that the bytes left, put from here on, give the whole buffer, that the pages left are readable, and
 -- that their chunks give the whole count.
-use mathlib.Core.Logic.{◌⊎◌, inl, inr, ⊎_elim}
+use mathlib.Core.Logic.{inl, inr, ⊎_elim}
 use mathlib.Core.Path.{◌∙◌, ◌≡◌, refl}
-use Prim.Native.Nat.{◌+◌, ◌-◌, ◌<◌, ◌≤◌, ◌^◌}
+use Prim.Native.Nat.{◌+◌, ◌-◌, ◌<◌}
 use native.Mathlib.Omega.{arith}
 use borrow.Author.Rules.{rules}
-use lib.ListN.{length}
-use lib.Seq.{sets}
-use Rattle.page.specs.Mended.{wrapped}
 use Rattle.layout.specs.See.{view_by}
-use Rattle.model.specs.Bytes.{slice}
-use Rattle.model.specs.Needed.{total_over}
 use Rattle.tree.specs.Mended.{mended_page}
 use Rattle.lookup.specs.Descend.{data_along, pages_for}
-use Rattle.tree.specs.Scan.{scan, unread}
 use Rattle.tree.specs.Slots.{slot_pages, cluster_after}
-use Rattle.tree.specs.declared.along.Place.TheVariants.{Nowhere}
 use Rattle.tree.proofs.PageReads.{view-sized}
 use Rattle.lookup.proofs.MendedLaws.{count-end, count-page}
 use Rattle.lookup.proofs.PagesLaws.{copy-end, copy_more, copy_step}

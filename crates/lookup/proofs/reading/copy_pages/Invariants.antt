@@ -1,8 +1,6 @@
-use mathlib.Core.Logic.{◌⊎◌, inl, inr, ⊎_elim}
-use mathlib.Core.Path.{◌∙◌, ◌≡◌, refl}
+use mathlib.Core.Logic.{◌⊎◌}
+use mathlib.Core.Path.{◌≡◌}
 use Prim.Native.Nat.{◌+◌, ◌-◌, ◌<◌, ◌≤◌, ◌^◌}
-use native.Mathlib.Omega.{arith}
-use borrow.Author.Rules.{rules}
 use lib.ListN.{length}
 use lib.Seq.{sets}
 use Rattle.page.specs.Mended.{wrapped}
@@ -12,12 +10,8 @@ use Rattle.model.specs.Needed.{total_over}
 use Rattle.tree.specs.Mended.{mended_page}
 use Rattle.lookup.specs.Descend.{data_along, pages_for}
 use Rattle.tree.specs.Scan.{scan, unread}
-use Rattle.tree.specs.Slots.{slot_pages, cluster_after}
+use Rattle.tree.specs.Slots.{slot_pages}
 use Rattle.tree.specs.declared.along.Place.TheVariants.{Nowhere}
-use Rattle.tree.proofs.PageReads.{view-sized}
-use Rattle.lookup.proofs.MendedLaws.{count-end, count-page}
-use Rattle.lookup.proofs.PagesLaws.{copy-end, copy_more, copy_step}
-use Rattle.tree.proofs.LookLaws.{step-even, step-odd}
 use Rattle.lookup.proofs.reading.copy_pages.Given as goal
 
 abbrev pub invariant-loop-done : goal.invariant-loop-done

@@ -1,11 +1,8 @@
 -- The loop of `put_part` keeps that the bytes left, put from here on, give the whole buffer.
-use mathlib.Core.Path.{◌∙◌, ◌≡◌}
-use Prim.Native.Nat.{◌+◌, ◌-◌, ◌≤◌}
+use mathlib.Core.Path.{◌∙◌}
 use native.Mathlib.Omega.{arith}
 use borrow.Author.Rules.{rules}
-use lib.ListN.{length, length-set}
-use lib.Seq.{sets}
-use Rattle.model.specs.Bytes.{slice}
+use lib.ListN.{length-set}
 use Rattle.lookup.proofs.CopyLaws.{put-end, put-more, put-start}
 use Rattle.lookup.proofs.reading.put_part.Goals as goal
 

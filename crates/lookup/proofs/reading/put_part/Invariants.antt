@@ -1,11 +1,8 @@
-use mathlib.Core.Path.{◌∙◌, ◌≡◌}
+use mathlib.Core.Path.{◌≡◌}
 use Prim.Native.Nat.{◌+◌, ◌-◌, ◌≤◌}
-use native.Mathlib.Omega.{arith}
-use borrow.Author.Rules.{rules}
-use lib.ListN.{length, length-set}
+use lib.ListN.{length}
 use lib.Seq.{sets}
 use Rattle.model.specs.Bytes.{slice}
-use Rattle.lookup.proofs.CopyLaws.{put-end, put-more, put-start}
 use Rattle.lookup.proofs.reading.put_part.Given as goal
 
 abbrev pub invariant-loop-i : goal.invariant-loop-i

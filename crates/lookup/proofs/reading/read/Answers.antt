@@ -11,7 +11,6 @@ use Rattle.lookup.proofs.CardLaws.{read-unopened}
 use Rattle.lookup.proofs.AskLaws.{ask-refused, fits-at, read-so, room-length, stood-at}
 use Rattle.lookup.proofs.ReadCounts.{read-reports, read-there}
 use Rattle.lookup.proofs.MendedLaws.{reports}
-use borrow.Author.Rules.{rules}
 use Rattle.lookup.proofs.reading.read.Goals as goal
 
 pub slice_bounds-read_words-end : goal.slice_bounds-read_words-end

@@ -13,7 +13,6 @@ use Rattle.lookup.specs.Descend.{pages_for}
 use Rattle.tree.proofs.PageReads.{view-sized}
 use Rattle.lookup.proofs.ReadLaws.{read-beyond, read-directory, read-refused}
 use Rattle.lookup.proofs.ReadSteps.{copy-ready, counted-bytes, counted_none, least-within, tells-bytes, tells_none, tells-unreadable}
-use borrow.Author.Rules.{rules}
 use Rattle.lookup.proofs.reading.read_in.Goals as goal
 
 positive : (n : ℕ) → (n ≡ 0 → ⊥) → 0 < n
@@ -21,15 +20,15 @@ positive n h = omega arith
 
 pub returns-then-is_directory : goal.returns-then-is_directory
 returns-then-is_directory c = record {
-      told = λ h s x. read-refused c.args.geometry _ 10 0 WrongKind _ _ (read-directory (view_by c.args.geometry c.args.table.now c.args.image.now) c.args.table.now (λ a. refl) c.args.first c.args.from (length c.args.out.now) (entry_of c.args.page.now) h s x (sym c.is_directory.ensures ∙ c.if-is_directory.true)) refl refl;
-      counted = λ h s x. tt;
-    }
+  told = λ h s x. read-refused c.args.geometry _ 10 0 WrongKind _ _ (read-directory (view_by c.args.geometry c.args.table.now c.args.image.now) c.args.table.now (λ a. refl) c.args.first c.args.from (length c.args.out.now) (entry_of c.args.page.now) h s x (sym c.is_directory.ensures ∙ c.if-is_directory.true)) refl refl;
+  counted = λ h s x. tt;
+}
 
 pub returns-then-size-from : goal.returns-then-size-from
 returns-then-size-from c = record {
-      told = λ h s x. read-refused c.args.geometry _ 15 0 BadOffset _ _ (read-beyond (view_by c.args.geometry c.args.table.now c.args.image.now) c.args.table.now (λ a. refl) c.args.first c.args.from (length c.args.out.now) (entry_of c.args.page.now) h s x (sym c.is_directory.ensures ∙ c.if-is_directory.false) (omega (arith, c.word_at-size.ensures, c.if-size-from.true))) refl refl;
-      counted = λ h s x. tt;
-    }
+  told = λ h s x. read-refused c.args.geometry _ 15 0 BadOffset _ _ (read-beyond (view_by c.args.geometry c.args.table.now c.args.image.now) c.args.table.now (λ a. refl) c.args.first c.args.from (length c.args.out.now) (entry_of c.args.page.now) h s x (sym c.is_directory.ensures ∙ c.if-is_directory.false) (omega (arith, c.word_at-size.ensures, c.if-size-from.true))) refl refl;
+  counted = λ h s x. tt;
+}
 
 pub returns-then-count-eq0 : goal.returns-then-count-eq0
 returns-then-count-eq0 c =

@@ -1,7 +1,6 @@
 -- The words are the part of the table that is lent on.
 use mathlib.Core.Path.{sym}
 use lib.Seq.{length-take-le}
-use borrow.Author.Rules.{rules}
 use Rattle.lookup.proofs.reading.read_words.Goals as goal
 
 pub slice_bounds-read_in-end : goal.slice_bounds-read_in-end
@@ -10,6 +9,6 @@ slice_bounds-read_in-end c =
 
 pub returns : goal.returns
 returns c = record {
-      told = c.read_in.ensures.told;
-      counted = c.read_in.ensures.counted;
-    }
+  told = c.read_in.ensures.told;
+  counted = c.read_in.ensures.counted;
+}

@@ -11,7 +11,6 @@ use Rattle.lookup.specs.Step.{step_from}
 use Rattle.lookup.proofs.MendedLaws.{reports}
 use Rattle.lookup.proofs.StepLaws.{step-at, step-refused}
 use Rattle.lookup.proofs.AskLaws.{ask-at, ask-refused, fits-at, room-length}
-use borrow.Author.Rules.{rules}
 use Rattle.lookup.proofs.stepping.step.Goals as goal
 
 pub slice_bounds-step_words-end : goal.slice_bounds-step_words-end

@@ -1,7 +1,6 @@
 -- `step_in` reads the entry in the first live slot that the scan finds; the laws say that the tree has it there.
 use mathlib.Core.Path.{◌∙◌, refl, sym}
 use native.Mathlib.Omega.{arith}
-use borrow.Author.Tests.{not-false, not-true}
 use Rattle.layout.specs.See.{view_by}
 use Rattle.layout.specs.declared.Refusal.TheVariants.{WrongKind}
 use Rattle.model.proofs.Equality.{tf}
@@ -9,7 +8,6 @@ use Rattle.model.specs.Entry.{entry_of}
 use Rattle.tree.proofs.ScanLaws.{within}
 use Rattle.tree.proofs.PageReads.{readable}
 use Rattle.lookup.proofs.StepLaws.{live-as, step_end, step-file, step-readable, step-refused, step-slot}
-use borrow.Author.Rules.{rules}
 use Rattle.tree.proofs.LookLaws.{was_read}
 use Rattle.lookup.proofs.stepping.step_in.Goals as goal
 

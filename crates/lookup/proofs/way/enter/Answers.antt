@@ -1,7 +1,5 @@
 -- `enter` reads the page of the entry that the scan of the directory's slots finds, as the definition says.
 use mathlib.Core.Path.{◌∙◌, sym}
-use borrow.Author.Rules.{rules}
-use borrow.Author.Tests.{not-false, not-true}
 use Rattle.layout.specs.See.{view_by}
 use Rattle.lookup.proofs.EnterSteps.{entered-absent, entered-kind, entered-read, entered-unread}
 use Rattle.lookup.proofs.way.enter.Goals as goal

@@ -1,9 +1,10 @@
 -- The loop of `cluster_at` keeps the cluster of half cluster k.
-use Rattle.std.proofs.Common.{◌≡◌, ◌-◌, ◌^◌, ◌<◌, ◌≤◌, ◌∙◌, ⊎_elim, arith, rules}
-use Rattle.tree.specs.Slots.{cluster_at, cluster_after}
+use Rattle.std.proofs.Common.{◌≡◌, ◌∙◌, arith}
+use Rattle.tree.specs.Slots.{cluster_after}
 use Rattle.tree.proofs.ScanLaws.{cluster-start, cluster-step}
 use Rattle.tree.proofs.LookLaws.{step-even, step-odd}
 use Rattle.tree.proofs.along.cluster_at.Goals as goal
+use Rattle.tree.proofs.along.cluster_at.Goals.{then-k-eq1, else-k-eq1}
 
 pub loop-k-init : goal.loop-k-init
 loop-k-init c = (omega arith, omega arith, cluster-start _ _)
@@ -19,9 +20,15 @@ loop-k-preserved c =
     let t = c.args.table.now in
     let w = c.loop-k in
     let x : c.if-k-eq1.c ≡ cluster_after t w.c w.k =
-    ⊎_elim (λ v. step-odd t w.c w.k _ v.0.taken (v.2 ∙ v.1.ensures)) (λ v. step-even t w.c w.k _ v.0.left v.1) c.if-k-eq1.branch in (
+    elim c.if-k-eq1.branch [
+      | then-k-eq1 v ↦ step-odd t w.c w.k _ v.if-k-eq1.true (v.c-is ∙ v.next_of-c.ensures)
+      | else-k-eq1 v ↦ step-even t w.c w.k _ v.if-k-eq1.false v.c-is
+    ] in (
       omega arith,
-      ⊎_elim (λ v. omega (arith, v.2, v.1.ensures, c.shared_slice_known-1.given w.c)) (λ v. omega (arith, v.1)) c.if-k-eq1.branch,
+      elim c.if-k-eq1.branch [
+        | then-k-eq1 v ↦ omega (arith, v.next_of-c.ensures, c.type_inv.table w.c)
+        | else-k-eq1 v ↦ omega arith
+      ],
       cluster-step t c.args.first w.c w.k _ w.invariant.2 x,
     )
 

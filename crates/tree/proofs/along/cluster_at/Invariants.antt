@@ -1,7 +1,5 @@
-use Rattle.std.proofs.Common.{◌≡◌, ◌-◌, ◌^◌, ◌<◌, ◌≤◌, ◌∙◌, ⊎_elim, arith, rules}
-use Rattle.tree.specs.Slots.{cluster_at, cluster_after}
-use Rattle.tree.proofs.ScanLaws.{cluster-start, cluster-step}
-use Rattle.tree.proofs.LookLaws.{step-even, step-odd}
+use Rattle.std.proofs.Common.{◌≡◌, ◌-◌, ◌^◌, ◌<◌, ◌≤◌}
+use Rattle.tree.specs.Slots.{cluster_at}
 use Rattle.tree.proofs.along.cluster_at.Given as goal
 
 abbrev pub invariant-loop-k : goal.invariant-loop-k

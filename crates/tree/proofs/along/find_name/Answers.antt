@@ -1,5 +1,5 @@
 -- `find_name` is the one scan, for what it looks for.
-use Rattle.std.proofs.Common.{◌∙◌, rules}
+use Rattle.std.proofs.Common.{◌∙◌}
 use Rattle.tree.proofs.ScanLaws.{scan-all}
 use Rattle.tree.proofs.along.find_name.Goals as goal
 

@@ -1,5 +1,5 @@
 -- `first_dead` is the one scan, for what it looks for.
-use Rattle.std.proofs.Common.{◌∙◌, rules}
+use Rattle.std.proofs.Common.{◌∙◌}
 use Rattle.tree.proofs.ScanLaws.{scan-all}
 use Rattle.tree.proofs.along.first_dead.Goals as goal
 

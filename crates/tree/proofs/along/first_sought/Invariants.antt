@@ -1,9 +1,8 @@
-use Rattle.std.proofs.Common.{◌≡◌, ◌-◌, ◌^◌, ◌<◌, sym, refl, ◌∙◌, ⊎_elim, arith, rules}
+use Rattle.std.proofs.Common.{◌≡◌, ◌-◌, ◌^◌, ◌<◌}
 use Rattle.layout.specs.See.{view_by}
 use Rattle.tree.specs.Scan.{scan, seeks}
-use Rattle.tree.specs.Slots.{slot_pages, cluster_after}
-use Rattle.tree.proofs.ScanLaws.{rest, scan-end, scan-here, scan-later}
-use Rattle.tree.proofs.LookLaws.{step-even, step-odd}
+use Rattle.tree.specs.Slots.{slot_pages}
+use Rattle.tree.proofs.ScanLaws.{rest}
 use Rattle.tree.proofs.along.first_sought.Given as goal
 
 abbrev pub invariant-loop-k : goal.invariant-loop-k

@@ -1,5 +1,4 @@
 -- `first_unreadable` is the one scan, for what it looks for.
-use Rattle.std.proofs.Common.{rules}
 use Rattle.tree.proofs.along.first_unreadable.Goals as goal
 
 pub returns : goal.returns

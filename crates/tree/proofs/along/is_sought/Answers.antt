@@ -1,5 +1,4 @@
 -- Each case asks the test that it names.
-use Rattle.std.proofs.Common.{rules}
 use Rattle.tree.proofs.along.is_sought.Goals as goal
 
 pub returns-in-Named : goal.returns-in-Named

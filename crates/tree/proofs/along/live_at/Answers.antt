@@ -1,6 +1,6 @@
 -- `live_at` reads the page only from slot `from` on, and answers what the view's entry there says.
-use Rattle.std.proofs.Common.{◌≡◌, ℕ, ◌<◌, ◌≤◌, Bool, false, ◌&&◌, leb, arith, rules, le-leb}
-use borrow.Author.Tests.{lt-leb, not-false, not-true}
+use Rattle.std.proofs.Common.{◌≡◌, ℕ, ◌<◌, ◌≤◌, Bool, false, ◌&&◌, leb, arith, le-leb}
+use borrow.Author.Tests.{lt-leb}
 use Rattle.tree.proofs.PageReads.{none-lives, shown-live}
 use Rattle.tree.proofs.LookLaws.{unread}
 use Rattle.tree.proofs.along.live_at.Goals as goal
@@ -16,8 +16,8 @@ returns-then-k-from c = before _ _ _ c.if-k-from.true
 
 pub returns-then-not-read_slot : goal.returns-then-not-read_slot
 returns-then-not-read_slot c =
-    after c.args.from c.args.k _ _ (omega (arith, c.if-k-from.false)) (none-lives (unread c.read_slot.ensures (not-true _ c.if-not-read_slot.true-raw)))
+    after c.args.from c.args.k _ _ (omega (arith, c.if-k-from.false)) (none-lives (unread c.read_slot.ensures c.if-not-read_slot.true))
 
 pub returns : goal.returns
 returns c =
-    after c.args.from c.args.k _ _ (omega (arith, c.if-k-from.false)) (shown-live _ c.read_slot.ensures (not-false _ c.if-not-read_slot.false-raw) c.is_live.ensures)
+    after c.args.from c.args.k _ _ (omega (arith, c.if-k-from.false)) (shown-live _ c.read_slot.ensures c.if-not-read_slot.false c.is_live.ensures)

@@ -1,5 +1,5 @@
 -- `name_taken` meets its contract: the scan for the name finds a place exactly where a live entry before the slot bears it.
-use Rattle.std.proofs.Common.{sym, ap, ◌∙◌, rules}
+use Rattle.std.proofs.Common.{sym, ap, ◌∙◌}
 use Rattle.tree.proofs.ScanLaws.{is_found, taken_as}
 use Rattle.tree.proofs.along.name_taken.Goals as goal
 

@@ -1,5 +1,5 @@
 -- Past the end of a list its default stands.
-use Rattle.std.proofs.Common.{sym, arith, rules}
+use Rattle.std.proofs.Common.{sym, arith}
 use lib.ListN.{get_or-eq_default}
 use Rattle.tree.proofs.names.byte_or_zero.Goals as goal
 

@@ -1,7 +1,6 @@
 -- `tree::names::meet` meets its contract: what is left of the search gives what the whole of it gives.
-use Rattle.std.proofs.Common.{◌≡◌, ◌≤◌, sym, refl, ◌∙◌, arith, rules}
+use Rattle.std.proofs.Common.{sym, refl, ◌∙◌, arith}
 use Rattle.layout.specs.See.{view_by}
-use Rattle.tree.specs.Met.{Small, known, learnt}
 use Rattle.tree.proofs.MetLaws.{search-empty, search-found, search-next, search-over}
 use Rattle.tree.proofs.names.meet.Goals as goal
 
@@ -37,14 +36,14 @@ returns-then-word-eq0 c =
     let a = c.args in
     let l = c.loop-left in
     let e = search-empty (view_by a.geometry a.table.now a.image.now) a.table.now a.start a.k a.name.now _ a.page l.cells l.h l.left c.loop-left-test.true c.if-word-eq0.true in
-    rw (← c.name_hash-own.ensures.0) (e.0 ∙ sym l.invariant.0, e.1 ∙ sym l.invariant.1)
+    let h = c.name_hash-own.ensures.0 in record { value = rw (← h) (e.0 ∙ sym l.invariant.0); cells_after = rw (← h) (e.1 ∙ sym l.invariant.1) }
 
 pub returns-then-is_same : goal.returns-then-is_same
 returns-then-is_same c =
     let a = c.args in
     let l = c.loop-left in
     let e = search-found (view_by a.geometry a.table.now a.image.now) a.table.now a.start a.k a.name.now _ a.page l.cells l.h l.left c.loop-left-test.true c.if-word-eq0.false (sym c.is_same.ensures ∙ c.if-is_same.true) in
-    rw (← c.name_hash-own.ensures.0) (e.0 ∙ sym l.invariant.0, e.1 ∙ sym l.invariant.1)
+    let h = c.name_hash-own.ensures.0 in record { value = rw (← h) (e.0 ∙ sym l.invariant.0); cells_after = rw (← h) (e.1 ∙ sym l.invariant.1) }
 
 pub mix-h-requires : goal.mix-h-requires
 mix-h-requires c = (c.loop-left.invariant.2, omega arith)
@@ -67,4 +66,4 @@ returns c =
     let a = c.args in
     let l = c.loop-left in
     let e = search-over (view_by a.geometry a.table.now a.image.now) a.table.now a.start a.k a.name.now _ a.page l.cells l.h l.left (omega arith) in
-    rw (← c.name_hash-own.ensures.0) (e.0 ∙ sym l.invariant.0, e.1 ∙ sym l.invariant.1)
+    let h = c.name_hash-own.ensures.0 in record { value = rw (← h) (e.0 ∙ sym l.invariant.0); cells_after = rw (← h) (e.1 ∙ sym l.invariant.1) }

@@ -1,7 +1,6 @@
-use Rattle.std.proofs.Common.{◌≡◌, ◌≤◌, sym, refl, ◌∙◌, arith, rules}
+use Rattle.std.proofs.Common.{◌≡◌, ◌≤◌}
 use Rattle.layout.specs.See.{view_by}
 use Rattle.tree.specs.Met.{Small, known, learnt}
-use Rattle.tree.proofs.MetLaws.{search-empty, search-found, search-next, search-over}
 use Rattle.tree.proofs.names.meet.Given as goal
 
 abbrev pub invariant-loop-left : goal.invariant-loop-left

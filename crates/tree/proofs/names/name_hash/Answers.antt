@@ -1,7 +1,7 @@
 -- `tree::names::name_hash` meets its contract: the name by threes, and one turn more.
-use Rattle.std.proofs.Common.{◌≡◌, ℕ, zero, suc, ◌+◌, ◌-◌, ◌*◌, ◌/◌, ◌<◌, ◌≤◌, List, length, drop, sym, refl, ap, ◌∙◌, sub-one, arith}
+use Rattle.std.proofs.Common.{◌≡◌, ℕ, zero, suc, ◌+◌, ◌-◌, ◌*◌, ◌/◌, ◌<◌, List, length, drop, sym, refl, ap, ◌∙◌, sub-one, arith}
 use Rattle.tree.specs.declared.names.Hash.{Hash}
-use Rattle.tree.specs.Met.{Small, hash_from, hash_of, mixed, seed_of, three_of}
+use Rattle.tree.specs.Met.{hash_from, hash_of, mixed, seed_of, three_of}
 use Rattle.tree.proofs.names.name_hash.Goals as goal
 
 -- one turn more, and the end

@@ -1,6 +1,5 @@
-use Rattle.std.proofs.Common.{◌≡◌, ℕ, zero, suc, ◌+◌, ◌-◌, ◌*◌, ◌/◌, ◌<◌, ◌≤◌, List, length, drop, sym, refl, ap, ◌∙◌, sub-one, arith}
-use Rattle.tree.specs.declared.names.Hash.{Hash}
-use Rattle.tree.specs.Met.{Small, hash_from, hash_of, mixed, seed_of, three_of}
+use Rattle.std.proofs.Common.{◌≡◌, ◌-◌, ◌≤◌}
+use Rattle.tree.specs.Met.{Small, hash_from}
 use Rattle.tree.proofs.names.name_hash.Given as goal
 
 abbrev pub invariant-loop-k : goal.invariant-loop-k

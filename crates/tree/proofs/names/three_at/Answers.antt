@@ -1,5 +1,5 @@
 -- The three bytes of the rest, each below 256.
-use Rattle.std.proofs.Common.{◌≡◌, ◌-◌, length, take, drop, arith, length-drop, take_all, rules}
+use Rattle.std.proofs.Common.{◌≡◌, ◌-◌, length, take, drop, arith, length-drop, take_all}
 use Rattle.tree.proofs.names.three_at.Goals as goal
 
 pub returns : goal.returns

@@ -1,5 +1,5 @@
 -- `tree::slots::cluster_after` meets its contract: after an odd slot comes the chain's next cluster.
-use Rattle.std.proofs.Common.{refl, rules}
+use Rattle.std.proofs.Common.{refl}
 use Rattle.tree.proofs.LookLaws.{step-even, step-odd}
 use Rattle.tree.proofs.slots.cluster_after.Goals as goal
 

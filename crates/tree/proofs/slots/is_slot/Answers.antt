@@ -1,5 +1,5 @@
 -- `tree::slots::is_slot` meets its contract: no slot passed has the page.
-use Rattle.std.proofs.Common.{◌≡◌, suc, ◌-◌, ◌≤◌, false, sym, ap, ◌∙◌, add-one, arith, rules}
+use Rattle.std.proofs.Common.{◌≡◌, suc, sym, ap, ◌∙◌, add-one, arith}
 use Rattle.tree.specs.Slots.{cluster_at, is_slot, slot_page}
 use Rattle.tree.proofs.MetLaws.{slot-here, slot-none, slot-not, slot-up}
 use Rattle.tree.proofs.ScanLaws.{cluster-start, cluster-step}

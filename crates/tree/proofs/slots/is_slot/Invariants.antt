@@ -1,7 +1,5 @@
-use Rattle.std.proofs.Common.{◌≡◌, suc, ◌-◌, ◌≤◌, false, sym, ap, ◌∙◌, add-one, arith, rules}
-use Rattle.tree.specs.Slots.{cluster_at, is_slot, slot_page}
-use Rattle.tree.proofs.MetLaws.{slot-here, slot-none, slot-not, slot-up}
-use Rattle.tree.proofs.ScanLaws.{cluster-start, cluster-step}
+use Rattle.std.proofs.Common.{◌≡◌, ◌-◌, ◌≤◌, false}
+use Rattle.tree.specs.Slots.{cluster_at, is_slot}
 use Rattle.tree.proofs.slots.is_slot.Given as goal
 
 abbrev pub invariant-loop-i : goal.invariant-loop-i

@@ -1,5 +1,5 @@
 -- `tree::slots::judge_slot` meets its contract: a page of the view is the image's page.
-use Rattle.std.proofs.Common.{◌≡◌, sym, ap, ◌∙◌, arith, rules}
+use Rattle.std.proofs.Common.{◌≡◌, sym, ap, ◌∙◌, arith}
 use Rattle.layout.specs.See.{image_page}
 use Rattle.page.specs.Page.{is_some}
 use Rattle.tree.proofs.PagePlaces.{inside, outside, past}
@@ -17,7 +17,7 @@ returns-then-page_count-page c =
 
 pub returns : goal.returns
 returns c =
-    let known = c.well-formed in
+    let known = c.well_formed in
     let a = c.args in
     let at : c.image_page.result ≡ image_page a.geometry a.page = omega (arith, c.image_page.ensures, c.page_count.ensures) in
     c.judge_page.ensures.readable ∙ sym (ap is_some (inside a.geometry a.count a.image.now a.page c.image_page.result (omega arith) at))

@@ -1,5 +1,5 @@
 -- `tree::slots::next_of` meets its contract.
-use Rattle.std.proofs.Common.{ℕ, rules}
+use Rattle.std.proofs.Common.{ℕ}
 use lib.ListN.{get_or-eq_default}
 use Rattle.tree.proofs.slots.next_of.Goals as goal
 

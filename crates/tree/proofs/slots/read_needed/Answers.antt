@@ -1,6 +1,6 @@
 -- `tree::slots::read_needed` meets its contract: a page of the view is the image's page.
 use Rattle.layout.specs.declared.Geometry.{Geometry}
-use Rattle.std.proofs.Common.{◌≡◌, ℕ, ◌+◌, Bool, false, List, sym, refl, ◌∙◌, arith, rules}
+use Rattle.std.proofs.Common.{◌≡◌, ℕ, ◌+◌, Bool, false, List, sym, refl, ◌∙◌, arith}
 use mathlib.Core.Option.{Option, none, some}
 use borrow.Author.Tests.{not-false, not-true}
 use Rattle.layout.specs.See.{image_page}
@@ -28,16 +28,22 @@ adds geometry image page p before e f g h k = rw (f, ← e, ← g, ← h) k
 pub returns-then-count-page : goal.returns-then-count-page
 returns-then-count-page c =
     let a = c.args in
-    none_read _ a.out.now (mended_page a.geometry a.image.now a.page) a.mended.now (outside a.geometry a.count a.image.now a.page c.if-count-page.true)
+    let kept = none_read _ a.out.now (mended_page a.geometry a.image.now a.page) a.mended.now (outside a.geometry a.count a.image.now a.page c.if-count-page.true) in record {
+      read = kept.0;
+      counted = kept.1;
+    }
 
 pub returns-then-page_count-page : goal.returns-then-page_count-page
 returns-then-page_count-page c =
     let a = c.args in
-    none_read _ a.out.now (mended_page a.geometry a.image.now a.page) a.mended.now (past a.geometry a.count a.image.now a.page c.page_count.result c.page_count.ensures.0 c.if-page_count-page.true)
+    let kept = none_read _ a.out.now (mended_page a.geometry a.image.now a.page) a.mended.now (past a.geometry a.count a.image.now a.page c.page_count.result c.page_count.ensures.0 c.if-page_count-page.true) in record {
+      read = kept.0;
+      counted = kept.1;
+    }
 
 pub returns-then-not-read : goal.returns-then-not-read
 returns-then-not-read c =
-    let known = c.well-formed in
+    let known = c.well_formed in
     let a = c.args in
     let here = inside a.geometry a.count a.image.now a.page c.image_page.result (omega arith) (omega (arith, c.image_page.ensures, c.page_count.ensures)) in
     let gone = here ∙ read_none _ c.read_page-read.ensures.read (not-true _ c.if-not-read.true) in record {
@@ -47,11 +53,11 @@ returns-then-not-read c =
 
 pub returns : goal.returns
 returns c =
-    let known = c.well-formed in
+    let known = c.well_formed in
     let a = c.args in
     let at : c.image_page.result ≡ image_page a.geometry a.page = omega (arith, c.image_page.ensures, c.page_count.ensures) in
     let here = inside a.geometry a.count a.image.now a.page c.image_page.result (omega arith) at in
     let found = here ∙ read_some _ c.read_page-read.ensures.read (not-false _ c.if-not-read.false) in record {
       read = rw here (as_read c.read_page-read.ensures.read (not-false _ c.if-not-read.false));
-      counted = adds a.geometry a.image.now a.page _ a.mended.now at found c.read_page-read.ensures.mended c.count.ensures.0 c.wrapping_add_usize.ensures;
+      counted = adds a.geometry a.image.now a.page _ a.mended.now at found c.read_page-read.ensures.mended c.count.ensures.0 c.wrapping_add_usize.ensures.value;
     }

@@ -1,5 +1,5 @@
 -- `tree::walk::look_by` meets its contract.
-use Rattle.std.proofs.Common.{sym, ap, rules}
+use Rattle.std.proofs.Common.{sym, ap}
 use Rattle.tree.specs.Walk.{look_by}
 use Rattle.tree.proofs.tasks.look_by.Goals as goal
 

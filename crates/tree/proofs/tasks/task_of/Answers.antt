@@ -1,7 +1,6 @@
 -- `tree::walk::task_of` meets its contract, case by case.
-use Rattle.std.proofs.Common.{◌≡◌, ◌+◌, ◌/◌, ◌%◌, ap, ◌∙◌, arith, rules, eq-eqb, ne_eqb}
+use Rattle.std.proofs.Common.{◌≡◌, ◌+◌, ◌/◌, ◌%◌, arith, eq-eqb, ne_eqb}
 use Rattle.model.specs.Entry.{clusters_for}
-use Rattle.tree.specs.Walk.{task_of}
 use Rattle.tree.proofs.tasks.task_of.Goals as goal
 
 -- an empty file
