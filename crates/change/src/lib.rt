@@ -1,5 +1,6 @@
 // The five changes of a card. Each checks the card, looks up its path, judges need against what is free, and only then writes.
 #![tactic(auto)]
+
 mod adding;
 mod calls;
 mod deeds;

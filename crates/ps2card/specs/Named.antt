@@ -1,6 +1,5 @@
 -- A number's format as the code tells it.
 use Rattle.std.specs.Prelude.{ℕ}
-use Rattle.page.specs.declared.Format.TheVariants.{Plain, Raw}
 use Rattle.ps2card.specs.Formats.{by_format}
 use Rattle.ps2card.specs.declared.formats.Named.{Named}
 use Rattle.ps2card.specs.declared.formats.Named.TheVariants.{Known, Unknown}

@@ -1,5 +1,6 @@
 // What C and Rust call: byte slices, byte arrays and numbers alone. A call answers 0, or the number of the refusal.
 #![tactic(auto)]
+
 pub mod changing;
 pub mod converting;
 pub mod entries;

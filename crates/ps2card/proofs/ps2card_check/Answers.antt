@@ -3,7 +3,6 @@ use mathlib.Core.Path.{◌∙◌, ap, refl, sym}
 use Rattle.model.specs.Check.{fault}
 use Rattle.tree.specs.Counted.{check_of, told_counts}
 use Rattle.ps2card.proofs.FormatLaws.{known_so, unknown-so}
-use borrow.Author.Rules.{rules}
 use Rattle.ps2card.proofs.ps2card_check.Goals as goal
 
 pub returns-in-Unknown : goal.returns-in-Unknown

@@ -1,7 +1,6 @@
 -- `ps2card::tell_refusal` meets its contract: the refusal's own number, and its page where that is 2.
 use mathlib.Core.Bool.{false, true}
 use mathlib.Core.Path.{◌∙◌, ◌≡◌, refl, sym}
-use borrow.Author.Rules.{rules}
 use borrow.Author.Tests.{eq-eqb, ne_eqb}
 use lib.Dec.{eqb}
 use Rattle.layout.specs.Refusal.{number_of}

@@ -10,35 +10,35 @@ use Rattle.change.proofs.adding.add_listed.Goals as goal
 pub overflow_add-end : goal.overflow_add-end
 overflow_add-end c =
     let a = c.args in
-    let k : Counted a.s a.table.now a.list.now a.bytes.now a.t5 a.new.dead c.word_at-entries.result c.growth_by-growing.result c.clusters_for.result =
+    let k : Counted a.s a.table.now a.list.now a.bytes.now a.directory a.new.dead c.word_at-entries.result c.growth_by-growing.result c.clusters_for.result =
     record { entries-are = c.word_at-entries.ensures; growing-is = c.growth_by-growing.ensures; own_is = c.clusters_for.ensures; free = c.requires.0 } in
     omega (arith, both-fit k)
 
 pub slice_bounds-growth-end : goal.slice_bounds-growth-end
 slice_bounds-growth-end c =
     let a = c.args in
-    let k : Counted a.s a.table.now a.list.now a.bytes.now a.t5 a.new.dead c.word_at-entries.result c.growth_by-growing.result c.clusters_for.result =
+    let k : Counted a.s a.table.now a.list.now a.bytes.now a.directory a.new.dead c.word_at-entries.result c.growth_by-growing.result c.clusters_for.result =
     record { entries-are = c.word_at-entries.ensures; growing-is = c.growth_by-growing.ensures; own_is = c.clusters_for.ensures; free = c.requires.0 } in
     growth-long k
 
 pub offset_bounds-list-growing : goal.offset_bounds-list-growing
 offset_bounds-list-growing c =
     let a = c.args in
-    let k : Counted a.s a.table.now a.list.now a.bytes.now a.t5 a.new.dead c.word_at-entries.result c.growth_by-growing.result c.clusters_for.result =
+    let k : Counted a.s a.table.now a.list.now a.bytes.now a.directory a.new.dead c.word_at-entries.result c.growth_by-growing.result c.clusters_for.result =
     record { entries-are = c.word_at-entries.ensures; growing-is = c.growth_by-growing.ensures; own_is = c.clusters_for.ensures; free = c.requires.0 } in
     omega (arith, both-fit k)
 
 pub overflow_cast-new : goal.overflow_cast-new
 overflow_cast-new c =
     let a = c.args in
-    let k : Counted a.s a.table.now a.list.now a.bytes.now a.t5 a.new.dead c.word_at-entries.result c.growth_by-growing.result c.clusters_for.result =
+    let k : Counted a.s a.table.now a.list.now a.bytes.now a.directory a.new.dead c.word_at-entries.result c.growth_by-growing.result c.clusters_for.result =
     record { entries-are = c.word_at-entries.ensures; growing-is = c.growth_by-growing.ensures; own_is = c.clusters_for.ensures; free = c.requires.0 } in
     omega (arith, c.requires.1.small (room-so k))
 
 pub relink-requires : goal.relink-requires
 relink-requires c =
     let a = c.args in
-    let k : Counted a.s a.table.now a.list.now a.bytes.now a.t5 a.new.dead c.word_at-entries.result c.growth_by-growing.result c.clusters_for.result =
+    let k : Counted a.s a.table.now a.list.now a.bytes.now a.directory a.new.dead c.word_at-entries.result c.growth_by-growing.result c.clusters_for.result =
     record { entries-are = c.word_at-entries.ensures; growing-is = c.growth_by-growing.ensures; own_is = c.clusters_for.ensures; free = c.requires.0 } in
     let growing = c.growth_by-growing.result in
     (omega (arith, last-by k c.cluster_at-last.ensures, c.requires.1.low-last), taken-low a.s.geometry.format a.image.now a.table.now a.s c.requires.1.card.opened c.requires.1.card.long growing (growing + c.clusters_for.result - growing) a.list.now c.requires.0.listed)
@@ -46,7 +46,7 @@ relink-requires c =
 pub put_down-requires : goal.put_down-requires
 put_down-requires c =
     let a = c.args in
-    let k : Counted a.s a.table.now a.list.now a.bytes.now a.t5 a.new.dead c.word_at-entries.result c.growth_by-growing.result c.clusters_for.result =
+    let k : Counted a.s a.table.now a.list.now a.bytes.now a.directory a.new.dead c.word_at-entries.result c.growth_by-growing.result c.clusters_for.result =
     record { entries-are = c.word_at-entries.ensures; growing-is = c.growth_by-growing.ensures; own_is = c.clusters_for.ensures; free = c.requires.0 } in
     record {
       card = record { opened = c.requires.1.card.opened; long = omega (arith, c.relink.auto, c.requires.1.card.long) };
@@ -60,7 +60,7 @@ put_down-requires c =
 pub returns : goal.returns
 returns c =
     let a = c.args in
-    let k : Counted a.s a.table.now a.list.now a.bytes.now a.t5 a.new.dead c.word_at-entries.result c.growth_by-growing.result c.clusters_for.result =
+    let k : Counted a.s a.table.now a.list.now a.bytes.now a.directory a.new.dead c.word_at-entries.result c.growth_by-growing.result c.clusters_for.result =
     record { entries-are = c.word_at-entries.ensures; growing-is = c.growth_by-growing.ensures; own_is = c.clusters_for.ensures; free = c.requires.0 } in
     image-as a.s a.image.now c.put_down.ensures
     (writes-so k c.cluster_at-last.ensures a.new.mode a.new.count a.time.now a.name.now c.page_by-slot.ensures c.first_of.ensures

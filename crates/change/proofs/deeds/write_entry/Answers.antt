@@ -9,11 +9,11 @@ use Rattle.change.proofs.deeds.write_entry.Goals as goal
 pub returns-then-write : goal.returns-then-write
 returns-then-write c =
     let a = c.args in
-    let there : c.image_page-at.result ≡ image_page a.geometry a.t3.at = omega (arith, c.image_page-at.ensures, c.requires) in
-    c.write_page.ensures ∙ ap₂ (λ b p. put a.geometry.format b p a.t3.page a.image.now) (sym c.if-write.true) there
+    let there : c.image_page-at.result ≡ image_page a.geometry a.write.at = omega (arith, c.image_page-at.ensures, c.requires) in
+    c.write_page.ensures ∙ ap₂ (λ b p. put a.geometry.format b p a.write.page a.image.now) (sym c.if-write.true) there
 
 pub returns-else-write : goal.returns-else-write
 returns-else-write c =
     let a = c.args in
-    let there : c.image_page-at.result ≡ image_page a.geometry a.t3.at = omega (arith, c.image_page-at.ensures, c.requires) in
-    c.rewrite_page.ensures ∙ ap₂ (λ b p. put a.geometry.format b p a.t3.page a.image.now) (sym c.if-write.false) there
+    let there : c.image_page-at.result ≡ image_page a.geometry a.write.at = omega (arith, c.image_page-at.ensures, c.requires) in
+    c.rewrite_page.ensures ∙ ap₂ (λ b p. put a.geometry.format b p a.write.page a.image.now) (sym c.if-write.false) there

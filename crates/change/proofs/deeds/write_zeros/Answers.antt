@@ -12,18 +12,8 @@ pub returns-then-growth-eq0 : goal.returns-then-growth-eq0
 returns-then-growth-eq0 c =
     no-zeros c.args.geometry c.args.image.now c.args.growth.now (omega arith)
 
-pub overflow_cast-growth : goal.overflow_cast-growth
-overflow_cast-growth c = omega (arith, c.shared_slice_known-2-1.given 0)
-
-pub overflow_mul-growth : goal.overflow_mul-growth
-overflow_mul-growth c = omega (arith, c.shared_slice_known-2-1.given 0)
-
-pub overflow_add-at : goal.overflow_add-at
-overflow_add-at c =
-    omega (arith, c.image_page-at.ensures, c.shared_slice_known-2-1.given 0)
-
 pub returns : goal.returns
 returns c =
     let a = c.args in
-    let there : c.image_page-at.result ≡ image_page a.geometry (2 * get_or a.growth.now 0 0) = omega (arith, c.image_page-at.ensures, c.shared_slice_known-2-1.given 0) in
+    let there : c.image_page-at.result ≡ image_page a.geometry (2 * get_or a.growth.now 0 0) = omega (arith, c.image_page-at.ensures, c.type_inv.growth 0) in
     zeros-written a.geometry a.image.now a.growth.now (λ z. omega arith) c.requires c.zero_page-zeros.ensures there c.write_page.ensures c.write_page-2.ensures

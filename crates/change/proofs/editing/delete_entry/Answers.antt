@@ -8,12 +8,12 @@ use Rattle.change.proofs.editing.delete_entry.Goals as goal
 pub returns-then-is_directory : goal.returns-then-is_directory
 returns-then-is_directory c =
     let a = c.args in
-    leaves (deleted-kind a.s a.image.now a.table.now a.t4 a.t5 (sym c.is_directory.ensures ∙ c.if-is_directory.true))
+    leaves (deleted-kind a.s a.image.now a.table.now a.directory a.entry (sym c.is_directory.ensures ∙ c.if-is_directory.true))
 
 pub returns-then-either_locked : goal.returns-then-either_locked
 returns-then-either_locked c =
     let a = c.args in
-    leaves (deleted-locked a.s a.image.now a.table.now a.t4 a.t5 (sym c.is_directory.ensures ∙ c.if-is_directory.false) (sym c.either_locked.ensures ∙ c.if-either_locked.true))
+    leaves (deleted-locked a.s a.image.now a.table.now a.directory a.entry (sym c.is_directory.ensures ∙ c.if-is_directory.false) (sym c.either_locked.ensures ∙ c.if-either_locked.true))
 
 pub take_away-requires : goal.take_away-requires
 take_away-requires c =
@@ -22,4 +22,4 @@ take_away-requires c =
 pub returns : goal.returns
 returns c =
     let a = c.args in
-    leaves (deleted-done a.s a.image.now a.table.now a.t4 a.t5 c.word_at.ensures (sym c.is_directory.ensures ∙ c.if-is_directory.false) (sym c.either_locked.ensures ∙ c.if-either_locked.false) c.file_clusters-count.ensures c.take_away.ensures)
+    leaves (deleted-done a.s a.image.now a.table.now a.directory a.entry c.word_at.ensures (sym c.is_directory.ensures ∙ c.if-is_directory.false) (sym c.either_locked.ensures ∙ c.if-either_locked.false) c.file_clusters-count.ensures c.take_away.ensures)

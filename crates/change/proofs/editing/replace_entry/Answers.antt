@@ -11,12 +11,12 @@ use Rattle.change.proofs.editing.replace_entry.Goals as goal
 pub returns-then-is_directory : goal.returns-then-is_directory
 returns-then-is_directory c =
     let a = c.args in
-    leaves (replaced-kind a.s a.image.now a.table.now a.t4 a.t5 a.time.now a.bytes.now (sym c.is_directory.ensures ∙ c.if-is_directory.true))
+    leaves (replaced-kind a.s a.image.now a.table.now a.directory a.entry a.time.now a.bytes.now (sym c.is_directory.ensures ∙ c.if-is_directory.true))
 
 pub returns-then-either_locked : goal.returns-then-either_locked
 returns-then-either_locked c =
     let a = c.args in
-    leaves (replaced-locked a.s a.image.now a.table.now a.t4 a.t5 a.time.now a.bytes.now (sym c.is_directory.ensures ∙ c.if-is_directory.false) (sym c.either_locked.ensures ∙ c.if-either_locked.true))
+    leaves (replaced-locked a.s a.image.now a.table.now a.directory a.entry a.time.now a.bytes.now (sym c.is_directory.ensures ∙ c.if-is_directory.false) (sym c.either_locked.ensures ∙ c.if-either_locked.true))
 
 pub collect_free-free-requires : goal.collect_free-free-requires
 collect_free-free-requires c =
@@ -26,12 +26,12 @@ collect_free-free-requires c =
 pub returns-then-free-clusters_for : goal.returns-then-free-clusters_for
 returns-then-free-clusters_for c =
     let a = c.args in
-    leaves (replaced-full a.s a.image.now a.table.now a.t4 a.t5 a.time.now a.bytes.now (sym c.is_directory.ensures ∙ c.if-is_directory.false) (sym c.either_locked.ensures ∙ c.if-either_locked.false)
+    leaves (replaced-full a.s a.image.now a.table.now a.directory a.entry a.time.now a.bytes.now (sym c.is_directory.ensures ∙ c.if-is_directory.false) (sym c.either_locked.ensures ∙ c.if-either_locked.false)
     (omega (arith, c.collect_free-free.ensures.0, c.clusters_for.ensures, c.if-free-clusters_for.true)))
 
 pub slice_bounds-list-end : goal.slice_bounds-list-end
 slice_bounds-list-end c =
-    collected-inside c.collect_free-free.new.1.1.0 c.collect_free-free.ensures.0 c.collect_free-free.ensures.1
+    collected-inside c.collect_free-free.new.list c.collect_free-free.ensures.0 c.collect_free-free.ensures.1
 
 pub slice_bounds-replace_listed-end : goal.slice_bounds-replace_listed-end
 slice_bounds-replace_listed-end c =
@@ -41,13 +41,13 @@ pub replace_listed-requires : goal.replace_listed-requires
 replace_listed-requires c =
     let a = c.args in (
       c.requires.card,
-      record { c = c.collect_free-free.ensures.1; room = omega (arith, c.collect_free-free.ensures.0, ap length c.collect_free-free.ensures.1, c.clusters_for.ensures, c.if-free-clusters_for.false) },
-      can-land a.s a.image.now a.table.now a.t4 a.t5 a.time.now a.bytes.now (sym c.is_directory.ensures ∙ c.if-is_directory.false) (sym c.either_locked.ensures ∙ c.if-either_locked.false)
+      record { listed = c.collect_free-free.ensures.1; room = omega (arith, c.collect_free-free.ensures.0, ap length c.collect_free-free.ensures.1, c.clusters_for.ensures, c.if-free-clusters_for.false) },
+      can-land a.s a.image.now a.table.now a.directory a.entry a.time.now a.bytes.now (sym c.is_directory.ensures ∙ c.if-is_directory.false) (sym c.either_locked.ensures ∙ c.if-either_locked.false)
           (omega (arith, c.collect_free-free.ensures.0, c.clusters_for.ensures, c.if-free-clusters_for.false)) c.requires,
     )
 
 pub returns : goal.returns
 returns c =
     let a = c.args in
-    leaves (replaced-done a.s a.image.now a.table.now a.t4 a.t5 a.time.now a.bytes.now (sym c.is_directory.ensures ∙ c.if-is_directory.false) (sym c.either_locked.ensures ∙ c.if-either_locked.false)
+    leaves (replaced-done a.s a.image.now a.table.now a.directory a.entry a.time.now a.bytes.now (sym c.is_directory.ensures ∙ c.if-is_directory.false) (sym c.either_locked.ensures ∙ c.if-either_locked.false)
     (omega (arith, c.collect_free-free.ensures.0, c.clusters_for.ensures, c.if-free-clusters_for.false)) c.replace_listed.ensures)

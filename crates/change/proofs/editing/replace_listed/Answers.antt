@@ -30,7 +30,7 @@ put_down-requires c =
       one = omega arith;
       filled = own-taken a.s a.table.now a.list.now a.bytes.now c.requires.1.listed c.requires.1.room c.clusters_for-own.ensures;
       lands =
-          replaced-lands a.s a.table.now a.list.now a.bytes.now c.requires.1.listed c.requires.1.room c.clusters_for-own.ensures a.t5 a.t6 a.time.now
+          replaced-lands a.s a.table.now a.list.now a.bytes.now c.requires.1.listed c.requires.1.room c.clusters_for-own.ensures a.directory a.entry a.time.now
           c.word_at.ensures c.with_length-kept.ensures c.first_of.ensures c.replaced_page-contents.ensures a.s.end c.requires.2;
     }
 
@@ -38,6 +38,6 @@ pub returns : goal.returns
 returns c =
     let a = c.args in
     image-as a.s a.image.now c.put_down.ensures
-    (replaced-writes a.s a.table.now a.list.now a.bytes.now c.requires.1.listed c.requires.1.room c.clusters_for-own.ensures a.t5 a.t6 a.time.now
+    (replaced-writes a.s a.table.now a.list.now a.bytes.now c.requires.1.listed c.requires.1.room c.clusters_for-own.ensures a.directory a.entry a.time.now
     c.word_at.ensures c.with_length-kept.ensures c.first_of.ensures c.replaced_page-contents.ensures)
-    (replaced-words a.s a.table.now a.list.now a.bytes.now c.requires.1.listed c.requires.1.room c.clusters_for-own.ensures a.t6 c.file_clusters-back.ensures c.word_at-2.ensures c.relink.ensures)
+    (replaced-words a.s a.table.now a.list.now a.bytes.now c.requires.1.listed c.requires.1.room c.clusters_for-own.ensures a.entry c.file_clusters-back.ensures c.word_at-2.ensures c.relink.ensures)

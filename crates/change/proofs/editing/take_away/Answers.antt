@@ -13,11 +13,11 @@ put_down-requires c =
       card = record { opened = c.requires.0.opened; long = omega (arith, c.relink.auto, c.requires.0.long) };
       one = omega arith;
       filled = refl;
-      lands = removed-lands a.t4 a.t5 c.word_at.ensures c.with_length-kept.ensures c.killed_page-gone.ensures a.s.end c.requires.1;
+      lands = removed-lands a.directory a.entry c.word_at.ensures c.with_length-kept.ensures c.killed_page-gone.ensures a.s.end c.requires.1;
     }
 
 pub returns : goal.returns
 returns c =
     let a = c.args in
     image-as a.s a.image.now c.put_down.ensures
-    (removed-writes a.t4 a.t5 c.word_at.ensures c.with_length-kept.ensures c.killed_page-gone.ensures) c.relink.ensures
+    (removed-writes a.directory a.entry c.word_at.ensures c.with_length-kept.ensures c.killed_page-gone.ensures) c.relink.ensures

@@ -1,4 +1,3 @@
--- The loop's invariant: what is left to write, written from here on, gives the whole.
 use Prim.Native.Nat.{◌%◌, ◌*◌, ◌+◌, ◌-◌, ◌/◌, ◌≤◌}
 use mathlib.Core.Path.{◌∙◌, ◌≡◌, refl, sym}
 use native.Mathlib.Omega.{arith}
@@ -11,20 +10,11 @@ use Rattle.change.proofs.pages.write_data.Goals as goal
 pub loop-k-init : goal.loop-k-init
 loop-k-init c = (omega arith, refl, refl)
 
-pub overflow_cast-cluster : goal.overflow_cast-cluster
-overflow_cast-cluster c = omega (arith, c.shared_slice_known-in-loop-k-1.given (c.loop-k.k / 2))
-
-pub overflow_mul-cluster : goal.overflow_mul-cluster
-overflow_mul-cluster c = omega (arith, c.shared_slice_known-in-loop-k-1.given (c.loop-k.k / 2))
-
-pub overflow_add-cluster : goal.overflow_add-cluster
-overflow_add-cluster c = omega (arith, c.shared_slice_known-in-loop-k-1.given (c.loop-k.k / 2))
-
 pub loop-k-preserved : goal.loop-k-preserved
 loop-k-preserved c =
     let l = c.loop-k in
     let a = c.args in
-    let there : c.image_page.result ≡ image_page a.geometry (2 * get_or a.clusters.now (l.k / 2) 0 + l.k % 2) = omega (arith, c.well-formed.1.0.1, c.image_page.ensures, c.shared_slice_known-in-loop-k-1.given (l.k / 2)) in
+    let there : c.image_page.result ≡ image_page a.geometry (2 * get_or a.clusters.now (l.k / 2) 0 + l.k % 2) = omega (arith, c.well_formed.1.0.1, c.image_page.ensures, c.type_inv.clusters (l.k / 2)) in
     (omega arith, search rules, one_less a.geometry a.clusters.now a.bytes.now l.k l.image c.requires (omega arith) c.data_page-page.ensures there c.write_page.ensures ∙ l.invariant.2)
 
 pub returns : goal.returns

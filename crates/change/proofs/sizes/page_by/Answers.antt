@@ -12,12 +12,6 @@ returns-then-growth-eq0 c =
     let a = c.args in
     page-behind a.last a.growth.now (omega arith) ∙ ap (λ (d : Place). page_by d a.last a.growth.now) (sym c.in-Nowhere.is)
 
-pub overflow_cast-result-in-Nowhere : goal.overflow_cast-result-in-Nowhere
-overflow_cast-result-in-Nowhere c = omega (arith, c.shared_slice_known-1.given 0)
-
-pub overflow_mul-result-in-Nowhere : goal.overflow_mul-result-in-Nowhere
-overflow_mul-result-in-Nowhere c = omega (arith, c.shared_slice_known-1.given 0)
-
 pub returns-else-growth-eq0 : goal.returns-else-growth-eq0
 returns-else-growth-eq0 c =
     let a = c.args in

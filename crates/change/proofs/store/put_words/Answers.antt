@@ -1,4 +1,3 @@
--- The loop's invariant: the page has its first i words.
 use Prim.Native.Nat.{◌*◌, ◌-◌, ◌≤◌}
 use mathlib.Core.Path.{◌≡◌}
 use native.Mathlib.Omega.{arith}

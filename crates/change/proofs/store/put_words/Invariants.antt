@@ -1,3 +1,4 @@
+-- The loop's invariant: the page has its first i words.
 use Prim.Native.Nat.{◌*◌, ◌-◌, ◌≤◌}
 use mathlib.Core.Path.{◌≡◌}
 use native.Mathlib.Omega.{arith}

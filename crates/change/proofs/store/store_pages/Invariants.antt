@@ -1,3 +1,4 @@
+-- The loop's invariant: the first t pages are stored.
 use Prim.Native.Nat.{◌*◌, ◌-◌, ◌≤◌}
 use mathlib.Core.List.{◌++◌}
 use mathlib.Core.Path.{◌≡◌, refl}

@@ -1,3 +1,4 @@
+-- The loop's invariant: what is left to free, freed from here on, gives the whole.
 use Prim.Native.Nat.{◌<◌, ◌^◌}
 use mathlib.Core.Path.{◌∙◌, ◌≡◌, refl, sym, ap}
 use mathlib.Core.Logic.{⊎_elim}

@@ -1,5 +1,3 @@
--- The loop's invariant: the first `count` of the list are the free clusters below c that may be taken, and of the block
--- looked up last it is known whether it is listed.
 use Prim.Native.Nat.{◌+◌, ◌-◌, ◌≤◌, ℕ}
 use mathlib.Core.Bool.{Bool, ◌&&◌, not}
 use mathlib.Core.List.{List}
@@ -16,6 +14,7 @@ use Rattle.change.specs.Words.{free_list}
 use Rattle.change.proofs.WordSteps.{free_up_to, none_yet, not-one, one_more}
 use Rattle.change.proofs.words.collect_free.Invariants.{may_take}
 use Rattle.change.proofs.words.collect_free.Goals as goal
+use Rattle.change.proofs.words.collect_free.Goals.{else-c-limit, then-c-limit}
 
 pub loop-c-init : goal.loop-c-init
 loop-c-init c =
@@ -30,10 +29,10 @@ loop-c-preserved c =
     let l = c.loop-c in
     let known = c.at-last.ensures.1 l.invariant.4 in
     let may : (ltb l.c c.take_limit-limit.result && not c.at-last.result.listed) ≡ pool l.c = rw (known, c.at-last.ensures.0) in
-    ⊎_elim
-    (λ w. (omega arith, omega (arith, w.2), ap length w.1 ∙ length-set l.list _ _ ∙ l.invariant.2, rw (w.1, w.2) (one_more pool t l.list l.count l.c l.invariant.3 _ may (omega arith) w.0.taken), known))
-    (λ w. (omega arith, omega (arith, w.2), ap length w.1 ∙ l.invariant.2, rw (w.1, w.2) (not-one pool t l.list l.count l.c l.invariant.3 _ may w.0.left), known))
-    c.if-c-limit.branch
+    elim c.if-c-limit.branch [
+      | then-c-limit w ↦ (omega arith, omega arith, c.if-c-limit.auto.list ∙ c.loop-c.auto.list, rw (w.list-is, w.count-is) (one_more pool t l.list l.count l.c l.invariant.3 _ may (omega arith) w.if-c-limit.true), known)
+      | else-c-limit w ↦ (omega arith, omega arith, c.if-c-limit.auto.list ∙ c.loop-c.auto.list, rw (w.list-is, w.count-is) (not-one pool t l.list l.count l.c l.invariant.3 _ may w.if-c-limit.false), known)
+    ]
 
 pub returns : goal.returns
 returns c =

@@ -1,3 +1,5 @@
+-- The loop's invariant: the first `count` of the list are the free clusters below c that may be taken, and of the block
+-- looked up last it is known whether it is listed.
 use Prim.Native.Nat.{◌+◌, ◌-◌, ◌≤◌, ℕ}
 use mathlib.Core.Bool.{Bool, ◌&&◌, not}
 use mathlib.Core.List.{List}

@@ -1,4 +1,3 @@
--- The loop's invariant: the clusters from `left` on are linked, and `word` leads to the first of them.
 use Prim.Native.Nat.{◌-◌, ◌≤◌}
 use mathlib.Core.Path.{◌∙◌, ◌≡◌, refl, ap}
 use mathlib.Core.Logic.{⊎_elim}
@@ -9,13 +8,14 @@ use Rattle.change.proofs.WordSteps.{all-linked, each_below, linked, linked-past,
 use native.Mathlib.Omega.{arith}
 use borrow.Author.Rules.{rules}
 use Rattle.change.proofs.words.link_chain.Goals as goal
+use Rattle.change.proofs.words.link_chain.Goals.{else-i-table, then-i-table}
 
 pub loop-left-init : goal.loop-left-init
 loop-left-init c =
     let z = nothing-linked c.args.clusters.now c.args.table.now in (omega arith, refl, z.1, z.0)
 
 pub overflow_cast-i : goal.overflow_cast-i
-overflow_cast-i c = omega (arith, c.shared_slice_known-1.given (c.loop-left.left - 1))
+overflow_cast-i c = omega (arith, c.type_inv.clusters (c.loop-left.left - 1))
 
 pub overflow_add-word : goal.overflow_add-word
 overflow_add-word c =
@@ -27,9 +27,12 @@ loop-left-preserved c =
     let cs = c.args.clusters.now in
     let t = c.args.table.now in (
       omega arith,
-      ⊎_elim (λ w. ap length w.1 ∙ length-set l.table _ _ ∙ l.invariant.1) (λ w. ap length w.1 ∙ l.invariant.1) c.if-i-table.branch,
+      c.if-i-table.auto.table ∙ c.loop-left.auto.table,
       word-to cs t l.table l.word l.left (omega arith) l.invariant.0 l.invariant.3 l.invariant.2,
-      ⊎_elim (λ w. w.1 ∙ linked cs t l.table l.word l.left (omega arith) l.invariant.0 l.invariant.3 l.invariant.2) (λ w. w.1 ∙ linked-past cs t l.table l.word l.left (omega arith) l.invariant.0 l.invariant.3 l.invariant.2 w.0.left) c.if-i-table.branch,
+      elim c.if-i-table.branch [
+        | then-i-table w ↦ w.table-is ∙ linked cs t l.table l.word l.left (omega arith) l.invariant.0 l.invariant.3 l.invariant.2
+        | else-i-table w ↦ w.table-is ∙ linked-past cs t l.table l.word l.left (omega arith) l.invariant.0 l.invariant.3 l.invariant.2 w.if-i-table.false
+      ],
     )
 
 pub returns : goal.returns

@@ -1,3 +1,4 @@
+-- The loop's invariant: the clusters from `left` on are linked, and `word` leads to the first of them.
 use Prim.Native.Nat.{◌-◌, ◌≤◌}
 use mathlib.Core.Path.{◌∙◌, ◌≡◌, refl, ap}
 use mathlib.Core.Logic.{⊎_elim}

@@ -4,7 +4,6 @@ use Rattle.change.specs.Changed.{changed, path_in}
 use Rattle.model.specs.Change as is
 use Rattle.model.specs.Check.{fault}
 use Rattle.ps2card.proofs.FormatLaws.{known_so, unknown-so}
-use borrow.Author.Rules.{rules}
 use Rattle.ps2card.proofs.changing.ps2card_create.Goals as goal
 
 pub returns-in-Unknown : goal.returns-in-Unknown

@@ -1,6 +1,5 @@
 -- `ps2card::changing::tell_answer` meets its contract: 0 for what is done, else what the refusal tells.
 use mathlib.Core.Path.{refl}
-use borrow.Author.Rules.{rules}
 use Rattle.ps2card.proofs.changing.tell_answer.Goals as goal
 
 pub returns-in-Done : goal.returns-in-Done

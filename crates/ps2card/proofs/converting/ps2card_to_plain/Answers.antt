@@ -2,7 +2,6 @@
 use mathlib.Core.Path.{◌∙◌, ap, refl, sym}
 use Rattle.convert.specs.Converted.{told_conversion}
 use Rattle.convert.specs.declared.Conversion.{Conversion}
-use borrow.Author.Rules.{rules}
 use Rattle.ps2card.proofs.converting.ps2card_to_plain.Goals as goal
 
 pub returns-in-Refused : goal.returns-in-Refused

@@ -7,7 +7,6 @@ use Rattle.model.specs.Check.{fault}
 use Rattle.model.specs.Entry.{Entry}
 use Rattle.ps2card.proofs.AnswerLaws.{told-refused, told-value}
 use Rattle.ps2card.proofs.FormatLaws.{known_so, unknown-so}
-use borrow.Author.Rules.{rules}
 use Rattle.ps2card.proofs.entries.ps2card_find.Goals as goal
 
 pub returns-in-Unknown : goal.returns-in-Unknown

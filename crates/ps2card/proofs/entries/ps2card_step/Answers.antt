@@ -6,7 +6,6 @@ use Rattle.lookup.specs.Step.{step_of}
 use Rattle.model.specs.Check.{fault}
 use Rattle.ps2card.proofs.AnswerLaws.{told-end, told-refused, told-slot}
 use Rattle.ps2card.proofs.FormatLaws.{known_so, unknown-so}
-use borrow.Author.Rules.{rules}
 use Rattle.ps2card.proofs.entries.ps2card_step.Goals as goal
 
 pub returns-in-Unknown : goal.returns-in-Unknown

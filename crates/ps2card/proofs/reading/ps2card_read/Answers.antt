@@ -7,7 +7,6 @@ use Rattle.lookup.specs.Read.{read_of}
 use Rattle.model.specs.Check.{fault}
 use Rattle.ps2card.proofs.AnswerLaws.{told-refused, told-value}
 use Rattle.ps2card.proofs.FormatLaws.{known_so, unknown-so}
-use borrow.Author.Rules.{rules}
 use Rattle.ps2card.proofs.reading.ps2card_read.Goals as goal
 
 pub returns-in-Unknown : goal.returns-in-Unknown

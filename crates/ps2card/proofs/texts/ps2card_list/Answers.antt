@@ -4,7 +4,6 @@ use mathlib.Core.List.{List, []}
 use Prim.Native.Nat.{ℕ}
 use mathlib.Core.Bool.{cond}
 use lib.IntN.{ℤ}
-use lib.ListN.{length}
 use mir.Syntax.{w32}
 use mir.ValLaws.{to_z-of_z}
 use Rattle.model.specs.Calendar.{is_shift}
@@ -12,9 +11,8 @@ use Rattle.page.specs.declared.Format.TheVariants.{Raw}
 use Rattle.layout.specs.See.{check_image}
 use Rattle.layout.specs.Table.{open_card, unless}
 use Rattle.model.specs.Check.{and_then}
-use Rattle.listing.specs.Text.{fitted, listing_of, refusal_text}
+use Rattle.listing.specs.Text.{listing_of, refusal_text}
 use Rattle.ps2card.proofs.FormatLaws.{known_so, unknown-so}
-use borrow.Author.Rules.{rules}
 use Rattle.ps2card.proofs.texts.ps2card_list.Goals as goal
 
 -- no card, by the minutes
