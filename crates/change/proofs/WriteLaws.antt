@@ -1,7 +1,7 @@
 -- Pages written in two parts, and data whose pages are plain to see: none, and a cluster of zeros.
 use Rattle.layout.specs.See.{image_page}
 use Rattle.layout.specs.declared.Geometry.{Geometry}
-use Prim.Native.Nat.{ℕ, ◌+◌}
+use Prim.Native.Nat.{ℕ}
 use mathlib.Core.List.{List, [], ◌++◌, ◌∷◌}
 use mathlib.Core.Option.{some}
 use mathlib.Core.Path.{◌∙◌, ◌≡◌, ap, refl, sym}

@@ -5,7 +5,6 @@ use lib.ListN.{length}
 use Rattle.change.proofs.AddSteps.{added-done, added_full, added-locked, need-so}
 use Rattle.change.proofs.CallLaws.{leaves}
 use Rattle.change.proofs.FreeLaws.{collected-inside, growth-small, table-small}
-use borrow.Author.Rules.{rules}
 use Rattle.change.proofs.adding.add.Goals as goal
 
 pub returns-then-is_locked : goal.returns-then-is_locked

@@ -2,7 +2,6 @@
 use mathlib.Core.Path.{◌∙◌, refl, sym}
 use Rattle.change.proofs.AddAnswers.{added-kind, added-so, added-there, can-add, dots-so, number_fits, there-so, vacant}
 use Rattle.change.proofs.CallLaws.{leaves, leaves-as}
-use borrow.Author.Rules.{rules}
 use Rattle.change.proofs.adding.add_in.Goals as goal
 
 pub returns-then-not-is_directory : goal.returns-then-not-is_directory

@@ -4,7 +4,6 @@ use native.Mathlib.Omega.{arith}
 use Rattle.change.proofs.DeedSteps.{image-as}
 use Rattle.change.proofs.AddSteps.{Counted, both-fit, growth-long, lands-so, last-by, one-cluster, own-long, room-so, words-so, writes-so}
 use Rattle.change.proofs.FreeLaws.{taken-low}
-use borrow.Author.Rules.{rules}
 use Rattle.change.proofs.adding.add_listed.Goals as goal
 
 pub overflow_add-end : goal.overflow_add-end

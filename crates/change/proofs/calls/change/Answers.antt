@@ -7,7 +7,6 @@ use Rattle.change.specs.Changed.{path_in}
 use Rattle.change.specs.Kinds.{change_of}
 use Rattle.change.proofs.CallLaws.{leaves, leaves-as}
 use Rattle.change.proofs.CallSteps.{check-refused, in-own-format, words-loaded}
-use borrow.Author.Rules.{rules}
 use Rattle.change.proofs.calls.change.Goals as goal
 
 pub slice_bounds-table-end : goal.slice_bounds-table-end

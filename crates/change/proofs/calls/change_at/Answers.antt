@@ -1,7 +1,6 @@
 -- Where the names before the last lead, and what the directory's own business then gives.
 use Rattle.change.proofs.CallLaws.{leaves, leaves-as}
 use Rattle.change.proofs.CallSteps.{at-absent, at-can, at_in, at-kind}
-use borrow.Author.Rules.{rules}
 use Rattle.change.proofs.calls.change_at.Goals as goal
 
 pub change_in-requires : goal.change_in-requires

@@ -7,7 +7,6 @@ use Rattle.fields.specs.PathBytes.{path_of}
 use Rattle.change.specs.Kinds.{Ready, takes_names}
 use Rattle.change.proofs.CallLaws.{leaves}
 use Rattle.change.proofs.CallSteps.{bad-path, bad-time, malformed, ready, takes-some}
-use borrow.Author.Rules.{rules}
 use Rattle.change.proofs.calls.change_card.Goals as goal
 
 pub returns-then-not-takes_names : goal.returns-then-not-takes_names

@@ -2,7 +2,6 @@
 use mathlib.Core.Path.{ap, subst}
 use Rattle.change.specs.Kinds.{CanChange, changed_in}
 use Rattle.change.proofs.CallLaws.{leaves-as}
-use borrow.Author.Rules.{rules}
 use Rattle.change.proofs.calls.change_in.Goals as goal
 
 pub add_in-requires : goal.add_in-requires

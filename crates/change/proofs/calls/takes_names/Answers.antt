@@ -1,5 +1,4 @@
 -- `change::calls::takes_names` meets its contract: each kind's test is the definition's.
-use borrow.Author.Rules.{rules}
 use Rattle.change.proofs.calls.takes_names.Goals as goal
 
 pub returns-in-Create : goal.returns-in-Create

@@ -1,5 +1,4 @@
 -- `change::calls::takes_time` meets its contract: the time rule, or none.
-use borrow.Author.Rules.{rules}
 use Rattle.change.proofs.calls.takes_time.Goals as goal
 
 pub returns-in-Create : goal.returns-in-Create

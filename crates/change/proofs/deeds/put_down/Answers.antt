@@ -2,7 +2,6 @@
 use native.Mathlib.Omega.{arith}
 use Rattle.change.specs.Deeds.{write_of, writes_of}
 use Rattle.change.proofs.DeedSteps.{entries-land, first-readable, opened-most, second-readable, stored}
-use borrow.Author.Rules.{rules}
 use Rattle.change.proofs.deeds.put_down.Goals as goal
 
 pub write_pages-requires : goal.write_pages-requires

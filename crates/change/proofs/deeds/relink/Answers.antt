@@ -1,7 +1,6 @@
 -- Each call does its part of the definition; a growth is linked behind the last cluster as a chain of two.
 use native.Mathlib.Omega.{arith}
 use Rattle.change.proofs.DeedSteps.{pair-low, relinked-grown, relinked-only}
-use borrow.Author.Rules.{rules}
 use Rattle.change.proofs.deeds.relink.Goals as goal
 
 pub link_chain-requires : goal.link_chain-requires

@@ -3,7 +3,6 @@ use mathlib.Core.Path.{◌∙◌, ◌≡◌, ap₂, sym}
 use native.Mathlib.Omega.{arith}
 use Rattle.layout.specs.See.{image_page}
 use Rattle.page.specs.Page.{put}
-use borrow.Author.Rules.{rules}
 use Rattle.change.proofs.deeds.write_entry.Goals as goal
 
 pub returns-then-write : goal.returns-then-write

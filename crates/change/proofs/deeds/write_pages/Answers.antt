@@ -1,7 +1,6 @@
 -- Writes one after the other are the writes of the joined list.
 use Rattle.change.proofs.DeedSteps.{all-written}
 use Rattle.change.specs.Deeds.{write_of}
-use borrow.Author.Rules.{rules}
 use Rattle.change.proofs.deeds.write_pages.Goals as goal
 
 pub returns : goal.returns

@@ -5,7 +5,6 @@ use native.Mathlib.Omega.{arith}
 use lib.ListN.{get_or}
 use Rattle.layout.specs.See.{image_page}
 use Rattle.change.proofs.DeedSteps.{no-zeros, zeros-written}
-use borrow.Author.Rules.{rules}
 use Rattle.change.proofs.deeds.write_zeros.Goals as goal
 
 pub returns-then-growth-eq0 : goal.returns-then-growth-eq0

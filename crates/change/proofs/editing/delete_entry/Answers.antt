@@ -2,7 +2,6 @@
 use mathlib.Core.Path.{◌∙◌, sym}
 use Rattle.change.proofs.CallLaws.{leaves}
 use Rattle.change.proofs.EditAnswers.{deleted-done, deleted-kind, deleted-locked}
-use borrow.Author.Rules.{rules}
 use Rattle.change.proofs.editing.delete_entry.Goals as goal
 
 pub returns-then-is_directory : goal.returns-then-is_directory

@@ -1,7 +1,6 @@
 -- Where the name leads to an entry, what is done with it decides; the other ways out are refusals.
 use Rattle.change.proofs.CallLaws.{leaves, leaves-as}
 use Rattle.change.proofs.EditAnswers.{can-there, on-absent, on-kind, on-there}
-use borrow.Author.Rules.{rules}
 use Rattle.change.proofs.editing.edit_in.Goals as goal
 
 pub replace_entry-requires : goal.replace_entry-requires

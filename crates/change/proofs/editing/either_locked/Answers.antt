@@ -1,5 +1,4 @@
 -- The two tests are the definition's.
-use borrow.Author.Rules.{rules}
 use Rattle.change.proofs.editing.either_locked.Goals as goal
 
 pub returns : goal.returns

@@ -4,7 +4,6 @@ use Rattle.layout.specs.See.{view_by}
 use Rattle.tree.specs.Scan.{living_from}
 use Rattle.change.proofs.CallLaws.{leaves, scan-so}
 use Rattle.change.proofs.EditAnswers.{removed-done, removed-kind, removed-live, removed-locked}
-use borrow.Author.Rules.{rules}
 use Rattle.change.proofs.editing.remove_entry.Goals as goal
 
 pub returns-then-not-is_directory : goal.returns-then-not-is_directory

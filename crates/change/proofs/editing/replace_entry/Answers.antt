@@ -5,7 +5,6 @@ use lib.ListN.{length}
 use Rattle.change.proofs.CallLaws.{leaves}
 use Rattle.change.proofs.EditSteps.{can-land, replaced-done, replaced-full, replaced-kind, replaced-locked}
 use Rattle.change.proofs.FreeLaws.{collected-inside, table-small}
-use borrow.Author.Rules.{rules}
 use Rattle.change.proofs.editing.replace_entry.Goals as goal
 
 pub returns-then-is_directory : goal.returns-then-is_directory

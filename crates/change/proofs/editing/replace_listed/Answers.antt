@@ -4,7 +4,6 @@ use native.Mathlib.Omega.{arith}
 use lib.Seq.{length-take-le}
 use Rattle.change.proofs.DeedSteps.{image-as}
 use Rattle.change.proofs.EditSteps.{few_bytes, own-inside, own-low, own-taken, replaced-lands, replaced-words, replaced-writes}
-use borrow.Author.Rules.{rules}
 use Rattle.change.proofs.editing.replace_listed.Goals as goal
 
 pub slice_bounds-taken-end : goal.slice_bounds-taken-end

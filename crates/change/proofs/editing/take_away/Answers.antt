@@ -3,7 +3,6 @@ use mathlib.Core.Path.{refl}
 use native.Mathlib.Omega.{arith}
 use Rattle.change.proofs.DeedSteps.{image-as}
 use Rattle.change.proofs.EditSteps.{removed-lands, removed-writes}
-use borrow.Author.Rules.{rules}
 use Rattle.change.proofs.editing.take_away.Goals as goal
 
 pub put_down-requires : goal.put_down-requires

@@ -1,7 +1,6 @@
 -- The data's bytes stand in a page of zeros: a whole page of them, the last ones, or none.
 use native.Mathlib.Omega.{arith}
 use Rattle.change.proofs.PageSteps.{page-full, page-last, page-past}
-use borrow.Author.Rules.{rules}
 use Rattle.change.proofs.pages.data_page.Goals as goal
 
 pub returns-then-bytes-from-lt512 : goal.returns-then-bytes-from-lt512

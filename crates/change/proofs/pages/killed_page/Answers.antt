@@ -3,7 +3,6 @@ use Prim.Native.Nat.{◌-◌}
 use mathlib.Core.Path.{◌∙◌, ap}
 use Rattle.model.specs.Entry.{entry_of}
 use Rattle.change.proofs.PageParts.{altered-so}
-use borrow.Author.Rules.{rules}
 use Rattle.change.proofs.pages.killed_page.Goals as goal
 
 pub returns : goal.returns

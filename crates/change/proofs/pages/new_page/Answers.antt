@@ -1,6 +1,5 @@
 -- The fields are put one after the other, the last of the definition's first.
 use Rattle.change.proofs.PageSteps.{new-made}
-use borrow.Author.Rules.{rules}
 use Rattle.change.proofs.pages.new_page.Goals as goal
 
 pub returns : goal.returns

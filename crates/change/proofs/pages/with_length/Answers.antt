@@ -2,7 +2,6 @@
 use mathlib.Core.Path.{refl}
 use Rattle.model.specs.Entry.{entry_of}
 use Rattle.change.proofs.PageParts.{altered-so}
-use borrow.Author.Rules.{rules}
 use Rattle.change.proofs.pages.with_length.Goals as goal
 
 pub returns : goal.returns

@@ -1,10 +1,10 @@
-use Prim.Native.Nat.{◌%◌, ◌*◌, ◌+◌, ◌-◌, ◌/◌, ◌≤◌}
+use Prim.Native.Nat.{◌%◌, ◌*◌, ◌+◌, ◌/◌}
 use mathlib.Core.Path.{◌∙◌, ◌≡◌, refl, sym}
 use native.Mathlib.Omega.{arith}
 use borrow.Author.Rules.{rules}
-use lib.ListN.{get_or, length}
+use lib.ListN.{get_or}
 use Rattle.layout.specs.See.{image_page}
-use Rattle.change.proofs.PageSteps.{all_left, left_from, none_left, one_less}
+use Rattle.change.proofs.PageSteps.{all_left, none_left, one_less}
 use Rattle.change.proofs.pages.write_data.Goals as goal
 
 pub loop-k-init : goal.loop-k-init

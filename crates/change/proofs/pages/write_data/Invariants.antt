@@ -1,11 +1,8 @@
 -- The loop's invariant: what is left to write, written from here on, gives the whole.
-use Prim.Native.Nat.{◌%◌, ◌*◌, ◌+◌, ◌-◌, ◌/◌, ◌≤◌}
-use mathlib.Core.Path.{◌∙◌, ◌≡◌, refl, sym}
-use native.Mathlib.Omega.{arith}
-use borrow.Author.Rules.{rules}
-use lib.ListN.{get_or, length}
-use Rattle.layout.specs.See.{image_page}
-use Rattle.change.proofs.PageSteps.{all_left, left_from, none_left, one_less}
+use Prim.Native.Nat.{◌*◌, ◌-◌, ◌≤◌}
+use mathlib.Core.Path.{◌≡◌}
+use lib.ListN.{length}
+use Rattle.change.proofs.PageSteps.{left_from}
 use Rattle.change.proofs.pages.write_data.Given as goal
 
 abbrev pub invariant-loop-k : goal.invariant-loop-k

@@ -1,7 +1,6 @@
 -- The list is empty, or begins with its first.
 use native.Mathlib.Omega.{arith}
 use Rattle.change.proofs.SizeSteps.{first-none, first_some}
-use borrow.Author.Rules.{rules}
 use Rattle.change.proofs.sizes.first_of.Goals as goal
 
 pub returns-then-clusters-eq0 : goal.returns-then-clusters-eq0

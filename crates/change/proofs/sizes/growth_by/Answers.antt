@@ -2,7 +2,6 @@
 use mathlib.Core.Path.{ap, sym}
 use Rattle.tree.specs.declared.along.Place.{Place}
 use Rattle.change.specs.Deeds.{growth_by}
-use borrow.Author.Rules.{rules}
 use Rattle.change.proofs.sizes.growth_by.Goals as goal
 
 pub returns-in-Nowhere : goal.returns-in-Nowhere

@@ -4,7 +4,6 @@ use mathlib.Core.Path.{◌≡◌, ap, sym}
 use native.Mathlib.Omega.{arith}
 use Rattle.tree.specs.declared.along.Place.{Place}
 use Rattle.change.specs.Deeds.{number_by}
-use borrow.Author.Rules.{rules}
 use Rattle.change.proofs.sizes.number_by.Goals as goal
 
 pub overflow_add-result : goal.overflow_add-result

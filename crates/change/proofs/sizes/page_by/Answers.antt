@@ -4,7 +4,6 @@ use native.Mathlib.Omega.{arith}
 use Rattle.tree.specs.declared.along.Place.{Place}
 use Rattle.change.specs.Deeds.{page_by}
 use Rattle.change.proofs.SizeSteps.{page-added, page-behind}
-use borrow.Author.Rules.{rules}
 use Rattle.change.proofs.sizes.page_by.Goals as goal
 
 pub returns-then-growth-eq0 : goal.returns-then-growth-eq0

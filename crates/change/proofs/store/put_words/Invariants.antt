@@ -1,11 +1,8 @@
 -- The loop's invariant: the page has its first i words.
 use Prim.Native.Nat.{◌*◌, ◌-◌, ◌≤◌}
 use mathlib.Core.Path.{◌≡◌}
-use native.Mathlib.Omega.{arith}
-use borrow.Author.Rules.{rules}
 use lib.ListN.{get_or, length}
 use Rattle.change.specs.Image.{with_words, words_in}
-use Rattle.change.proofs.StoreSteps.{no-words-yet, word-put}
 use Rattle.change.proofs.store.put_words.Given as goal
 
 abbrev pub invariant-loop-i : goal.invariant-loop-i

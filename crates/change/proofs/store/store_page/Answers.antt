@@ -3,7 +3,6 @@ use Prim.Native.Nat.{◌*◌}
 use lib.ListN.{get_or, length}
 use Rattle.change.specs.Image.{with_words, words_in}
 use Rattle.change.proofs.StoreSteps.{altered, left_alone}
-use borrow.Author.Rules.{rules}
 use Rattle.change.proofs.store.store_page.Goals as goal
 
 pub returns-then-read_page : goal.returns-then-read_page

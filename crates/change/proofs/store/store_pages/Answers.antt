@@ -1,11 +1,10 @@
-use Prim.Native.Nat.{◌*◌, ◌-◌, ◌≤◌}
+use Prim.Native.Nat.{◌*◌}
 use mathlib.Core.List.{◌++◌}
 use mathlib.Core.Path.{◌≡◌, refl}
 use native.Mathlib.Omega.{arith}
 use borrow.Author.Rules.{rules}
 use lib.ListN.{get_or, length}
 use Rattle.layout.specs.Table.{table_names}
-use Rattle.change.specs.Image.{store_table}
 use Rattle.change.proofs.StoreSteps.{no-pages-yet, page-stored}
 use Rattle.change.proofs.store.store_pages.Goals as goal
 

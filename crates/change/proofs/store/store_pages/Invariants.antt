@@ -1,13 +1,10 @@
 -- The loop's invariant: the first t pages are stored.
 use Prim.Native.Nat.{◌*◌, ◌-◌, ◌≤◌}
 use mathlib.Core.List.{◌++◌}
-use mathlib.Core.Path.{◌≡◌, refl}
-use native.Mathlib.Omega.{arith}
-use borrow.Author.Rules.{rules}
+use mathlib.Core.Path.{◌≡◌}
 use lib.ListN.{get_or, length}
 use Rattle.layout.specs.Table.{table_names}
 use Rattle.change.specs.Image.{store_table}
-use Rattle.change.proofs.StoreSteps.{no-pages-yet, page-stored}
 use Rattle.change.proofs.store.store_pages.Given as goal
 
 abbrev pub invariant-loop-t : goal.invariant-loop-t

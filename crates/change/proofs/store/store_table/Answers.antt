@@ -5,7 +5,6 @@ use lib.ListN.{get_or, length}
 use Rattle.page.specs.Page.{page_at}
 use Rattle.layout.proofs.Stages.{read-data, there}
 use Rattle.change.proofs.StoreSteps.{by_names}
-use borrow.Author.Rules.{rules}
 use Rattle.change.proofs.store.store_table.Goals as goal
 
 pub returns : goal.returns

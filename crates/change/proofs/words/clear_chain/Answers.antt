@@ -1,8 +1,4 @@
-use Prim.Native.Nat.{◌<◌, ◌^◌}
-use mathlib.Core.Path.{◌∙◌, ◌≡◌, refl, sym, ap}
-use mathlib.Core.Logic.{⊎_elim}
-use lib.ListN.{length, length-set}
-use Rattle.change.specs.Words.{cleared_from}
+use mathlib.Core.Path.{◌∙◌, refl, sym}
 use Rattle.change.proofs.WordSteps.{all-freed, freed, freed-past}
 use native.Mathlib.Omega.{arith}
 use borrow.Author.Rules.{rules}

@@ -1,12 +1,8 @@
 -- The loop's invariant: what is left to free, freed from here on, gives the whole.
 use Prim.Native.Nat.{◌<◌, ◌^◌}
-use mathlib.Core.Path.{◌∙◌, ◌≡◌, refl, sym, ap}
-use mathlib.Core.Logic.{⊎_elim}
-use lib.ListN.{length, length-set}
+use mathlib.Core.Path.{◌≡◌}
+use lib.ListN.{length}
 use Rattle.change.specs.Words.{cleared_from}
-use Rattle.change.proofs.WordSteps.{all-freed, freed, freed-past}
-use native.Mathlib.Omega.{arith}
-use borrow.Author.Rules.{rules}
 use Rattle.change.proofs.words.clear_chain.Given as goal
 
 abbrev pub invariant-loop-left : goal.invariant-loop-left

@@ -1,15 +1,9 @@
-use Prim.Native.Nat.{◌+◌, ◌-◌, ◌≤◌, ℕ}
-use mathlib.Core.Bool.{Bool, ◌&&◌, not}
-use mathlib.Core.List.{List}
-use mathlib.Core.Logic.{⊎_elim}
+use mathlib.Core.Bool.{◌&&◌, not}
 use mathlib.Core.Path.{◌∙◌, ◌≡◌, ap, refl, sym}
 use native.Mathlib.Omega.{arith}
-use borrow.Author.Rules.{rules}
 use lib.Dec.{ltb}
-use lib.ListN.{length, length-set, take}
+use lib.ListN.{length, take}
 use lib.Seq.{length-take-le}
-use Rattle.model.specs.Counts.{block_of, is_listed}
-use Rattle.reached.specs.Blocks.{Knows}
 use Rattle.change.specs.Words.{free_list}
 use Rattle.change.proofs.WordSteps.{free_up_to, none_yet, not-one, one_more}
 use Rattle.change.proofs.words.collect_free.Invariants.{may_take}

@@ -1,12 +1,7 @@
-use Prim.Native.Nat.{◌-◌, ◌≤◌}
-use mathlib.Core.Path.{◌∙◌, ◌≡◌, refl, ap}
-use mathlib.Core.Logic.{⊎_elim}
-use lib.ListN.{drop, length, length-set}
-use Rattle.model.specs.Writes.{word_to}
-use Rattle.change.specs.Words.{chained}
+use Prim.Native.Nat.{◌-◌}
+use mathlib.Core.Path.{◌∙◌, refl}
 use Rattle.change.proofs.WordSteps.{all-linked, each_below, linked, linked-past, nothing-linked, word-to}
 use native.Mathlib.Omega.{arith}
-use borrow.Author.Rules.{rules}
 use Rattle.change.proofs.words.link_chain.Goals as goal
 use Rattle.change.proofs.words.link_chain.Goals.{else-i-table, then-i-table}
 

@@ -1,13 +1,9 @@
 -- The loop's invariant: the clusters from `left` on are linked, and `word` leads to the first of them.
-use Prim.Native.Nat.{◌-◌, ◌≤◌}
-use mathlib.Core.Path.{◌∙◌, ◌≡◌, refl, ap}
-use mathlib.Core.Logic.{⊎_elim}
-use lib.ListN.{drop, length, length-set}
+use Prim.Native.Nat.{◌≤◌}
+use mathlib.Core.Path.{◌≡◌}
+use lib.ListN.{drop, length}
 use Rattle.model.specs.Writes.{word_to}
 use Rattle.change.specs.Words.{chained}
-use Rattle.change.proofs.WordSteps.{all-linked, each_below, linked, linked-past, nothing-linked, word-to}
-use native.Mathlib.Omega.{arith}
-use borrow.Author.Rules.{rules}
 use Rattle.change.proofs.words.link_chain.Given as goal
 
 abbrev pub invariant-loop-left : goal.invariant-loop-left
