@@ -115,7 +115,10 @@ exit 1
     let output = launch(&folder, &["ls"]).output().expect("it runs");
     let (out, err) = texts(&output);
     assert_eq!((output.status.code(), out.as_str()), (Some(3), ""), "{err}");
-    assert!(err.contains("fn middle::f: not proved\n") && err.contains("ps2card: the library is not proved; "), "{err}");
+    assert!(
+        err.contains("fn middle::f: not proved\n") && err.contains("ps2card: the library is not proved; "),
+        "{err}"
+    );
     fs::remove_file(folder.path("tools/rt")).expect("no rt");
     let output = launch(&folder, &["ls"]).output().expect("it runs");
     assert_eq!((output.status.code(), texts(&output).1.contains("ps2card: rt is needed")), (Some(3), true));
@@ -187,7 +190,8 @@ fn wait(child: &mut Child) -> std::process::ExitStatus {
 #[test]
 fn signals() {
     for (name, number) in [("INT", 2), ("TERM", 15), ("HUP", 1)] {
-        let folder = repository("#!/bin/sh\nsleep 300 &\necho 'rt: chose --jobs 2 for low'\necho $$ $! >\"$0.ids\"\nwait\n");
+        let folder =
+            repository("#!/bin/sh\nsleep 300 &\necho 'rt: chose --jobs 2 for low'\necho $$ $! >\"$0.ids\"\nwait\n");
         let mut child = launch(&folder, &["ls"]).stderr(Stdio::piped()).spawn().expect("it runs");
         let mut lines = BufReader::new(child.stderr.take().expect("its words")).lines();
         assert!(lines.next().is_some_and(|line| line.is_ok_and(|line| line.contains("proving the library"))));

@@ -273,7 +273,10 @@ fn list(input: Stdio, output: Stdio) -> Output {
 /// Its exit status is 0 whatever it prints, and tells of nothing but reads and writes that fail, as README says.
 #[test]
 fn list_tells_no_refusal_by_its_status() {
-    says("README.md", "Its exit status is 0 whatever it prints, a refusal too; a read or a write that fails is status 1");
+    says(
+        "README.md",
+        "Its exit status is 0 whatever it prints, a refusal too; a read or a write that fails is status 1",
+    );
     let sample = home().join("samples/bench.ps2");
     let image = fs::read(&sample).expect("a card");
     let of = |file: &Path| Stdio::from(File::open(file).expect("a file"));
