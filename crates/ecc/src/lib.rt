@@ -62,7 +62,7 @@ pub fn chunk_code(chunk: &[u8]) -> Code
     let mut sums = START;
     let mut i: usize = 0;
     while i < 128 && i < chunk.len() {
-        sums = with_byte(&table, sums, i, chunk[i]);
+        sums = with_byte(table, sums, i, chunk[i]);
         i += 1;
     }
     code_in(sums)
@@ -132,10 +132,10 @@ fn codes_of(chunk0: &[u8], chunk1: &[u8], chunk2: &[u8], chunk3: &[u8]) -> FourC
     let mut sums3 = START;
     let mut i: usize = 0;
     while i < 128 {
-        sums0 = with_byte(&table, sums0, i, chunk0[i]);
-        sums1 = with_byte(&table, sums1, i, chunk1[i]);
-        sums2 = with_byte(&table, sums2, i, chunk2[i]);
-        sums3 = with_byte(&table, sums3, i, chunk3[i]);
+        sums0 = with_byte(table, sums0, i, chunk0[i]);
+        sums1 = with_byte(table, sums1, i, chunk1[i]);
+        sums2 = with_byte(table, sums2, i, chunk2[i]);
+        sums3 = with_byte(table, sums3, i, chunk3[i]);
         i += 1;
     }
     FourCodes {

@@ -3,7 +3,7 @@ ghost use Rattle.std.specs.Prelude.{◌≡◌, get_or};
 ghost use Rattle.ecc.specs.Parities.{HoldsParities};
 
 // One entry for each byte: its column parities in bits 0 to 6, and eight ones in bits 7 to 14 where it has an odd number of ones.
-const PARITIES: [u16; 256] = [
+static PARITIES: [u16; 256] = [
     0x0000, // 0x00
     0x7F87, // 0x01
     0x7F96, // 0x02
@@ -262,11 +262,11 @@ const PARITIES: [u16; 256] = [
     0x0000, // 0xFF
 ];
 
-// The table as a value, so that who looks up many bytes makes it once.
-pub fn parity_table() -> [u16; 256]
-    ensures { HoldsParities result }
+// The table, lent where it lies: nothing is made for a pass.
+pub fn parity_table() -> &'static [u16; 256]
+    ensures { HoldsParities result.now }
 {
-    PARITIES
+    &PARITIES
 }
 
 // A byte's entry.
