@@ -120,7 +120,8 @@ pub struct FourVerdicts {
     pub chunk3: Verdict,
 }
 
-// The codes of four chunks in one pass (request 10 of document 02): no sum waits for another, and the table is made once.
+// The codes of four chunks in one pass (request 10 of document 02): no sum waits for another. Each turn takes two
+// bytes of every chunk in.
 fn codes_of(chunk0: &[u8], chunk1: &[u8], chunk2: &[u8], chunk3: &[u8]) -> FourCodes
     requires { (length chunk0.now ≡ 128) × (length chunk1.now ≡ 128) × (length chunk2.now ≡ 128) × (length chunk3.now ≡ 128) }
     ensures { result ≡ codes_of chunk0.now chunk1.now chunk2.now chunk3.now }
@@ -130,13 +131,19 @@ fn codes_of(chunk0: &[u8], chunk1: &[u8], chunk2: &[u8], chunk3: &[u8]) -> FourC
     let mut sums1 = START;
     let mut sums2 = START;
     let mut sums3 = START;
-    let mut i: usize = 0;
-    while i < 128 {
-        sums0 = with_byte(table, sums0, i, chunk0[i]);
-        sums1 = with_byte(table, sums1, i, chunk1[i]);
-        sums2 = with_byte(table, sums2, i, chunk2[i]);
-        sums3 = with_byte(table, sums3, i, chunk3[i]);
-        i += 1;
+    let mut turn: usize = 0;
+    while turn < 64 {
+        let i = 2 * turn;
+        let even0 = with_byte(table, sums0, i, chunk0[i]);
+        let even1 = with_byte(table, sums1, i, chunk1[i]);
+        let even2 = with_byte(table, sums2, i, chunk2[i]);
+        let even3 = with_byte(table, sums3, i, chunk3[i]);
+        let j = i + 1;
+        sums0 = with_byte(table, even0, j, chunk0[j]);
+        sums1 = with_byte(table, even1, j, chunk1[j]);
+        sums2 = with_byte(table, even2, j, chunk2[j]);
+        sums3 = with_byte(table, even3, j, chunk3[j]);
+        turn += 1;
     }
     FourCodes {
         chunk0: code_in(sums0),
