@@ -56,7 +56,7 @@
  * A page has the same index in a raw image and in its plain one.
  *
  * Stack: a bound on x86-64 for a function's frame and all below it; a thread of 2 MiB runs every call. Measured by
- * painting the stack, on cards with directories on every level: 1,040 KiB for the calls that check the card,
+ * painting the stack, on cards with directories on every level: 1,076 KiB for the calls that check the card,
  * 2 KiB for the conversions; the bound leaves room for another compiler, and a test sees that it holds. The size of the
  * card and the number of its entries do not matter.
  */

@@ -8,9 +8,8 @@ use std::path::{Path, PathBuf};
 const ABOVE: [&str; 11] =
     ["model", "fields", "reached", "layout", "convert", "tree", "lookup", "listing", "change", "claims", "ps2card"];
 
-/// Those that carry the format and never ask which it is. `lookup` is not among them: the view of a refused call, which
-/// nothing reads, is a raw one there.
-const BLIND: [&str; 7] = ["model", "fields", "reached", "layout", "tree", "listing", "change"];
+/// Those that carry the format and never ask which it is.
+const BLIND: [&str; 8] = ["model", "fields", "reached", "layout", "tree", "lookup", "listing", "change"];
 
 /// What only `page` may say: sizes in bytes, the sealed definitions opened, and the equations that open them.
 const SIZES: [&str; 3] = ["528", "1056", "1_056"];

@@ -1,4 +1,5 @@
 -- What the code answers where a path's directory was found is what the model says of a creation.
+use Rattle.std.specs.Prelude.{Option, None, Some}
 use Prim.Native.Nat.{ℕ, ◌+◌, ◌*◌, ◌<◌, ◌≤◌}
 use mathlib.Core.Bool.{false, true}
 use mathlib.Core.List.{List, [], ◌∷◌}
@@ -14,7 +15,6 @@ use Rattle.layout.specs.Table.{open_card, table_of}
 use Rattle.layout.proofs.OpenFacts.{open-facts, own-format}
 use Rattle.layout.proofs.TableLaws.{length-table}
 use Rattle.tree.specs.declared.along.Place.{Place}
-use Rattle.tree.specs.declared.along.Place.TheVariants as place
 use Rattle.lookup.proofs.SlotLaws.{dead-at, dead-nowhere, name-found, name-nowhere}
 use Rattle.model.specs.Bytes.{word_limit}
 use Rattle.model.specs.Change.{Change, create, creates, directory_mode, make_directory, path, size}
@@ -34,12 +34,13 @@ use Rattle.model.proofs.Equality.{tf}
 use Rattle.model.proofs.NewEntries.{few}
 use Rattle.model.proofs.PageBytes.{length-new}
 use Rattle.model.proofs.Sites as tree
-use Rattle.change.specs.declared.entries.EntryAt.{EntryAt}
+use Rattle.lookup.specs.declared.way.EntryAt.{EntryAt}
 use Rattle.change.specs.declared.entries.NewEntry.{NewEntry}
-use Rattle.change.specs.Calls.{CanAdd, CanAddIn, added, added_in, dead_of, dots_of, enough, locked_at, need_of, new_of, place_of, refused_by, slots_of, unless_there}
-use Rattle.change.specs.Changed.{changed}
+use Rattle.change.specs.Calls.{CanAdd, CanAddIn, added, added_in, created_in, dead_of, dots_at, enough, locked_at, made_in, need_of, as_directory, as_file, or_refused, place_of, refused_by, slots_of, unless_there}
+use Rattle.change.specs.Changed.{Outcome, changed}
 use Rattle.change.specs.Deeds.{entries_of, last_of, number_by}
 use Rattle.change.specs.Words.{free_list}
+use Rattle.change.proofs.AddAnswers.{vacant-parts}
 use Rattle.change.proofs.AddPlans.{DeadAt, slots-many}
 use Rattle.change.proofs.Added.{Adds, added-exists, added_full, added-locked, create-done, make-done}
 use Rattle.change.proofs.CallLaws.{picked}
@@ -96,22 +97,22 @@ module _ (format : Format) (image : List ℕ) (s : Superblock) (root : Root) (m 
     pub dead-so : DeadAt (entry_pages (Slot.directory (entry_of here.page) site.chain)) site.slots (dead_of (see s image) (table_of image s) here)
     dead-so = go (dead_of (see s image) (table_of image s) here) refl
       where
-        go : (d : Place) → dead_of (see s image) (table_of image s) here ≡ d → DeadAt (entry_pages (Slot.directory (entry_of here.page) site.chain)) site.slots d
-        go place.Nowhere e = dead-nowhere (see s image) site.below (slots_of (table_of image s) here) site.slots held-slots e
-        go (place.At k q) e =
-            let z = dead-at (see s image) site.below (slots_of (table_of image s) here) site.slots held-slots k q e in
-            (z.0, z.1, z.2 ∙ ap (λ l. get_or l k 0) (sym site.pages))
+        go : (d : Option Place) → dead_of (see s image) (table_of image s) here ≡ d → DeadAt (entry_pages (Slot.directory (entry_of here.page) site.chain)) site.slots d
+        go None e = dead-nowhere (see s image) site.below (slots_of (table_of image s) here) site.slots held-slots e
+        go (Some place) e =
+            let z = dead-at (see s image) site.below (slots_of (table_of image s) here) site.slots held-slots place e in
+            (z.0, z.1, z.2 ∙ ap (λ l. get_or l place.slot 0) (sym site.pages))
 
     -- the number of the new slot
     numbered : number_by (dead_of (see s image) (table_of image s) here) (entries_of here) ≤ 2 * most_clusters
     numbered = go (dead_of (see s image) (table_of image s) here) dead-so
       where
-        go : (d : Place) → DeadAt (entry_pages (Slot.directory (entry_of here.page) site.chain)) site.slots d → number_by d (entries_of here) ≤ 2 * most_clusters
-        go place.Nowhere z = omega (arith, entries-few)
-        go (place.At k q) z =
+        go : (d : Option Place) → DeadAt (entry_pages (Slot.directory (entry_of here.page) site.chain)) site.slots d → number_by d (entries_of here) ≤ 2 * most_clusters
+        go None z = omega (arith, entries-few)
+        go (Some place) z =
             omega (arith, entries-few, z.1, site.two, slots-many (entry_of here.page) site.chain site.slots (see s image) site.below site.two site.long site.held)
 
-    pub absent-so : place_of (see s image) (table_of image s) here (last_name p) ≡ place.Nowhere → look_in site.slots (last_name p ∷ []) ≡ absent
+    pub absent-so : place_of (see s image) (table_of image s) here (last_name p) ≡ None → look_in site.slots (last_name p ∷ []) ≡ absent
     absent-so lacks = name-nowhere (see s image) site.below (slots_of (table_of image s) here) site.slots held-slots (last_name p) lacks
 
     there-11 : (h : Slot) (u : Tree) → is_named h (last_name p) ≡ true → must_lack (found h u) ≡ 11
@@ -119,9 +120,9 @@ module _ (format : Format) (image : List ℕ) (s : Superblock) (root : Root) (m 
     there-11 (Slot.file e cs ds) u n = refl
     there-11 (Slot.directory e cs) u n = refl
 
-    exists-11 : (k q : ℕ) → place_of (see s image) (table_of image s) here (last_name p) ≡ place.At k q → must_lack (look_in site.slots (last_name p ∷ [])) ≡ 11
-    exists-11 k q e =
-        let f = name-found (see s image) site.below (slots_of (table_of image s) here) site.slots held-slots (last_name p) k q e in
+    exists-11 : (place : Place) → place_of (see s image) (table_of image s) here (last_name p) ≡ Some place → must_lack (look_in site.slots (last_name p ∷ [])) ≡ 11
+    exists-11 place e =
+        let f = name-found (see s image) site.below (slots_of (table_of image s) here) site.slots held-slots (last_name p) place e in
         ap must_lack f.2 ∙ there-11 f.0 f.1 f.5
 
   -- ---- a change that puts a new entry down, with what the model does of it where the name is absent, nothing locked and enough free
@@ -135,7 +136,7 @@ module _ (format : Format) (image : List ℕ) (s : Superblock) (root : Root) (m 
     room_for : enough s (table_of image s) (need_of here new.dead bytes) ≡ true → need_of here new.dead bytes ≤ length (free_list s (table_of image s))
     room_for e = leb-true (need_of here new.dead bytes) (length (free_list s (table_of image s))) e
 
-    pub can-add : place_of (see s image) (table_of image s) here (last_name (path c)) ≡ place.Nowhere → CanAdd s image (table_of image s) here new time (last_name (path c)) bytes
+    pub can-add : place_of (see s image) (table_of image s) here (last_name (path c)) ≡ None → CanAdd s image (table_of image s) here new time (last_name (path c)) bytes
     can-add lacks =
         record {
           card = record { opened = own-format format image s opened; long = length-table image s };
@@ -148,7 +149,7 @@ module _ (format : Format) (image : List ℕ) (s : Superblock) (root : Root) (m 
         }
 
     -- the name is absent: 16, 12, or done
-    judged : place_of (see s image) (table_of image s) here (last_name (path c)) ≡ place.Nowhere
+    judged : place_of (see s image) (table_of image s) here (last_name (path c)) ≡ None
         → added s image (table_of image s) here new time (last_name (path c)) bytes ≡ changed format c image
     judged l =
         picked (locked_at here) (refused_by 16 image) _
@@ -164,44 +165,48 @@ module _ (format : Format) (image : List ℕ) (s : Superblock) (root : Root) (m 
         lacks : own c (look_in site.slots (last_name (path c) ∷ [])) ≡ 0
         lacks = lacking _ ∙ ap must_lack gone
 
-    pub added-at : (x : Place) → place_of (see s image) (table_of image s) here (last_name (path c)) ≡ x
-        → unless_there s image (table_of image s) x (added s image (table_of image s) here new time (last_name (path c)) bytes) ≡ changed format c image
-    added-at place.Nowhere e = judged e
-    added-at (place.At k q) e = sym (added-exists format image s root m checked c fine here site creating new.dead at_dead 10 (lacking _ ∙ exists-11 (path c) here site k q e))
+    pub added-at : (x : Option Place) → place_of (see s image) (table_of image s) here (last_name (path c)) ≡ x → (rest : Option Place → Outcome)
+        → rest new.dead ≡ added s image (table_of image s) here new time (last_name (path c)) bytes → or_refused image (unless_there x new.dead) rest ≡ changed format c image
+    added-at None e rest r = r ∙ judged e
+    added-at (Some place) e rest r = sym (added-exists format image s root m checked c fine here site creating new.dead at_dead 10 (lacking _ ∙ exists-11 (path c) here site place e))
 
   -- ---- the two creations
-  module _ (p : Path) (here : EntryAt) (site : Site (see s image) (table_of image s) root p here) (time bytes : List ℕ) where
-    abbrev dead : Place
+  module _ (p : Path) (here : EntryAt) (site : Site (see s image) (table_of image s) root p here) (time : List ℕ) where
+    abbrev dead : Option Place
     dead = dead_of (see s image) (table_of image s) here
 
     abbrev dots : List ℕ
-    dots = dots_of here.first (number_by (dead_of (see s image) (table_of image s) here) (entries_of here)) time
+    dots = dots_at here time dead
 
     one : clusters_for (length dots) ≡ 1
     one = ap clusters_for (length-append (new_page (new_entry directory_mode 0 here.first (number_by dead (entries_of here)) time dot_name)) _ ∙ ap₂ (λ a b. a + b) (length-new _) (length-new _))
 
-    pub can-create : static (create p time bytes) ≡ 0 → CanAddIn s image (table_of image s) here false (last_name p) time bytes
-    can-create fine directory lacks =
-        can-add (create p time bytes) fine refl (λ g. refl) here site (new_of false bytes dead) refl time bytes refl (λ few. omega arith)
-        (λ l o room. create-done format image s root m checked p time here site dead (dead-so p here site) l o bytes fine room) lacks
+    pub can-create : (bytes : List ℕ) → static (create p time bytes) ≡ 0 → CanAddIn s image (table_of image s) here (last_name p) time (as_file bytes) (λ d. bytes)
+    can-create bytes fine d vacant =
+        let v = vacant-parts s image (table_of image s) here (last_name p) d vacant in
+        rw (← v.2)
+        (can-add (create p time bytes) fine refl (λ g. refl) here site (as_file bytes dead) refl time bytes refl (λ few. omega arith)
+        (λ l o room. create-done format image s root m checked p time here site dead (dead-so p here site) l o bytes fine room) v.1)
 
-    pub created-here : is_directory (entry_of here.page) ≡ true → static (create p time bytes) ≡ 0
-        → added_in s image (table_of image s) here false (last_name p) time bytes ≡ changed format (create p time bytes) image
+    pub created-here : (bytes : List ℕ) → is_directory (entry_of here.page) ≡ true → static (create p time bytes) ≡ 0
+        → created_in s image (table_of image s) here (last_name p) time bytes ≡ changed format (create p time bytes) image
     unfolding added_in
-    created-here directory fine =
+    created-here bytes directory fine =
         rw directory
-        (added-at (create p time bytes) fine refl (λ g. refl) here site (new_of false bytes dead) refl time bytes refl (λ few. omega arith)
-        (λ l o room. create-done format image s root m checked p time here site dead (dead-so p here site) l o bytes fine room) (place_of (see s image) (table_of image s) here (last_name p)) refl)
+        (added-at (create p time bytes) fine refl (λ g. refl) here site (as_file bytes dead) refl time bytes refl (λ few. omega arith)
+        (λ l o room. create-done format image s root m checked p time here site dead (dead-so p here site) l o bytes fine room) (place_of (see s image) (table_of image s) here (last_name p)) refl _ refl)
 
-    pub can-make : static (make_directory p time) ≡ 0 → CanAddIn s image (table_of image s) here true (last_name p) time bytes
-    can-make fine directory lacks =
-        can-add (make_directory p time) fine refl (λ g. refl) here site (new_of true bytes dead) refl time dots (sym one) (λ few. omega arith)
-        (λ l o room. make-done format image s root m checked p time here site dead (dead-so p here site) l o bytes fine room) lacks
+    pub can-make : static (make_directory p time) ≡ 0 → CanAddIn s image (table_of image s) here (last_name p) time as_directory (dots_at here time)
+    can-make fine d vacant =
+        let v = vacant-parts s image (table_of image s) here (last_name p) d vacant in
+        rw (← v.2)
+        (can-add (make_directory p time) fine refl (λ g. refl) here site (as_directory dead) refl time dots (sym one) (λ few. omega arith)
+        (λ l o room. make-done format image s root m checked p time here site dead (dead-so p here site) l o fine room) v.1)
 
     pub made-here : is_directory (entry_of here.page) ≡ true → static (make_directory p time) ≡ 0
-        → added_in s image (table_of image s) here true (last_name p) time bytes ≡ changed format (make_directory p time) image
+        → made_in s image (table_of image s) here (last_name p) time ≡ changed format (make_directory p time) image
     unfolding added_in
     made-here directory fine =
         rw directory
-        (added-at (make_directory p time) fine refl (λ g. refl) here site (new_of true bytes dead) refl time dots (sym one) (λ few. omega arith)
-        (λ l o room. make-done format image s root m checked p time here site dead (dead-so p here site) l o bytes fine room) (place_of (see s image) (table_of image s) here (last_name p)) refl)
+        (added-at (make_directory p time) fine refl (λ g. refl) here site (as_directory dead) refl time dots (sym one) (λ few. omega arith)
+        (λ l o room. make-done format image s root m checked p time here site dead (dead-so p here site) l o fine room) (place_of (see s image) (table_of image s) here (last_name p)) refl _ refl)

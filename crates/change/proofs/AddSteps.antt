@@ -1,4 +1,5 @@
 -- A new entry, step by step: what the code has computed is what the definitions of the change name.
+use Rattle.std.specs.Prelude.{Option}
 use Prim.Native.Nat.{ℕ, ◌+◌, ◌-◌, ◌<◌, ◌≤◌}
 use mathlib.Core.Bool.{false, true}
 use mathlib.Core.List.{List}
@@ -13,7 +14,7 @@ use Rattle.model.specs.Entry.{clusters_for, entry_of}
 use Rattle.model.specs.Pages.{altered_page, new_page}
 use Rattle.model.specs.Plan.{first_of, new_entry, with_length}
 use Rattle.tree.specs.Slots.{cluster_at}
-use Rattle.change.specs.declared.entries.EntryAt.{EntryAt}
+use Rattle.lookup.specs.declared.way.EntryAt.{EntryAt}
 use Rattle.change.specs.declared.entries.NewEntry.{NewEntry}
 use Rattle.change.specs.Calls.{added, added_image, done_with, enough, locked_at, need_of, refused_by}
 use Rattle.change.specs.Deeds.{Listed, added_table, added_writes, entries_of, growth_by, growth_of, last_of, length_by, page_by, relinked, taken_of, writes_of}
@@ -22,13 +23,13 @@ use Rattle.change.specs.Words.{free_list}
 use Rattle.change.proofs.FreeLaws.{growth-small}
 
 -- what is counted: the directory's entries, the clusters of its growth and of the entry itself, and enough free ones in a list
-pub record Counted (s : Superblock) (table list bytes : List ℕ) (directory : EntryAt) (dead : Place) (entries growing own : ℕ) : Type 0 where
+pub record Counted (s : Superblock) (table list bytes : List ℕ) (directory : EntryAt) (dead : Option Place) (entries growing own : ℕ) : Type 0 where
   pub entries-are : entries ≡ entries_of directory
   pub growing-is : growing ≡ growth_by dead entries
   pub own_is : own ≡ clusters_for (length bytes)
   pub free : Listed s table list (need_of directory dead bytes)
 
-module _ {s : Superblock} {table list bytes : List ℕ} {directory : EntryAt} {dead : Place} {entries growing own : ℕ} (counted : Counted s table list bytes directory dead entries growing own) where
+module _ {s : Superblock} {table list bytes : List ℕ} {directory : EntryAt} {dead : Option Place} {entries growing own : ℕ} (counted : Counted s table list bytes directory dead entries growing own) where
   -- ---- the clusters: a directory's growth first, then the entry's own
   growing-by : growing ≡ growth_by dead (entries_of directory)
   growing-by = counted.growing-is ∙ ap (growth_by dead) counted.entries-are
@@ -83,7 +84,7 @@ module _ {s : Superblock} {table list bytes : List ℕ} {directory : EntryAt} {d
       lands-so end h = subst (Lands end) (sym writes-so) h
 
 -- ---- judged by the directory's lock and against what is free
-pub need-so : (directory : EntryAt) (dead : Place) (bytes : List ℕ) {entries growing own : ℕ} → own ≡ clusters_for (length bytes) → entries ≡ entries_of directory → growing ≡ growth_by dead entries
+pub need-so : (directory : EntryAt) (dead : Option Place) (bytes : List ℕ) {entries growing own : ℕ} → own ≡ clusters_for (length bytes) → entries ≡ entries_of directory → growing ≡ growth_by dead entries
     → own + growing ≡ need_of directory dead bytes
 need-so directory dead bytes o e g = ap₂ (λ a b. a + b) o (g ∙ ap (growth_by dead) e)
 

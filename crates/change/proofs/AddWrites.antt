@@ -1,4 +1,5 @@
 -- The pages that the code writes for a new entry are those of the model's plan.
+use Rattle.std.specs.Prelude.{Option}
 use Prim.Native.Nat.{ℕ, ◌-◌, ◌≤◌}
 use mathlib.Core.Bool.{false, true}
 use mathlib.Core.List.{List, [], ◌++◌, ◌∷◌}
@@ -21,7 +22,7 @@ use Rattle.model.specs.Tree.{Root, Slot, entry_pages}
 use Rattle.model.specs.View.{View, pages_of}
 use Rattle.model.specs.Writes.{PageWrite, cluster_writes, page_writes}
 use Rattle.tree.specs.Slots.{cluster_at}
-use Rattle.change.specs.declared.entries.EntryAt.{EntryAt}
+use Rattle.lookup.specs.declared.way.EntryAt.{EntryAt}
 use Rattle.change.specs.Changed.{rules_of}
 use Rattle.change.specs.Deeds.{added_writes, entries_of, growth_by, growth_of, last_of, length_by, page_by, taken_of}
 use Rattle.change.specs.Words.{free_list}
@@ -29,7 +30,7 @@ use Rattle.change.proofs.AddPlans.{DeadAt, growth-is, length-is, page-is}
 use Rattle.change.proofs.Sites.{Site, directory_at}
 
 module _ (format : Format) (image : List ℕ) (s : Superblock) (opened : open_card format image ≡ ok s) (root : Root) (p : Path) (here : EntryAt)
-    (site : Site (see s image) (table_of image s) root p here) (dead : Place) (d : DeadAt (entry_pages (Slot.directory (entry_of here.page) site.chain)) site.slots dead)
+    (site : Site (see s image) (table_of image s) root p here) (dead : Option Place) (d : DeadAt (entry_pages (Slot.directory (entry_of here.page) site.chain)) site.slots dead)
     (last-is : cluster_at (table_of image s) here.first ((entry_of here.page).length - 1) ≡ get_or site.chain (length site.chain - 1) 0)
     (free-is : free_clusters (rules_of s) (see s image) ≡ free_list s (table_of image s)) where
   abbrev v : View

@@ -1,4 +1,5 @@
 -- Creating a file and making a directory, as the code does them in the directory that it found.
+use Rattle.std.specs.Prelude.{Option}
 use Prim.Native.Nat.{ℕ, suc, ◌+◌, ◌<◌, ◌≤◌}
 use mathlib.Core.Bool.{cond, false, true}
 use mathlib.Core.List.{List, [], ◌++◌, ◌∷◌}
@@ -30,9 +31,9 @@ use Rattle.model.proofs.CheckHolds.{check-holds}
 use Rattle.model.proofs.Outcome.{Deed, Outcome}
 use Rattle.model.proofs.PageBytes.{length-new}
 use Rattle.model.proofs.Refusals.{refusal-accepts}
-use Rattle.change.specs.declared.entries.EntryAt.{EntryAt}
+use Rattle.lookup.specs.declared.way.EntryAt.{EntryAt}
 use Rattle.change.specs.declared.entries.NewEntry.{NewEntry}
-use Rattle.change.specs.Calls.{added_image, done_with, dots_of, locked_at, need_of, new_of}
+use Rattle.change.specs.Calls.{added_image, done_with, dots_of, locked_at, need_of, as_directory, as_file}
 use Rattle.change.specs.Changed.{changed, rules_of}
 use Rattle.change.specs.Deeds.{added_table, added_writes, entries_of, growth_by, growth_of, last_of, number_by, taken_of}
 use Rattle.change.specs.Words.{free_list}
@@ -71,7 +72,7 @@ module _ (format : Format) (image : List ℕ) (s : Superblock) (root : Root) (m 
     pub planned-at : plan_of (rules_of s) c (see s image) root ≡ plan_at (rules_of s) c (see s image) here.at (found (Slot.directory (entry_of here.page) site.chain) site.slots)
     planned-at = ap₂ (λ a f. plan_at (rules_of s) c (see s image) a f) site.page-so site.found-so
 
-    module _ (creating : creates c ≡ true) (dead : Place) (d : DeadAt (entry_pages (Slot.directory (entry_of here.page) site.chain)) site.slots dead) where
+    module _ (creating : creates c ≡ true) (dead : Option Place) (d : DeadAt (entry_pages (Slot.directory (entry_of here.page) site.chain)) site.slots dead) where
       need-is : size c + cond (creates c) (growth_with_one (entry_of here.page) site.slots) 0 ≡ size c + growth_by dead (entries_of here)
       need-is =
           rw creating (ap (λ n. size c + n) (growth-is (entry_of here.page) site.chain site.slots (see s image) site.below site.two site.long site.held dead d))
@@ -153,10 +154,10 @@ module _ (format : Format) (image : List ℕ) (s : Superblock) (root : Root) (m 
 
 -- ---- the two creations
 module _ (format : Format) (image : List ℕ) (s : Superblock) (root : Root) (m : Marks) (checked : check_image format image ≡ ok (s, root, m)) (p : Path) (time : List ℕ) (here : EntryAt)
-    (site : Site (see s image) (table_of image s) root p here) (dead : Place) (d : DeadAt (entry_pages (Slot.directory (entry_of here.page) site.chain)) site.slots dead)
+    (site : Site (see s image) (table_of image s) root p here) (dead : Option Place) (d : DeadAt (entry_pages (Slot.directory (entry_of here.page) site.chain)) site.slots dead)
     (absent-so : look_in site.slots (last_name p ∷ []) ≡ absent) (unlocked : locked_at here ≡ false) where
   pub create-done : (bytes : List ℕ) → static (create p time bytes) ≡ 0 → need_of here dead bytes ≤ length (free_list s (table_of image s))
-      → Adds format image s here (create p time bytes) (new_of false bytes dead) time (last_name p) bytes
+      → Adds format image s here (create p time bytes) (as_file bytes dead) time (last_name p) bytes
   create-done bytes fine room =
       adds format image s root m checked (create p time bytes) fine here site refl dead d (rw absent-so) (rw (absent-so, unlocked)) room (new_file (last_name p) time bytes) file_mode (length bytes) time (last_name p) bytes
       refl (planned-at format image s root m checked (create p time bytes) fine here site) (λ o. refl) (λ o. refl) (λ o. refl)
@@ -183,9 +184,9 @@ module _ (format : Format) (image : List ℕ) (s : Superblock) (root : Root) (m 
       ap₂ (λ a b. some (dot-page a b) ∷ some up-page ∷ []) begins numbered
       ∙ sym (two-pages (dot-page here.first (number_by dead (entries_of here))) up-page (length-new _) (length-new _))
 
-  pub make-done : (bytes : List ℕ) → static (make_directory p time) ≡ 0 → need_of here dead (dots_of here.first (number_by dead (entries_of here)) time) ≤ length (free_list s (table_of image s))
-      → Adds format image s here (make_directory p time) (new_of true bytes dead) time (last_name p) (dots_of here.first (number_by dead (entries_of here)) time)
-  make-done bytes fine room =
+  pub make-done : static (make_directory p time) ≡ 0 → need_of here dead (dots_of here.first (number_by dead (entries_of here)) time) ≤ length (free_list s (table_of image s))
+      → Adds format image s here (make_directory p time) (as_directory dead) time (last_name p) (dots_of here.first (number_by dead (entries_of here)) time)
+  make-done fine room =
       let f = new_directory (last_name p) time (first_of site.chain) (2 + first_dead site.slots) in
       adds format image s root m checked (make_directory p time) fine here site refl dead d (rw absent-so) (rw (absent-so, unlocked)) (omega (arith, one-cluster)) f directory_mode 2 time (last_name p)
       (dots_of here.first (number_by dead (entries_of here)) time) (sym one-cluster)

@@ -1,9 +1,11 @@
 -- What the code answers where a path's directory was found is what the model says of a replacement or a removal.
+use Rattle.std.specs.Prelude.{Err, None, Ok, Option as Optional, Some}
+use Rattle.std.specs.Prelude.{Result as Returned}
 use Prim.Native.Nat.{ℕ, pred, ◌+◌, ◌/◌, ◌≤◌}
 use mathlib.Core.Bool.{Bool, ◌&&◌, false, true}
 use mathlib.Core.List.{List, [], ◌∷◌}
 use mathlib.Core.Option.{Option, none, some}
-use mathlib.Core.Path.{◌∙◌, ◌≡◌, ap, refl, sym}
+use mathlib.Core.Path.{◌∙◌, ◌≡◌, ap, refl, subst, sym}
 use native.Mathlib.Omega.{arith}
 use borrow.Author.Tests.{eq-eqb, leb-false, leb-true, ne_eqb}
 use lib.Dec.{eqb, leb→le}
@@ -15,10 +17,9 @@ use Rattle.layout.specs.Table.{table_of}
 use Rattle.layout.proofs.OpenFacts.{own-format}
 use Rattle.layout.proofs.TableLaws.{length-table}
 use Rattle.tree.specs.declared.along.Place.{Place}
-use Rattle.tree.specs.declared.along.Place.TheVariants as place
-use Rattle.lookup.specs.declared.way.Arrival.TheVariants as arrival
-use Rattle.lookup.specs.declared.way.Arrived.{Arrived}
-use Rattle.lookup.specs.Descend.{entered, nowhere}
+use Rattle.layout.specs.declared.Refusal.{Refusal}
+use Rattle.layout.specs.declared.Refusal.TheVariants as is
+use Rattle.lookup.specs.Descend.{entered}
 use Rattle.lookup.proofs.SlotLaws.{live_at, live-nowhere, name-at, name-found, name-nowhere}
 use Rattle.model.specs.Bytes.{word}
 use Rattle.model.specs.Change.{Change, creates, delete, path, remove_directory, replace}
@@ -33,11 +34,10 @@ use Rattle.model.specs.Tree.{Root, Slot, dead_slots, entry_pages, slot_count}
 use Rattle.model.specs.View.{View}
 use Rattle.model.proofs.Equality.{and_r, to-T}
 use Rattle.tree.proofs.ChainPages.{directory-pages}
-use Rattle.change.specs.declared.editing.Action.{Action}
-use Rattle.change.specs.declared.editing.Action.TheVariants as action
-use Rattle.change.specs.declared.entries.EntryAt.{EntryAt}
-use Rattle.change.specs.Calls.{CanEdit, CanEditIn, EditLands, done_with, edited, edited_in, either_locked, enough, live_of, on_entry, pick_outcome, place_of, refused_by, removed_image, replaced_image, slots_of, unless_live, unless_locked}
-use Rattle.change.specs.Changed.{changed}
+use Rattle.lookup.specs.declared.way.EntryAt.{EntryAt}
+use Rattle.change.specs.Calls.{CanEditIn, DeleteLands, RemoveLands, ReplaceLands, deleted_entry, done_with, edited_in, either_locked, enough, live_of, or_refused, pick_outcome, place_of, refused_by, removed_entry, removed_image, replaced_entry, replaced_image, slots_of, unless_live, unless_locked}
+use Rattle.change.specs.Changed.{Outcome, changed}
+use Rattle.change.specs.Deeds.{Open}
 use Rattle.change.specs.Words.{free_list}
 use Rattle.change.proofs.AddOutcomes.{held-slots}
 use Rattle.change.proofs.CallLaws.{picked}
@@ -58,31 +58,31 @@ slot-entry v below q (Slot.directory e cs) x = (e, x.0)
 module _ (format : Format) (image : List ℕ) (s : Superblock) (root : Root) (m : Marks) (checked : check_image format image ≡ ok (s, root, m)) (p : Path) (here : EntryAt)
     (site : Site (see s image) (table_of image s) root p here) (directory : is_directory (entry_of here.page) ≡ true) where
   -- the name is not there
-  absent-so : place_of (see s image) (table_of image s) here (last_name p) ≡ place.Nowhere → look_in site.slots (last_name p ∷ []) ≡ absent
+  absent-so : place_of (see s image) (table_of image s) here (last_name p) ≡ None → look_in site.slots (last_name p ∷ []) ≡ absent
   absent-so e = name-nowhere (see s image) site.below (slots_of (table_of image s) here) site.slots (held-slots format image s root m checked p here site) (last_name p) e
 
-  arrived-nowhere : place_of (see s image) (table_of image s) here (last_name p) ≡ place.Nowhere → entered (see s image) (table_of image s) here.first here.page (last_name p) ≡ nowhere arrival.Absent
+  arrived-nowhere : place_of (see s image) (table_of image s) here (last_name p) ≡ None → entered (see s image) (table_of image s) here.first here.page (last_name p) ≡ Err is.Absent
   unfolding entered
   arrived-nowhere e = rw (directory, e)
 
-  arrived-at : (k q : ℕ) (entry : List ℕ) → place_of (see s image) (table_of image s) here (last_name p) ≡ place.At k q → (see s image).page q ≡ some entry
-      → entered (see s image) (table_of image s) here.first here.page (last_name p) ≡ record { arrival = arrival.At (word entry 0x10); at = q; page = entry }
+  arrived-at : (place : Place) (entry : List ℕ) → place_of (see s image) (table_of image s) here (last_name p) ≡ Some place → (see s image).page place.page ≡ some entry
+      → entered (see s image) (table_of image s) here.first here.page (last_name p) ≡ Ok (entry_in place.page entry)
   unfolding entered
-  arrived-at k q entry e r = rw (directory, e, r)
+  arrived-at place entry e r = rw (directory, e, r)
 
   -- the name is there
   pub record Stands (q : ℕ) : Type 0 where
     pub entry : List ℕ
     pub there : There image s site.below (entry_pages (Slot.directory (entry_of here.page) site.chain)) site.slots (last_name p) q entry
-    pub arrives : entered (see s image) (table_of image s) here.first here.page (last_name p) ≡ record { arrival = arrival.At (word entry 0x10); at = q; page = entry }
+    pub arrives : entered (see s image) (table_of image s) here.first here.page (last_name p) ≡ Ok (entry_in q entry)
 
-  stands : (k q : ℕ) → place_of (see s image) (table_of image s) here (last_name p) ≡ place.At k q → Stands q
-  stands k q e =
+  stands : (place : Place) → place_of (see s image) (table_of image s) here (last_name p) ≡ Some place → Stands place.page
+  stands place e =
       let held = held-slots format image s root m checked p here site in
-      let f = name-found (see s image) site.below (slots_of (table_of image s) here) site.slots held (last_name p) k q e in
-      let n = name-at (see s image) site.below (slots_of (table_of image s) here) site.slots held (last_name p) k q e in
-      let x = slot-entry (see s image) site.below q f.0 f.3 in
-      let y = page-there ((see s image).page q) x.0 x.1 in
+      let f = name-found (see s image) site.below (slots_of (table_of image s) here) site.slots held (last_name p) place e in
+      let n = name-at (see s image) site.below (slots_of (table_of image s) here) site.slots held (last_name p) place e in
+      let x = slot-entry (see s image) site.below place.page f.0 f.3 in
+      let y = page-there ((see s image).page place.page) x.0 x.1 in
       record {
         entry = y.0;
         there =
@@ -96,7 +96,7 @@ module _ (format : Format) (image : List ℕ) (s : Superblock) (root : Root) (m 
               held = f.3;
               within = f.4;
             };
-        arrives = arrived-at k q y.0 e y.1;
+        arrives = arrived-at place y.0 e y.1;
       }
 
   -- ---- the outcomes of an entry that stands
@@ -151,103 +151,99 @@ module _ (format : Format) (image : List ℕ) (s : Superblock) (root : Root) (m 
       d : IsDirectory format image s root m checked p here site q x.entry x.there
       d = directory-here format image s root m checked p here site q x.entry x.there e
 
-      full : (i j : ℕ) → live_of (see s image) (table_of image s) (entry_in q x.entry) ≡ place.At i j → eqb (slot_count x.there.inside) (dead_slots x.there.inside) ≡ false
-      full i j h = ne_eqb _ _ (live_at (see s image) (pred site.below) (slots_of (table_of image s) (entry_in q x.entry)) x.there.inside (inside-held q x.entry x.there d) i j h)
+      full : (place : Place) → live_of (see s image) (table_of image s) (entry_in q x.entry) ≡ Some place → eqb (slot_count x.there.inside) (dead_slots x.there.inside) ≡ false
+      full place h = ne_eqb _ _ (live_at (see s image) (pred site.below) (slots_of (table_of image s) (entry_in q x.entry)) x.there.inside (inside-held q x.entry x.there d) place h)
 
-      go : (z : Place) → live_of (see s image) (table_of image s) (entry_in q x.entry) ≡ z
+      go : (z : Optional Place) → live_of (see s image) (table_of image s) (entry_in q x.entry) ≡ z
           → unless_live s image (table_of image s) z
           (unless_locked s image (table_of image s) (either_locked here (entry_in q x.entry)) (done_with (removed_image s image (table_of image s) here (entry_in q x.entry) ((word x.entry 4 + 1) / 2))))
           ≡ changed format (remove_directory p) image
-      go place.Nowhere h =
+      go None h =
           let empty = live-nowhere (see s image) (pred site.below) (slots_of (table_of image s) (entry_in q x.entry)) x.there.inside (inside-held q x.entry x.there d) h in
           unless-locked format image s root m checked (remove_directory p) fine refl here site (entry_in q x.entry) (rw (d.found-directory, eq-eqb _ _ empty)) (rw d.found-directory) _
           (λ o. sym (remove-done format image s root m checked p here site q x.entry x.there fine d empty o).done)
-      go (place.At i j) h = sym (edit-refused format image s root m checked (remove_directory p) fine refl here site 12 (rw (d.found-directory, full i j h)))
+      go (Some place) h = sym (edit-refused format image s root m checked (remove_directory p) fine refl here site 12 (rw (d.found-directory, full place h)))
 
   -- ---- what is known of an entry before it is replaced or removed: its pages land
 
-  replace-lands : (time bytes : List ℕ) → static (replace p time bytes) ≡ 0 → (q : ℕ) (x : Stands q) → EditLands s image (table_of image s) action.Replace here time bytes (entry_in q x.entry)
+  replace-lands : (time bytes : List ℕ) → static (replace p time bytes) ≡ 0 → (q : ℕ) (x : Stands q) → ReplaceLands s image (table_of image s) here time bytes (entry_in q x.entry)
   replace-lands time bytes fine q x kind unlocked room =
       (replace-done format image s root m checked p here site q x.entry x.there time bytes fine
       (file-here format image s root m checked p here site q x.entry x.there kind) unlocked (leb-true (clusters_for (length bytes)) (length (free_list s (table_of image s))) room)).lands
 
-  delete-lands : (time bytes : List ℕ) → static (delete p) ≡ 0 → (q : ℕ) (x : Stands q) → EditLands s image (table_of image s) action.Delete here time bytes (entry_in q x.entry)
-  delete-lands time bytes fine q x kind unlocked =
+  delete-lands : static (delete p) ≡ 0 → (q : ℕ) (x : Stands q) → DeleteLands s image (table_of image s) here (entry_in q x.entry)
+  delete-lands fine q x kind unlocked =
       (delete-done format image s root m checked p here site q x.entry x.there fine (file-here format image s root m checked p here site q x.entry x.there kind) unlocked).lands
 
-  remove-lands : (time bytes : List ℕ) → static (remove_directory p) ≡ 0 → (q : ℕ) (x : Stands q) → EditLands s image (table_of image s) action.Remove here time bytes (entry_in q x.entry)
-  remove-lands time bytes fine q x kind empty unlocked =
+  remove-lands : static (remove_directory p) ≡ 0 → (q : ℕ) (x : Stands q) → RemoveLands s image (table_of image s) here (entry_in q x.entry)
+  remove-lands fine q x kind empty unlocked =
       let d = directory-here format image s root m checked p here site q x.entry x.there kind in
       (remove-done format image s root m checked p here site q x.entry x.there fine d
       (live-nowhere (see s image) (pred site.below) (slots_of (table_of image s) (entry_in q x.entry)) x.there.inside (inside-held q x.entry x.there d) empty) unlocked).lands
 
 -- ---- a change of an entry that stands: 9 where the name is absent, and else by what is done there
 module _ (format : Format) (image : List ℕ) (s : Superblock) (root : Root) (m : Marks) (checked : check_image format image ≡ ok (s, root, m)) (c : Change) (fine : static c ≡ 0) (standing : creates c ≡ false)
-    (missing : own c absent ≡ 9) (here : EntryAt) (site : Site (see s image) (table_of image s) root (path c) here) (directory : is_directory (entry_of here.page) ≡ true)
-    (action : Action) (time bytes : List ℕ) where
-  edited-by : ((q : ℕ) (x : Stands format image s root m checked (path c) here site directory q) → edited s image (table_of image s) action here time bytes (entry_in q x.entry) ≡ changed format c image)
-      → edited_in s image (table_of image s) here action (last_name (path c)) time bytes ≡ changed format c image
+    (missing : own c absent ≡ 9) (here : EntryAt) (site : Site (see s image) (table_of image s) root (path c) here) (directory : is_directory (entry_of here.page) ≡ true) where
+  edited-by : (edit : EntryAt → Outcome) → ((q : ℕ) (x : Stands format image s root m checked (path c) here site directory q) → edit (entry_in q x.entry) ≡ changed format c image)
+      → edited_in s image (table_of image s) here (last_name (path c)) edit ≡ changed format c image
   unfolding edited_in
-  edited-by does = go (place_of (see s image) (table_of image s) here (last_name (path c))) refl
+  edited-by edit does = go (place_of (see s image) (table_of image s) here (last_name (path c))) refl
     where
-      go : (z : Place) → place_of (see s image) (table_of image s) here (last_name (path c)) ≡ z
-          → on_entry s image (table_of image s) (entered (see s image) (table_of image s) here.first here.page (last_name (path c))) (edited s image (table_of image s) action here time bytes) ≡ changed format c image
-      go place.Nowhere e =
+      go : (z : Optional Place) → place_of (see s image) (table_of image s) here (last_name (path c)) ≡ z
+          → or_refused image (entered (see s image) (table_of image s) here.first here.page (last_name (path c))) edit ≡ changed format c image
+      go None e =
           rw (arrived-nowhere format image s root m checked (path c) here site directory e)
           (sym (edit-refused format image s root m checked c fine standing here site 8 (ap (own c) (absent-so format image s root m checked (path c) here site directory e) ∙ missing)))
-      go (place.At k q) e =
-          let x = stands format image s root m checked (path c) here site directory k q e in
-          ap (λ a. on_entry s image (table_of image s) a (edited s image (table_of image s) action here time bytes)) x.arrives ∙ does q x
+      go (Some place) e =
+          let x = stands format image s root m checked (path c) here site directory place e in
+          ap (λ a. or_refused image a edit) x.arrives ∙ does place.page x
 
-  absent-at : {A : Type 0} (next : ℕ) → arrival.Absent ≡ arrival.At next → A
-  absent-at next e = absurd (let z : ◌≡◌ {A = ℕ} 0 1 = cc in omega arith)
-
-  can-by : ((q : ℕ) (x : Stands format image s root m checked (path c) here site directory q) → EditLands s image (table_of image s) action here time bytes (entry_in q x.entry))
-      → CanEditIn s image (table_of image s) here action (last_name (path c)) time bytes
-  can-by lands first a = go (place_of (see s image) (table_of image s) here (last_name (path c))) refl
+  can-by : (lands : EntryAt → Type 0) → ((q : ℕ) (x : Stands format image s root m checked (path c) here site directory q) → lands (entry_in q x.entry))
+      → CanEditIn s image (table_of image s) here (last_name (path c)) lands
+  can-by lands known entry a = go (place_of (see s image) (table_of image s) here (last_name (path c))) refl
     where
-      go : (z : Place) → place_of (see s image) (table_of image s) here (last_name (path c)) ≡ z
-          → CanEdit s image (table_of image s) action here time bytes
-          (record {
-            at = (entered (see s image) (table_of image s) here.first here.page (last_name (path c))).at;
-            first = first;
-            page = (entered (see s image) (table_of image s) here.first here.page (last_name (path c))).page;
-          })
-      go place.Nowhere e = absent-at first (sym (ap (λ (w : Arrived). w.arrival) (arrived-nowhere format image s root m checked (path c) here site directory e)) ∙ a)
-      go (place.At k q) e =
-          let x = stands format image s root m checked (path c) here site directory k q e in
-          let next : arrival.At (word x.entry 0x10) ≡ arrival.At first = sym (ap (λ (w : Arrived). w.arrival) x.arrives) ∙ a in
-          let same : word x.entry 0x10 ≡ first = cc in
-          rw (x.arrives, ← same) (record { card = record { opened = own-format format image s (checked-parts format image s root m checked).0; long = length-table image s }; lands = lands q x })
+      refused : {A : Type 0} → entered (see s image) (table_of image s) here.first here.page (last_name (path c)) ≡ Err is.Absent → A
+      refused e = let z = sym e ∙ a in cc
+
+      go : (z : Optional Place) → place_of (see s image) (table_of image s) here (last_name (path c)) ≡ z → Open s image (table_of image s) × lands entry
+      go None e = refused (arrived-nowhere format image s root m checked (path c) here site directory e)
+      go (Some place) e =
+          let x = stands format image s root m checked (path c) here site directory place e in
+          let next : ◌≡◌ {A = Returned EntryAt Refusal} (Ok (entry_in place.page x.entry)) (Ok entry) = sym x.arrives ∙ a in
+          let same : entry_in place.page x.entry ≡ entry = cc in
+          (record { opened = own-format format image s (checked-parts format image s root m checked).0; long = length-table image s }, subst lands same (known place.page x))
 
 module _ (format : Format) (image : List ℕ) (s : Superblock) (root : Root) (m : Marks) (checked : check_image format image ≡ ok (s, root, m)) (p : Path) (here : EntryAt)
-    (site : Site (see s image) (table_of image s) root p here) (directory : is_directory (entry_of here.page) ≡ true) (time bytes : List ℕ) where
-  pub replaced-here : static (replace p time bytes) ≡ 0 → edited_in s image (table_of image s) here action.Replace (last_name p) time bytes ≡ changed format (replace p time bytes) image
-  replaced-here fine =
-      edited-by format image s root m checked (replace p time bytes) fine refl refl here site directory action.Replace time bytes
-      (λ q x. replaced-at format image s root m checked p here site directory time bytes fine q x (is_directory (entry_of x.entry)) refl)
+    (site : Site (see s image) (table_of image s) root p here) (directory : is_directory (entry_of here.page) ≡ true) where
+  module _ (time bytes : List ℕ) (fine : static (replace p time bytes) ≡ 0) where
+    pub replaced-here : edited_in s image (table_of image s) here (last_name p) (λ entry. replaced_entry s image (table_of image s) here entry time bytes) ≡ changed format (replace p time bytes) image
+    replaced-here =
+        edited-by format image s root m checked (replace p time bytes) fine refl refl here site directory _
+        (λ q x. replaced-at format image s root m checked p here site directory time bytes fine q x (is_directory (entry_of x.entry)) refl)
 
-  pub deleted-here : static (delete p) ≡ 0 → edited_in s image (table_of image s) here action.Delete (last_name p) time bytes ≡ changed format (delete p) image
-  deleted-here fine =
-      edited-by format image s root m checked (delete p) fine refl refl here site directory action.Delete time bytes
-      (λ q x. deleted-at format image s root m checked p here site directory fine q x (is_directory (entry_of x.entry)) refl)
+    pub can-replace : CanEditIn s image (table_of image s) here (last_name p) (ReplaceLands s image (table_of image s) here time bytes)
+    can-replace =
+        can-by format image s root m checked (replace p time bytes) fine refl refl here site directory _
+        (replace-lands format image s root m checked p here site directory time bytes fine)
 
-  pub removed-here : static (remove_directory p) ≡ 0 → edited_in s image (table_of image s) here action.Remove (last_name p) time bytes ≡ changed format (remove_directory p) image
-  removed-here fine =
-      edited-by format image s root m checked (remove_directory p) fine refl refl here site directory action.Remove time bytes
-      (λ q x. removed-at format image s root m checked p here site directory fine q x (is_directory (entry_of x.entry)) refl)
+  module _ (fine : static (delete p) ≡ 0) where
+    pub deleted-here : edited_in s image (table_of image s) here (last_name p) (deleted_entry s image (table_of image s) here) ≡ changed format (delete p) image
+    deleted-here =
+        edited-by format image s root m checked (delete p) fine refl refl here site directory _
+        (λ q x. deleted-at format image s root m checked p here site directory fine q x (is_directory (entry_of x.entry)) refl)
 
-  pub can-replace : static (replace p time bytes) ≡ 0 → CanEditIn s image (table_of image s) here action.Replace (last_name p) time bytes
-  can-replace fine =
-      can-by format image s root m checked (replace p time bytes) fine refl refl here site directory action.Replace time bytes
-      (replace-lands format image s root m checked p here site directory time bytes fine)
+    pub can-delete : CanEditIn s image (table_of image s) here (last_name p) (DeleteLands s image (table_of image s) here)
+    can-delete =
+        can-by format image s root m checked (delete p) fine refl refl here site directory _
+        (delete-lands format image s root m checked p here site directory fine)
 
-  pub can-delete : static (delete p) ≡ 0 → CanEditIn s image (table_of image s) here action.Delete (last_name p) time bytes
-  can-delete fine =
-      can-by format image s root m checked (delete p) fine refl refl here site directory action.Delete time bytes
-      (delete-lands format image s root m checked p here site directory time bytes fine)
+  module _ (fine : static (remove_directory p) ≡ 0) where
+    pub removed-here : edited_in s image (table_of image s) here (last_name p) (removed_entry s image (table_of image s) here) ≡ changed format (remove_directory p) image
+    removed-here =
+        edited-by format image s root m checked (remove_directory p) fine refl refl here site directory _
+        (λ q x. removed-at format image s root m checked p here site directory fine q x (is_directory (entry_of x.entry)) refl)
 
-  pub can-remove : static (remove_directory p) ≡ 0 → CanEditIn s image (table_of image s) here action.Remove (last_name p) time bytes
-  can-remove fine =
-      can-by format image s root m checked (remove_directory p) fine refl refl here site directory action.Remove time bytes
-      (remove-lands format image s root m checked p here site directory time bytes fine)
+    pub can-remove : CanEditIn s image (table_of image s) here (last_name p) (RemoveLands s image (table_of image s) here)
+    can-remove =
+        can-by format image s root m checked (remove_directory p) fine refl refl here site directory _
+        (remove-lands format image s root m checked p here site directory fine)

@@ -15,9 +15,8 @@ use Rattle.model.specs.Plan.{first_of, killed, with_length}
 use Rattle.model.specs.Tree.{times}
 use Rattle.model.specs.View.{top_bit}
 use Rattle.model.specs.Writes.{PageWrite}
-use Rattle.change.specs.declared.editing.Action.TheVariants as action
-use Rattle.change.specs.declared.entries.EntryAt.{EntryAt}
-use Rattle.change.specs.Calls.{CanEdit, done_with, either_locked, refused_by, replaced_entry, replaced_image}
+use Rattle.lookup.specs.declared.way.EntryAt.{EntryAt}
+use Rattle.change.specs.Calls.{ReplaceLands, done_with, either_locked, refused_by, replaced_entry, replaced_image}
 use Rattle.change.specs.Deeds.{Open, length_write, entries_of, kept_write, relinked, removed_writes, replaced_table, replaced_writes, writes_of}
 use Rattle.change.specs.Image.{Lands}
 use Rattle.change.specs.Words.{free_list}
@@ -34,10 +33,6 @@ module _ (directory entry : EntryAt) {entries : ℕ} {kept gone : List ℕ} (ent
   pub removed-writes : writes_of [] [] [] (record { always = false; page = directory.at; bytes = kept }) (record { always = false; page = entry.at; bytes = gone })
       ≡ removed_writes directory entry
   removed-writes = ap₂ (λ d g. writes_of [] [] [] d (record { always = false; page = entry.at; bytes = g })) (kept-so directory entries-are kept-is) gone-is
-
-  pub removed-lands : (end : ℕ) → Lands end (removed_writes directory entry)
-      → Lands end (writes_of [] [] [] (record { always = false; page = directory.at; bytes = kept }) (record { always = false; page = entry.at; bytes = gone }))
-  removed-lands end h = subst (Lands end) (sym removed-writes) h
 
 -- ---- replacing: the clusters taken are the first of the free ones
 module _ (s : Superblock) (table list bytes : List ℕ) (listed : list ≡ free_list s table) (room : clusters_for (length bytes) ≤ length list) {own : ℕ} (own_is : own ≡ clusters_for (length bytes)) where
@@ -85,8 +80,8 @@ module _ (s : Superblock) (image table : List ℕ) (directory entry : EntryAt) (
     replaced-full h = rw (file, unlocked, lt-leb (clusters_for (length bytes)) (length (free_list s table)) h)
 
     module _ (room : clusters_for (length bytes) ≤ length (free_list s table)) where
-      pub can-land : CanEdit s image table action.Replace directory time bytes entry → Lands s.end (replaced_writes s table directory entry time bytes)
-      can-land can = can.lands file unlocked (le-leb (clusters_for (length bytes)) (length (free_list s table)) room)
+      pub can-land : ReplaceLands s image table directory time bytes entry → Lands s.end (replaced_writes s table directory entry time bytes)
+      can-land lands = lands file unlocked (le-leb (clusters_for (length bytes)) (length (free_list s table)) room)
 
       pub replaced-done : {after : List ℕ} → after ≡ replaced_image s image table directory entry time bytes → replaced_entry s image table directory entry time bytes ≡ done_with after
       replaced-done e = rw (file, unlocked, le-leb (clusters_for (length bytes)) (length (free_list s table)) room) (ap done_with (sym e))

@@ -16,7 +16,7 @@ use Rattle.model.specs.Plan.{Filling, altering, free_clusters, made, new_content
 use Rattle.model.specs.Tree.{Root, Slot, entry_pages}
 use Rattle.model.specs.View.{pages_of}
 use Rattle.model.specs.Writes.{PageWrite, cluster_writes, page_writes}
-use Rattle.change.specs.declared.entries.EntryAt.{EntryAt}
+use Rattle.lookup.specs.declared.way.EntryAt.{EntryAt}
 use Rattle.change.specs.Changed.{rules_of}
 use Rattle.change.specs.Deeds.{kept_write, removed_writes, replaced_writes}
 use Rattle.change.specs.Words.{free_list}

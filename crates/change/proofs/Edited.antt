@@ -31,7 +31,7 @@ use Rattle.model.proofs.Equality.{and_l, bool, tf}
 use Rattle.model.proofs.Outcome.{Deed}
 use Rattle.reached.specs.Table.{table_links}
 use Rattle.lookup.proofs.EnterLaws.{file-kind, some_same}
-use Rattle.change.specs.declared.entries.EntryAt.{EntryAt}
+use Rattle.lookup.specs.declared.way.EntryAt.{EntryAt}
 use Rattle.change.specs.Calls.{either_locked, refused_by, unless_locked}
 use Rattle.change.specs.Changed.{Outcome, changed, rules_of}
 use Rattle.change.specs.Deeds.{image_by, relinked, removed_table, removed_writes, replaced_table, replaced_writes}

@@ -1,4 +1,5 @@
 -- How many clusters a change can take: a directory grows by at most one, and a card's free clusters are few and low.
+use Rattle.std.specs.Prelude.{Option, None, Some}
 use Prim.Native.Nat.{ℕ, zero, suc, ◌+◌, ◌≤◌}
 use mathlib.Core.List.{List}
 use mathlib.Core.Path.{◌≡◌, ap}
@@ -9,7 +10,6 @@ use Rattle.layout.specs.declared.Superblock.{Superblock}
 use Rattle.layout.specs.Table.{open_card}
 use Rattle.layout.proofs.OpenFacts.{open-facts}
 use Rattle.tree.specs.declared.along.Place.{Place}
-use Rattle.tree.specs.declared.along.Place.TheVariants as place
 use Rattle.model.specs.Check.{ok}
 use Rattle.model.specs.Counts.{takeable}
 use Rattle.model.specs.Plan.{free_below, if_free}
@@ -21,9 +21,9 @@ use Rattle.change.specs.Changed.{rules_of}
 use Rattle.change.specs.Deeds.{growth_by}
 use Rattle.change.specs.Words.{free_list}
 
-pub growth-small : (dead : Place) (n : ℕ) → growth_by dead n ≤ 1
-growth-small place.Nowhere n = omega arith
-growth-small (place.At k p) n = omega arith
+pub growth-small : (dead : Option Place) (n : ℕ) → growth_by dead n ≤ 1
+growth-small None n = omega arith
+growth-small (Some place) n = omega arith
 
 few-below : (link : ℕ → Link) (k : ℕ) → length (free_below link k) ≤ k
 unfolding free_below

@@ -8,8 +8,6 @@ pub mod ChangedLaws
 pub mod WordSteps
 pub mod PageSteps
 pub mod StoreSteps
-pub mod SizeSteps
-pub mod PageParts
 pub mod DeedSteps
 pub mod ChainWords
 pub mod PlanTable

@@ -8,7 +8,7 @@ use mathlib.Core.Path.{◌∙◌, ◌≡◌, ap, ap₂, refl, sym}
 use native.Mathlib.Decide.{dec_lt}
 use native.Mathlib.Numerals.{add-one}
 use native.Mathlib.Omega.{arith}
-use lib.ListN.{get_or-eq_default, drop, drop_of_length-le, get_or, get_or-replicate, length, length-drop, length-replicate, replicate, set, take}
+use lib.ListN.{get_or-eq_default, drop, drop_of_length-le, get_or, get_or-replicate, length, length-replicate, length-take, replicate, set, take}
 use lib.Seq.{drop-cons, drop-drop, get_or-set_other, length-take-le, set-get_or, sets, sets-eq, take_all, take-append-add, take-append-le, take-take}
 use Rattle.page.specs.Page.{put}
 use Rattle.layout.proofs.TablePages.{get_or-pages}
@@ -93,26 +93,23 @@ front d h =
     put ∙ ap (λ (l : List ℕ). d ++ l) (drop-zeros (length d) 512 ∙ sym (take-zeros (512 - length d) 512 (omega arith))) ∙ sym taken
 
 module _ (bytes : List ℕ) (k : ℕ) {blank : List ℕ} (blank-zero : blank ≡ zero_page) where
-  pub page-past : length bytes / 512 < k → blank ≡ data_page bytes k
+  -- behind the data's last page
+  pub page-past : length bytes ≤ 512 * k → blank ≡ data_page bytes k
   page-past h = blank-zero ∙ front [] (omega arith) ∙ ap (λ (l : List ℕ). take 512 (l ++ zero_page)) (sym (drop_of_length-le bytes {i = 512 * k} (omega arith)))
 
-  pub page-last : {page : List ℕ} → page ≡ sets blank 0 (take (length bytes - 512 * k) (drop (512 * k) bytes))
-      → 512 * k ≤ length bytes → length bytes - 512 * k < 512 → page ≡ data_page bytes k
-  page-last e inside short =
-      let size : length (drop (512 * k) bytes) ≡ length bytes - 512 * k = length-drop (512 * k) bytes in
-      e ∙ ap₂ (λ (z d : List ℕ). sets z 0 d) blank-zero (take_all (length bytes - 512 * k) (drop (512 * k) bytes) (omega arith)) ∙ front (drop (512 * k) bytes) (omega arith)
-
-  pub page-full : {page : List ℕ} → page ≡ sets blank 0 (take (512 * k + 512 - 512 * k) (drop (512 * k) bytes))
-      → 512 * k ≤ length bytes → 512 ≤ length bytes - 512 * k → page ≡ data_page bytes k
-  page-full e inside long =
-      let here : 512 * k + 512 - 512 * k ≡ 512 = omega arith in
-      let size : 512 ≤ length (drop (512 * k) bytes) = rw (length-drop (512 * k) bytes) (omega arith) in
-      let taken : length (take 512 (drop (512 * k) bytes)) ≡ 512 = length-take-le 512 (drop (512 * k) bytes) size in
-      e ∙ ap₂ (λ (z : List ℕ) (n : ℕ). sets z 0 (take n (drop (512 * k) bytes))) blank-zero here
-      ∙ front (take 512 (drop (512 * k) bytes)) (omega arith)
-      ∙ take-append-le 512 (take 512 (drop (512 * k) bytes)) zero_page (omega arith)
-      ∙ take-take 512 512 (drop (512 * k) bytes) (omega arith)
-      ∙ sym (take-append-le 512 (drop (512 * k) bytes) zero_page size)
+  -- a page with a piece of the data
+  pub page-of : {page piece : List ℕ} → page ≡ sets blank 0 piece → piece ≡ take 512 (drop (k * 512) bytes) → page ≡ data_page bytes k
+  page-of e f =
+      let here : k * 512 ≡ 512 * k = omega arith in
+      e ∙ ap₂ (λ (z d : List ℕ). sets z 0 d) blank-zero (f ∙ ap (λ n. take 512 (drop n bytes)) here)
+      ∙ front (take 512 (drop (512 * k) bytes)) (omega (arith, length-take 512 (drop (512 * k) bytes)))
+      ∙ padded (drop (512 * k) bytes) (dec_lt (length (drop (512 * k) bytes)) 512)
+    where
+      padded : (d : List ℕ) → Dec (length d < 512) → take 512 (take 512 d ++ zero_page) ≡ take 512 (d ++ zero_page)
+      padded d (yes short) = ap (λ (l : List ℕ). take 512 (l ++ zero_page)) (take_all 512 d (omega arith))
+      padded d (no long) =
+          take-append-le 512 (take 512 d) zero_page (omega (arith, length-take-le 512 d (omega arith)))
+          ∙ take-take 512 512 d (omega arith) ∙ sym (take-append-le 512 d zero_page (omega arith))
 
 -- ---- page by page: what is left to write, from page k on
 module _ (geometry : Geometry) (clusters bytes : List ℕ) where

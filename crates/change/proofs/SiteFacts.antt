@@ -22,7 +22,7 @@ use Rattle.model.specs.Tree.{Root}
 use Rattle.model.specs.View.{Link}
 use Rattle.model.specs.Writes.{links_of}
 use Rattle.tree.specs.Slots.{cluster_at}
-use Rattle.change.specs.declared.entries.EntryAt.{EntryAt}
+use Rattle.lookup.specs.declared.way.EntryAt.{EntryAt}
 use Rattle.change.specs.Changed.{rules_of}
 use Rattle.change.specs.Words.{free_list}
 use Rattle.change.proofs.ChainWords.{cluster-in, last-at, last_in}

@@ -18,7 +18,7 @@ use Rattle.model.specs.Refusal.{first, growth_in, lock_refusal, locked, own, ref
 use Rattle.model.specs.Standing.{standing}
 use Rattle.model.specs.Tree.{Root}
 use Rattle.model.proofs.Allocation.{length-free}
-use Rattle.change.specs.declared.entries.EntryAt.{EntryAt}
+use Rattle.lookup.specs.declared.way.EntryAt.{EntryAt}
 use Rattle.change.specs.Calls.{locked_at}
 use Rattle.change.specs.Changed.{rules_of}
 use Rattle.change.specs.Words.{free_list}

@@ -8,7 +8,7 @@ use Rattle.model.specs.Names.{Path}
 use Rattle.model.specs.Plan.{Directory}
 use Rattle.model.specs.Tree.{Root}
 use Rattle.model.specs.View.{View}
-use Rattle.change.specs.declared.entries.EntryAt.{EntryAt}
+use Rattle.lookup.specs.declared.way.EntryAt.{EntryAt}
 
 abbrev pub Site : View → List ℕ → Root → Path → EntryAt → Type 0
 Site v table root p here = lookup.Site v table root p here.first here.at here.page

@@ -1,20 +1,21 @@
 -- The loops over the table in memory: one law for each way of a turn.
 use Prim.Native.Nat.{ℕ, zero, suc, ◌%◌, ◌+◌, ◌-◌, ◌<◌, ◌≤◌}
 use mathlib.Core.Bool.{Bool, ◌&&◌, cond, false, true}
-use mathlib.Core.List.{List, [], ◌++◌, ◌∷◌, append-nil}
+use mathlib.Core.List.{List, [], ◌++◌, ◌∷◌, append-nil, append_assoc}
 use mathlib.Core.Path.{◌∙◌, ◌≡◌, ap, refl, sym}
 use native.Mathlib.Decide.{dec_lt}
 use native.Mathlib.Numerals.{add-one}
 use native.Mathlib.Omega.{arith}
 use lib.Dec.{eqb, ltb}
-use lib.ListN.{drop, drop_of_length-le, get_or, length, set, take}
-use lib.Seq.{drop-cons, set_out, take-suc-set}
+use lib.ListN.{get_or, length, set, take}
+use lib.Seq.{set_out, take-suc-set}
 use Rattle.model.specs.Counts.{takeable}
 use Rattle.model.specs.Entry.{end_mark}
 use Rattle.model.specs.Plan.{free_below, if_free}
 use Rattle.model.specs.Tree.{times}
 use Rattle.model.specs.View.{Link, link_of, top_bit}
 use Rattle.model.specs.Writes.{word_to}
+use Rattle.model.proofs.Allocation.{times-append}
 use Rattle.model.proofs.Equality.{and_l, and_r, tf}
 use Rattle.model.proofs.Frame.{hit-self}
 use Rattle.tree.specs.Slots.{next_of}
@@ -45,41 +46,43 @@ module _ (may_take : ℕ → Bool) (table list : List ℕ) (count c : ℕ) (foun
       go true false false e = sym (append-nil (free_up_to may_take table c))
       go false low last e = sym (append-nil (free_up_to may_take table c))
 
--- ---- a chain linked, from its last cluster to its first
-pub nothing-linked : (clusters table : List ℕ) → (table ≡ chained (drop (length clusters) clusters) table) × (end_mark ≡ word_to (drop (length clusters) clusters))
+-- ---- a chain linked, from its last cluster to its first: those behind the ones that are left
+pub record Linked (clusters before left : List ℕ) (word : ℕ) (table : List ℕ) : Type 0 where
+  pub behind : List ℕ
+  pub whole : clusters ≡ left ++ behind
+  pub leads : word ≡ word_to behind
+  pub done : table ≡ chained behind before
+
+pub nothing-linked : (clusters table : List ℕ) → Linked clusters table clusters end_mark table
 unfolding chained
-nothing-linked clusters table = rw (drop_of_length-le clusters {i = length clusters} (omega arith)) (refl, refl)
+nothing-linked clusters table = record { behind = []; whole = sym (append-nil clusters); leads = refl; done = refl }
 
-pub all-linked : (clusters before after : List ℕ) (left : ℕ) → left ≤ 0 → after ≡ chained (drop left clusters) before → after ≡ chained clusters before
-all-linked clusters before after zero h e = e
-all-linked clusters before after (suc left) h e = absurd (omega arith)
+module _ {clusters before left : List ℕ} {word : ℕ} {table : List ℕ} (l : Linked clusters before left word table) where
+  pub all-linked : length left ≡ 0 → table ≡ chained clusters before
+  all-linked none = l.done ∙ ap (λ cs. chained cs before) (sym (l.whole ∙ gone left none))
+    where
+      gone : (cs : List ℕ) → length cs ≡ 0 → cs ++ l.behind ≡ l.behind
+      gone [] e = refl
+      gone (c ∷ cs) e = absurd (omega arith)
 
-module _ (clusters before table : List ℕ) (word left : ℕ) (some : 0 < left) (inside : left ≤ length clusters)
-    (here : table ≡ chained (drop left clusters) before) (next : word ≡ word_to (drop left clusters)) where
-  first_of : drop (left - 1) clusters ≡ get_or clusters (left - 1) 0 ∷ drop left clusters
-  first_of =
-      let e : suc (left - 1) ≡ left = omega arith in
-      drop-cons clusters (left - 1) 0 (omega arith) ∙ ap (λ n. get_or clusters (left - 1) 0 ∷ drop n clusters) e
+  module _ (fewer : List ℕ) (c : ℕ) (one : left ≡ fewer ++ (c ∷ [])) where
+    next-whole : clusters ≡ fewer ++ (c ∷ l.behind)
+    next-whole = l.whole ∙ ap (λ cs. cs ++ l.behind) one ∙ append_assoc fewer (c ∷ []) l.behind
 
-  pub linked : set table (get_or clusters (left - 1) 0) word ≡ chained (drop (left - 1) clusters) before
-  unfolding chained
-  linked = rw (first_of, here, next)
+    pub linked : Linked clusters before fewer (top_bit + c) (set table c word)
+    unfolding chained
+    linked = record { behind = c ∷ l.behind; whole = next-whole; leads = refl; done = rw (l.done, l.leads) }
 
-  pub linked-past : length table ≤ get_or clusters (left - 1) 0 → table ≡ chained (drop (left - 1) clusters) before
-  linked-past h = sym (set_out table (get_or clusters (left - 1) 0) word h) ∙ linked
+    pub linked-past : length table ≤ c → Linked clusters before fewer (top_bit + c) table
+    linked-past h = rw (set_out table c word h) at linked
 
-  pub word-to : top_bit + get_or clusters (left - 1) 0 ≡ word_to (drop (left - 1) clusters)
-  word-to = rw first_of
-
--- clusters below a number, as a count and one by one
-pub each_below : (n : ℕ) (cs : List ℕ) → ((x : ℕ) → n ≤ x → times cs x ≡ 0) → (i : ℕ) → i < length cs → get_or cs i 0 < n
-each_below n [] low i h = absurd (omega arith)
-each_below n (c ∷ cs) low zero h = go (dec_lt c n)
-  where
-    go : Dec (c < n) → c < n
-    go (yes u) = u
-    go (no u) = absurd (omega (arith, low c (omega arith), hit-self c))
-each_below n (c ∷ cs) low (suc i) h = each_below n cs (λ x u. omega (arith, low x u)) i (omega arith)
+    -- clusters below 2^31, so that the words that lead to them fit
+    pub low-word : ((x : ℕ) → top_bit ≤ x → times clusters x ≡ 0) → c < top_bit
+    low-word low = go (dec_lt c top_bit)
+      where
+        go : Dec (c < top_bit) → c < top_bit
+        go (yes u) = u
+        go (no u) = absurd (omega (arith, low c (omega arith), ap (λ cs. times cs c) next-whole, times-append fewer (c ∷ l.behind) c, hit-self c))
 
 -- ---- a chain freed, from its first cluster on
 module _ (table : List ℕ) (c left : ℕ) (some : 0 < left) where

@@ -1,12 +1,13 @@
 -- The five changes as the code does them in the directory that a path leads to: what is refused there, and the image afterwards.
-use Rattle.std.specs.Prelude.{ℕ, ◌+◌, ◌-◌, ◌*◌, ◌/◌, ◌<◌, ◌≤◌, Bool, ◌||◌, false, true, List, ◌++◌, ◌≡◌, leb, length}
+use Rattle.std.specs.Prelude.{ℕ, ◌+◌, ◌-◌, ◌*◌, ◌/◌, ◌<◌, ◌≤◌, Bool, ◌||◌, false, true, List, ◌++◌, ◌≡◌, Option, None, Some, Ok, Err, leb, length}
+use Rattle.std.specs.Prelude.{Result as Returned}
 use Rattle.layout.specs.declared.Superblock.{Superblock}
 use Rattle.layout.specs.See.{view_by}
+use Rattle.layout.specs.declared.Refusal.{Refusal}
+use Rattle.layout.specs.declared.Refusal.TheVariants as is
+use Rattle.layout.specs.Refusal.{number_of, page_of}
 use Rattle.tree.specs.declared.along.Place.{Place}
-use Rattle.tree.specs.declared.along.Place.TheVariants as place
-use Rattle.lookup.specs.declared.way.Arrived.{Arrived}
-use Rattle.lookup.specs.declared.way.Arrival.{Arrival}
-use Rattle.lookup.specs.declared.way.Arrival.TheVariants as arrival
+use Rattle.lookup.specs.declared.way.EntryAt.{EntryAt}
 use Rattle.lookup.specs.Descend.{entered}
 use Rattle.tree.specs.Scan.{bearing, dying, living_from, scan}
 use Rattle.model.specs.Bytes.{word, word_limit}
@@ -18,9 +19,6 @@ use Rattle.model.specs.Pages.{new_page}
 use Rattle.model.specs.Plan.{new_entry}
 use Rattle.model.specs.View.{View, most_clusters, top_bit}
 use Rattle.tree.specs.Slots.{next_of, slot_pages}
-use Rattle.change.specs.declared.editing.Action.{Action}
-use Rattle.change.specs.declared.editing.Action.TheVariants as action
-use Rattle.change.specs.declared.entries.EntryAt.{EntryAt}
 use Rattle.change.specs.declared.entries.NewEntry.{NewEntry}
 use Rattle.change.specs.Changed.{Outcome}
 use Rattle.change.specs.Deeds.{Open, added_table, added_writes, entries_of, growth_by, image_by, last_of, number_by, removed_table, removed_writes, replaced_table, replaced_writes}
@@ -42,27 +40,49 @@ abbrev pub slots_of : List ℕ → EntryAt → List ℕ
 slots_of table directory = slot_pages table (next_of table directory.first) 0 (entries_of directory - 2)
 
 -- the place of a name, of the lowest dead slot and of the lowest live one
-abbrev pub place_of : View → List ℕ → EntryAt → Name → Place
+abbrev pub place_of : View → List ℕ → EntryAt → Name → Option Place
 place_of v table directory name = scan (bearing v name) (slots_of table directory) 0
 
-abbrev pub dead_of : View → List ℕ → EntryAt → Place
+abbrev pub dead_of : View → List ℕ → EntryAt → Option Place
 dead_of v table directory = scan (dying v) (slots_of table directory) 0
 
-abbrev pub live_of : View → List ℕ → EntryAt → Place
+abbrev pub live_of : View → List ℕ → EntryAt → Option Place
 live_of v table directory = scan (living_from v 0) (slots_of table directory) 0
+
+-- the slot that a new entry takes, by the lowest dead one: refused where there is no directory, and where the name is there
+abbrev pub unless_there : Option Place → Option Place → Returned (Option Place) Refusal
+unless_there None dead = Ok dead
+unless_there (Some place) dead = Err is.Exists
+
+-- a file in the directory's place is refused
+abbrev pub if_directory : Bool → Returned (Option Place) Refusal → Returned (Option Place) Refusal
+if_directory true rest = rest
+if_directory false rest = Err is.WrongKind
+
+abbrev pub vacancy : Superblock → List ℕ → List ℕ → EntryAt → Name → Returned (Option Place) Refusal
+vacancy s image table directory name =
+    let v = view_by s.geometry table image in
+    if_directory (is_directory (entry_of directory.page)) (unless_there (place_of v table directory name) (dead_of v table directory))
+
+-- the entry of a name in a directory
+abbrev pub entry_of_name : Superblock → List ℕ → List ℕ → EntryAt → Name → Returned EntryAt Refusal
+entry_of_name s image table directory name = entered (view_by s.geometry table image) table directory.first directory.page name
 
 -- ---- what a new entry is, and what its clusters hold: a file with its bytes, or a directory of length 2 with its first two entries
 
-abbrev pub new_of : Bool → List ℕ → Place → NewEntry
-new_of false bytes dead = record { mode = file_mode; count = length bytes; dead = dead }
-new_of true bytes dead = record { mode = directory_mode; count = 2; dead = dead }
+-- a new file of these bytes, and a new directory, in the slot that they take
+abbrev pub as_file : List ℕ → Option Place → NewEntry
+as_file bytes dead = record { mode = file_mode; count = length bytes; dead = dead }
+
+abbrev pub as_directory : Option Place → NewEntry
+as_directory dead = record { mode = directory_mode; count = 2; dead = dead }
 
 abbrev pub dots_of : ℕ → ℕ → List ℕ → List ℕ
 dots_of first number time = new_page (new_entry directory_mode 0 first number time dot_name) ++ new_page (new_entry directory_mode 0 0 0 time dot_dot_name)
 
-abbrev pub contents_of : Bool → EntryAt → Place → List ℕ → List ℕ → List ℕ
-contents_of false directory dead time bytes = bytes
-contents_of true directory dead time bytes = dots_of directory.first (number_by dead (entries_of directory)) time
+-- its first two entries
+abbrev pub dots_at : EntryAt → List ℕ → Option Place → List ℕ
+dots_at directory time dead = dots_of directory.first (number_by dead (entries_of directory)) time
 
 -- an entry is locked, and an entry or the directory directly around it
 abbrev pub locked_at : EntryAt → Bool
@@ -76,8 +96,14 @@ abbrev pub enough : Superblock → List ℕ → ℕ → Bool
 enough s table need = leb need (length (free_list s table))
 
 -- the clusters that a new entry needs
-abbrev pub need_of : EntryAt → Place → List ℕ → ℕ
+abbrev pub need_of : EntryAt → Option Place → List ℕ → ℕ
 need_of directory dead bytes = clusters_for (length bytes) + growth_by dead (entries_of directory)
+
+-- a refusal leaves the image; what is done with the value of any other answer decides
+module _ {A : Type 0} where
+  abbrev pub or_refused : List ℕ → Returned A Refusal → (A → Outcome) → Outcome
+  or_refused image (Ok x) rest = rest x
+  or_refused image (Err r) rest = record { answer = fault (number_of r) (page_of r); image = image }
 
 module _ (s : Superblock) (image table : List ℕ) where
   -- ---- a new entry: 16 where the directory is locked, 12 where fewer clusters are free than it needs
@@ -104,26 +130,21 @@ module _ (s : Superblock) (image table : List ℕ) where
     pub lands : locked_at directory ≡ false → enough s table (need_of directory new.dead bytes) ≡ true
         → Lands s.end (added_writes s table directory new time name bytes)
 
-  -- 11 where the name is there, 10 where a file stands in the directory's place
-  abbrev pub unless_there : Place → Outcome → Outcome
-  unless_there place.Nowhere rest = rest
-  unless_there (place.At k p) rest = refused_by 11 image
+  -- in the slot that it takes, by the lowest dead one (10, 11)
+  unfoldable pub added_in : EntryAt → Name → List ℕ → (Option Place → NewEntry) → (Option Place → List ℕ) → Outcome
+  added_in directory name time new contents =
+      or_refused image (vacancy s image table directory name) (λ dead. added directory (new dead) time name (contents dead))
 
-  -- with the flag a directory is made, without it a file created
-  unfoldable pub added_in : EntryAt → Bool → Name → List ℕ → List ℕ → Outcome
-  added_in directory making name time bytes =
-      let v = view_by s.geometry table image in
-      let dead = dead_of v table directory in
-      pick_outcome (is_directory (entry_of directory.page))
-      (unless_there (place_of v table directory name) (added directory (new_of making bytes dead) time name (contents_of making directory dead time bytes)))
-      (refused_by 10 image)
+  abbrev pub CanAddIn : EntryAt → Name → List ℕ → (Option Place → NewEntry) → (Option Place → List ℕ) → Type 0
+  CanAddIn directory name time new contents =
+      (dead : Option Place) → vacancy s image table directory name ≡ Ok dead → CanAdd directory (new dead) time name (contents dead)
 
-  abbrev pub CanAddIn : EntryAt → Bool → Name → List ℕ → List ℕ → Type 0
-  CanAddIn directory making name time bytes =
-      let v = view_by s.geometry table image in
-      let dead = dead_of v table directory in
-      is_directory (entry_of directory.page) ≡ true → place_of v table directory name ≡ place.Nowhere
-      → CanAdd directory (new_of making bytes dead) time name (contents_of making directory dead time bytes)
+  -- a file with its bytes, and a directory with its first two entries
+  abbrev pub created_in : EntryAt → Name → List ℕ → List ℕ → Outcome
+  created_in directory name time bytes = added_in directory name time (as_file bytes) (λ dead. bytes)
+
+  abbrev pub made_in : EntryAt → Name → List ℕ → Outcome
+  made_in directory name time = added_in directory name time as_directory (dots_at directory time)
 
   -- ---- an entry that stands: 10 where it is of the other kind
   abbrev pub replaced_image : EntryAt → EntryAt → List ℕ → List ℕ → List ℕ
@@ -146,9 +167,9 @@ module _ (s : Superblock) (image table : List ℕ) where
       (unless_locked (either_locked directory entry) (done_with (removed_image directory entry (clusters_for (word entry.page 4)))))
 
   -- 13 where a live entry is in the directory
-  abbrev pub unless_live : Place → Outcome → Outcome
-  unless_live place.Nowhere rest = rest
-  unless_live (place.At k p) rest = refused_by 13 image
+  abbrev pub unless_live : Option Place → Outcome → Outcome
+  unless_live None rest = rest
+  unless_live (Some place) rest = refused_by 13 image
 
   abbrev pub removed_entry : EntryAt → EntryAt → Outcome
   removed_entry directory entry =
@@ -157,40 +178,24 @@ module _ (s : Superblock) (image table : List ℕ) where
       (unless_locked (either_locked directory entry) (done_with (removed_image directory entry ((entries_of entry + 1) / 2)))))
       (refused_by 10 image)
 
-  abbrev pub edited : Action → EntryAt → List ℕ → List ℕ → EntryAt → Outcome
-  edited action.Replace directory time bytes entry = replaced_entry directory entry time bytes
-  edited action.Delete directory time bytes entry = deleted_entry directory entry
-  edited action.Remove directory time bytes entry = removed_entry directory entry
-
   -- what the code knows of the entry: where none of these is met, its pages land
-  abbrev pub EditLands : Action → EntryAt → List ℕ → List ℕ → EntryAt → Type 0
-  EditLands action.Replace directory time bytes entry =
+  abbrev pub ReplaceLands : EntryAt → List ℕ → List ℕ → EntryAt → Type 0
+  ReplaceLands directory time bytes entry =
       is_directory (entry_of entry.page) ≡ false → either_locked directory entry ≡ false → enough s table (clusters_for (length bytes)) ≡ true
       → Lands s.end (replaced_writes s table directory entry time bytes)
-  EditLands action.Delete directory time bytes entry =
+
+  abbrev pub DeleteLands : EntryAt → EntryAt → Type 0
+  DeleteLands directory entry =
       is_directory (entry_of entry.page) ≡ false → either_locked directory entry ≡ false → Lands s.end (removed_writes directory entry)
-  EditLands action.Remove directory time bytes entry =
-      is_directory (entry_of entry.page) ≡ true → live_of (view_by s.geometry table image) table entry ≡ place.Nowhere → either_locked directory entry ≡ false
+
+  abbrev pub RemoveLands : EntryAt → EntryAt → Type 0
+  RemoveLands directory entry =
+      is_directory (entry_of entry.page) ≡ true → live_of (view_by s.geometry table image) table entry ≡ None → either_locked directory entry ≡ false
       → Lands s.end (removed_writes directory entry)
 
-  pub record CanEdit (action : Action) (directory : EntryAt) (time bytes : List ℕ) (entry : EntryAt) : Type 0 where
-    pub card : Open s image table
-    pub lands : EditLands action directory time bytes entry
+  -- what is done with the entry of a name: 9 where the name is absent, 10 where a file stands in the directory's place
+  unfoldable pub edited_in : EntryAt → Name → (EntryAt → Outcome) → Outcome
+  edited_in directory name edit = or_refused image (entry_of_name s image table directory name) edit
 
-  -- 9 where the name is absent, 10 where a file stands in the directory's place
-  abbrev pub on_arrival : Arrival → (ℕ → Outcome) → Outcome
-  on_arrival (arrival.At first) rest = rest first
-  on_arrival arrival.Absent rest = refused_by 9 image
-  on_arrival arrival.WrongKind rest = refused_by 10 image
-
-  abbrev pub on_entry : Arrived → (EntryAt → Outcome) → Outcome
-  on_entry a rest = on_arrival a.arrival (λ first. rest (record { at = a.at; first = first; page = a.page }))
-
-  unfoldable pub edited_in : EntryAt → Action → Name → List ℕ → List ℕ → Outcome
-  edited_in directory action name time bytes =
-      on_entry (entered (view_by s.geometry table image) table directory.first directory.page name) (edited action directory time bytes)
-
-  abbrev pub CanEditIn : EntryAt → Action → Name → List ℕ → List ℕ → Type 0
-  CanEditIn directory action name time bytes =
-      let a = entered (view_by s.geometry table image) table directory.first directory.page name in
-      (first : ℕ) → a.arrival ≡ arrival.At first → CanEdit action directory time bytes (record { at = a.at; first = first; page = a.page })
+  abbrev pub CanEditIn : EntryAt → Name → (EntryAt → Type 0) → Type 0
+  CanEditIn directory name lands = (entry : EntryAt) → entry_of_name s image table directory name ≡ Ok entry → Open s image table × lands entry

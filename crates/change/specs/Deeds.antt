@@ -1,10 +1,10 @@
 -- A change as the code does it: the words of the table, the pages written, and the slot of a new entry.
-use Rattle.std.specs.Prelude.{ℕ, ◌+◌, ◌-◌, ◌*◌, ◌%◌, ◌≤◌, false, true, List, [], ◌++◌, ◌∷◌, ◌≡◌, drop, get_or, length, take}
-use Rattle.std.proofs.Math.Option.{some}
+use Rattle.std.specs.Prelude.{ℕ, ◌+◌, ◌-◌, ◌*◌, ◌%◌, ◌≤◌, false, true, List, [], ◌++◌, ◌∷◌, ◌≡◌, Option, None, Some, drop, get_or, length, take}
+use Rattle.std.proofs.Math.Option as math
 use Rattle.layout.specs.declared.Superblock.{Superblock}
+use Rattle.lookup.specs.declared.way.EntryAt.{EntryAt}
 use Rattle.layout.specs.Table.{names_of, open_card, table_clusters}
 use Rattle.tree.specs.declared.along.Place.{Place}
-use Rattle.tree.specs.declared.along.Place.TheVariants as place
 use Rattle.model.specs.Bytes.{word}
 use Rattle.model.specs.Check.{ok}
 use Rattle.model.specs.Entry.{clusters_for, entry_of}
@@ -13,7 +13,6 @@ use Rattle.model.specs.Plan.{first_of, killed, new_contents, new_entry, with_len
 use Rattle.model.specs.View.{pages_of}
 use Rattle.model.specs.Writes.{PageWrite, cluster_writes}
 use Rattle.tree.specs.Slots.{cluster_at}
-use Rattle.change.specs.declared.entries.EntryAt.{EntryAt}
 use Rattle.change.specs.declared.entries.EntryWrite.{EntryWrite}
 use Rattle.change.specs.declared.entries.NewEntry.{NewEntry}
 use Rattle.change.specs.Image.{Lands, store_table, write_pages}
@@ -38,7 +37,7 @@ write_of w = record { always = w.always; page = w.at; bytes = w.page }
 -- growth of at most one cluster in zeros, the new clusters' data, the directory's entry, the change's own entry
 abbrev pub writes_of : List ℕ → List ℕ → List ℕ → PageWrite → PageWrite → List PageWrite
 writes_of growth taken bytes directory own =
-    cluster_writes (pages_of growth) (some zero_page ∷ some zero_page ∷ []) ++ (cluster_writes (pages_of taken) (data_pages bytes) ++ (directory ∷ own ∷ []))
+    cluster_writes (pages_of growth) (math.some zero_page ∷ math.some zero_page ∷ []) ++ (cluster_writes (pages_of taken) (data_pages bytes) ++ (directory ∷ own ∷ []))
 
 -- the image after pages are written and then the table
 abbrev pub image_by : Superblock → List ℕ → List PageWrite → List ℕ → List ℕ
@@ -66,23 +65,23 @@ pub record CanPut (s : Superblock) (image table growth taken bytes : List ℕ) (
 
 -- ---- the slot of a new entry, by the lowest dead one and the directory's length
 
-abbrev pub growth_by : Place → ℕ → ℕ
-growth_by place.Nowhere length = 1 - length % 2
-growth_by (place.At k p) length = 0
+abbrev pub growth_by : Option Place → ℕ → ℕ
+growth_by None length = 1 - length % 2
+growth_by (Some place) length = 0
 
-abbrev pub length_by : Place → ℕ → ℕ
-length_by place.Nowhere length = length + 1
-length_by (place.At k p) length = length
+abbrev pub length_by : Option Place → ℕ → ℕ
+length_by None length = length + 1
+length_by (Some place) length = length
 
-abbrev pub number_by : Place → ℕ → ℕ
-number_by place.Nowhere length = length
-number_by (place.At k p) length = k + 2
+abbrev pub number_by : Option Place → ℕ → ℕ
+number_by None length = length
+number_by (Some place) length = place.slot + 2
 
 -- behind the last entry: in the cluster that was added, or the second page of the last one
-abbrev pub page_by : Place → ℕ → List ℕ → ℕ
-page_by place.Nowhere last [] = 2 * last + 1
-page_by place.Nowhere last (g ∷ gs) = 2 * g
-page_by (place.At k p) last growth = p
+abbrev pub page_by : Option Place → ℕ → List ℕ → ℕ
+page_by None last [] = 2 * last + 1
+page_by None last (g ∷ gs) = 2 * g
+page_by (Some place) last growth = place.page
 
 -- ---- a new entry in a directory
 
@@ -91,10 +90,10 @@ abbrev pub entries_of : EntryAt → ℕ
 entries_of directory = word directory.page 4
 
 -- the clusters for the directory's growth, and those for the entry's own data
-abbrev pub growth_of : Superblock → List ℕ → EntryAt → Place → List ℕ
+abbrev pub growth_of : Superblock → List ℕ → EntryAt → Option Place → List ℕ
 growth_of s table directory dead = take (growth_by dead (entries_of directory)) (free_list s table)
 
-abbrev pub taken_of : Superblock → List ℕ → EntryAt → Place → List ℕ → List ℕ
+abbrev pub taken_of : Superblock → List ℕ → EntryAt → Option Place → List ℕ → List ℕ
 taken_of s table directory dead bytes = take (clusters_for (length bytes)) (drop (growth_by dead (entries_of directory)) (free_list s table))
 
 -- the last cluster of the directory's chain
@@ -106,7 +105,7 @@ abbrev pub length_write : EntryAt → ℕ → PageWrite
 length_write directory length =
     record { always = false; page = directory.at; bytes = altered_page directory.page (with_length (entry_of directory.page) length) }
 
-abbrev pub added_table : Superblock → List ℕ → EntryAt → Place → List ℕ → List ℕ
+abbrev pub added_table : Superblock → List ℕ → EntryAt → Option Place → List ℕ → List ℕ
 added_table s table directory dead bytes =
     relinked 0 0 (taken_of s table directory dead bytes) (last_of table directory) (growth_of s table directory dead) table
 

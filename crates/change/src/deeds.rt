@@ -21,7 +21,7 @@ use page::{rewrite_page, write_page};
 pub(crate) fn relink(
     table: &mut [u32],
     back: u32,
-    count: u32,
+    count: usize,
     taken: &[u32],
     last: u32,
     growth: &[u32],
@@ -31,25 +31,22 @@ pub(crate) fn relink(
 {
     clear_chain(table, back, count);
     link_chain(table, taken);
-    if 0 < growth.len() {
-        let pair = [last, growth[0]];
-        link_chain(table, &pair);
+    if let Some(added) = growth.first() {
+        link_chain(table, &[last, *added]);
     }
 }
 
-// Writes zeros to both pages of a directory's growth.
+// Writes zeros to both pages of a directory's growth, which is a list of at most one cluster, as in the plan of a change.
 fn write_zeros(image: &mut [u8], geometry: Geometry, growth: &[u32])
     requires { length growth.now ≤ 1 }
     ensures { image.new ≡ write_pages geometry (cluster_writes (pages_of growth.now) (some zero_page ∷ some zero_page ∷ [])) image.old }
 {
-    if growth.len() == 0 {
-        return;
+    if let Some(added) = growth.first() {
+        let zeros = zero_page();
+        let at = image_page(geometry, 2 * (*added as usize));
+        write_page(geometry.format, image, at, &zeros);
+        write_page(geometry.format, image, at + 1, &zeros);
     }
-    let format = geometry.format;
-    let zeros = zero_page();
-    let at = image_page(geometry, 2 * (growth[0] as usize));
-    write_page(format, image, at, &zeros);
-    write_page(format, image, at + 1, &zeros);
 }
 
 // Writes the page of an entry: a new one always, another where its data changes.

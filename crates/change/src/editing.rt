@@ -1,33 +1,23 @@
 // An entry that stands: replaced or removed.
-ghost use Rattle.std.specs.Prelude.{[], ◌≡◌, length, ◌||◌};
-ghost use Rattle.change.specs.declared.editing.Action.TheVariants as action;
+ghost use Rattle.std.specs.Prelude.{◌≡◌, length, ◌||◌};
 ghost use Rattle.model.specs.Entry.{clusters_for, entry_of, is_locked};
 ghost use Rattle.change.specs.Answers.{Leaves};
-ghost use Rattle.change.specs.Calls.{CanEdit, CanEditIn, deleted_entry, edited_in, removed_entry, removed_image, replaced_entry, replaced_image};
+ghost use Rattle.change.specs.Calls.{DeleteLands, RemoveLands, ReplaceLands, deleted_entry, removed_entry, removed_image, replaced_entry, replaced_image};
 ghost use Rattle.change.specs.Deeds.{Listed, Open, removed_writes, replaced_writes};
 ghost use Rattle.change.specs.Image.{Lands};
 
-use crate::Answer;
 use crate::deeds::{put_down, relink};
-use crate::entries::{EntryAt, EntryWrite};
+use crate::entries::EntryWrite;
 use crate::pages::{killed_page, replaced_page, with_length};
-use crate::sizes::{clusters_for, directory_clusters, file_clusters, first_of};
+use crate::sizes::{clusters_for, directory_clusters, first_of};
 use crate::words::collect_free;
 use fields::kinds::{is_directory, is_locked};
 use fields::numbers::word_at;
 use layout::{Refusal, Superblock};
-use lookup::way::{Arrival, enter};
+use lookup::way::EntryAt;
 use model::MOST_CLUSTERS;
-use tree::along::{Place, first_live};
+use tree::card::Card;
 use tree::slots::{next_of, slots_of};
-
-// What is done with an entry that stands.
-#[derive(Drop)]
-pub(crate) enum Action {
-    Replace,
-    Delete,
-    Remove,
-}
 
 // Whether an entry is locked, or the directory directly around it.
 fn either_locked(entry: &[u8; 512], directory: &[u8; 512]) -> bool
@@ -55,7 +45,7 @@ fn replace_listed(
     let none = &list[..0];
     let contents = replaced_page(&entry.page, bytes.len() as u32, first_of(taken), time);
     let kept = with_length(&directory.page, word_at(&directory.page, 0x04));
-    let back = file_clusters(word_at(&entry.page, 0x04));
+    let back = clusters_for(word_at(&entry.page, 0x04) as usize);
     relink(table, entry.first, back, taken, 0, none);
     put_down(
         image,
@@ -77,8 +67,10 @@ fn replace_listed(
     );
 }
 
-// Replaces the bytes of a file: judges locks and need against what is free, and then puts the new contents down.
-fn replace_entry(
+// Replaces the bytes of a file: judges locks and need against what is free, and then puts the new contents down. The list of
+// free clusters stays in a frame of its own: inlined it would lie under the check of the card, past the header's bound of the stack.
+#[inline(never)]
+pub(crate) fn replace_entry(
     image: &mut [u8],
     table: &mut [u32],
     s: Superblock,
@@ -86,20 +78,20 @@ fn replace_entry(
     entry: EntryAt,
     time: &[u8],
     bytes: &[u8],
-) -> Answer
-    requires { CanEdit s image.old table.old action.Replace directory time.now bytes.now entry }
+) -> Result<(), Refusal>
+    requires { Open s image.old table.old × ReplaceLands s image.old table.old directory time.now bytes.now entry }
     ensures { Leaves (replaced_entry s image.old table.old directory entry time.now bytes.now) result image.new }
 {
     if is_directory(&entry.page) {
-        return Answer::Refused(Refusal::WrongKind);
+        return Err(Refusal::WrongKind);
     }
     if either_locked(&entry.page, &directory.page) {
-        return Answer::Refused(Refusal::Locked);
+        return Err(Refusal::Locked);
     }
     let mut list = [0u32; MOST_CLUSTERS];
     let free = collect_free(table, s, &mut list);
     if free < clusters_for(bytes.len()) {
-        return Answer::Refused(Refusal::NoRoom);
+        return Err(Refusal::NoRoom);
     }
     replace_listed(
         image,
@@ -111,7 +103,7 @@ fn replace_entry(
         time,
         bytes,
     );
-    Answer::Done
+    Ok(())
 }
 
 // Takes an entry away, with the `count` clusters of its chain.
@@ -121,7 +113,7 @@ fn take_away(
     s: Superblock,
     directory: EntryAt,
     entry: EntryAt,
-    count: u32,
+    count: usize,
 )
     requires { Open s image.old table.old × Lands s.end (removed_writes directory entry) }
     ensures { image.new ≡ removed_image s image.old table.old directory entry count }
@@ -151,101 +143,61 @@ fn take_away(
 }
 
 // Deletes a file.
-fn delete_entry(
+pub(crate) fn delete_entry(
     image: &mut [u8],
     table: &mut [u32],
     s: Superblock,
     directory: EntryAt,
     entry: EntryAt,
-) -> Answer
-    requires { CanEdit s image.old table.old action.Delete directory [] [] entry }
+) -> Result<(), Refusal>
+    requires { Open s image.old table.old × DeleteLands s image.old table.old directory entry }
     ensures { Leaves (deleted_entry s image.old table.old directory entry) result image.new }
 {
     if is_directory(&entry.page) {
-        return Answer::Refused(Refusal::WrongKind);
+        return Err(Refusal::WrongKind);
     }
     if either_locked(&entry.page, &directory.page) {
-        return Answer::Refused(Refusal::Locked);
+        return Err(Refusal::Locked);
     }
-    let count = file_clusters(word_at(&entry.page, 0x04));
+    let count = clusters_for(word_at(&entry.page, 0x04) as usize);
     take_away(image, table, s, directory, entry, count);
-    Answer::Done
+    Ok(())
 }
 
 // Removes an empty directory.
-fn remove_entry(
+pub(crate) fn remove_entry(
     image: &mut [u8],
     table: &mut [u32],
     s: Superblock,
     directory: EntryAt,
     entry: EntryAt,
-) -> Answer
-    requires { CanEdit s image.old table.old action.Remove directory [] [] entry }
+) -> Result<(), Refusal>
+    requires { Open s image.old table.old × RemoveLands s image.old table.old directory entry }
     ensures { Leaves (removed_entry s image.old table.old directory entry) result image.new }
 {
     if !is_directory(&entry.page) {
-        return Answer::Refused(Refusal::WrongKind);
+        return Err(Refusal::WrongKind);
     }
     let entries = word_at(&entry.page, 0x04);
     let start = next_of(table, entry.first);
-    let live = first_live(image, table, s.geometry, start, slots_of(entries), 0);
-    match live {
-        Place::At { slot: _, page: _ } => Answer::Refused(Refusal::NotEmpty),
-        Place::Nowhere => {
-            if either_locked(&entry.page, &directory.page) {
-                return Answer::Refused(Refusal::Locked);
-            }
-            take_away(
-                image,
-                table,
-                s,
-                directory,
-                entry,
-                directory_clusters(entries),
-            );
-            Answer::Done
-        }
-    }
-}
-
-// What is done with the entry of this name in a directory.
-pub(crate) fn edit_in(
-    image: &mut [u8],
-    table: &mut [u32],
-    s: Superblock,
-    directory: EntryAt,
-    action: Action,
-    name: &[u8],
-    time: &[u8],
-    bytes: &[u8],
-) -> Answer
-    requires { CanEditIn s image.old table.old directory action name.now time.now bytes.now }
-    ensures { Leaves (edited_in s image.old table.old directory action name.now time.now bytes.now) result image.new }
-{
-    let a = enter(
+    let card = Card {
         image,
         table,
-        s.geometry,
-        directory.first,
-        &directory.page,
-        name,
-    );
-    let arrival = a.arrival;
-    match arrival {
-        Arrival::Absent => Answer::Refused(Refusal::Absent),
-        Arrival::WrongKind => Answer::Refused(Refusal::WrongKind),
-        Arrival::At(first) => {
-            let page = a.page;
-            let entry = EntryAt {
-                at: a.at,
-                first: first,
-                page: page,
-            };
-            match action {
-                Action::Replace => replace_entry(image, table, s, directory, entry, time, bytes),
-                Action::Delete => delete_entry(image, table, s, directory, entry),
-                Action::Remove => remove_entry(image, table, s, directory, entry),
-            }
-        }
+        geometry: s.geometry,
+    };
+    if card.first_live(start, slots_of(entries), 0).is_some() {
+        return Err(Refusal::NotEmpty);
     }
+    if either_locked(&entry.page, &directory.page) {
+        return Err(Refusal::Locked);
+    }
+    take_away(
+        image,
+        table,
+        s,
+        directory,
+        entry,
+        directory_clusters(entries),
+    );
+    Ok(())
 }

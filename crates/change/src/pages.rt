@@ -25,14 +25,8 @@ fn data_page(bytes: &[u8], k: usize) -> [u8; 512]
     ensures { result ≡ data_page bytes.now k }
 {
     let mut page = zero_page();
-    if k <= bytes.len() / 512 {
-        let from = 512 * k;
-        if bytes.len() - from < 512 {
-            put_bytes(&mut page, 0, &bytes[from..]);
-        } else {
-            let to = from + 512;
-            put_bytes(&mut page, 0, &bytes[from..to]);
-        }
+    if let Some(data) = bytes.chunks(512).nth(k) {
+        put_bytes(&mut page, 0, data);
     }
     page
 }
@@ -43,9 +37,7 @@ pub(crate) fn write_data(image: &mut [u8], geometry: Geometry, clusters: &[u32],
     ensures { image.new ≡ write_pages geometry (cluster_writes (pages_of clusters.now) (data_pages bytes.now)) image.old }
 {
     let format = geometry.format;
-    let count = 2 * clusters.len();
-    let mut k: usize = 0;
-    while k < count {
+    for k in 0..2 * clusters.len() {
         let cluster = clusters[k / 2] as usize;
         let page = data_page(bytes, k);
         write_page(
@@ -54,7 +46,6 @@ pub(crate) fn write_data(image: &mut [u8], geometry: Geometry, clusters: &[u32],
             image_page(geometry, 2 * cluster + k % 2),
             &page,
         );
-        k += 1;
     }
 }
 
@@ -99,14 +90,6 @@ pub(crate) fn altered_page(
     altered
 }
 
-// The bytes of an entry's time of change: a part is lent of a slice, so the page comes as one.
-fn modified_of(page: &[u8]) -> &[u8]
-    requires { length page.now ≡ 512 }
-    ensures { result.now ≡ slice page.now 0x18 8 }
-{
-    &page[0x18..0x20]
-}
-
 // The page of a directory's entry with another length.
 pub(crate) fn with_length(page: &[u8; 512], length: u32) -> [u8; 512]
     ensures { result ≡ altered_page page.now (with_length (entry_of page.now) length) }
@@ -116,7 +99,7 @@ pub(crate) fn with_length(page: &[u8; 512], length: u32) -> [u8; 512]
         half_at(page, 0x00),
         length,
         word_at(page, 0x10),
-        modified_of(page),
+        &page[0x18..0x20],
     )
 }
 
@@ -133,30 +116,11 @@ pub(crate) fn killed_page(page: &[u8; 512]) -> [u8; 512]
 {
     altered_page(
         page,
-        without_bit(half_at(page, 0x00)),
+        half_at(page, 0x00).saturating_sub(0x8000),
         word_at(page, 0x04),
         word_at(page, 0x10),
-        modified_of(page),
+        &page[0x18..0x20],
     )
-}
-
-fn without_bit(mode: u32) -> u32
-    ensures { result ≡ mode - 0x8000 }
-{
-    if mode < 0x8000 {
-        return 0;
-    }
-    mode - 0x8000
-}
-
-// Both one after the other, into the parts of a slice.
-fn put_two(a: &[u8], b: &[u8], both: &mut [u8])
-    requires { length both.old ≡ length a.now + length b.now }
-    ensures { both.new ≡ a.now ++ b.now }
-{
-    let middle = a.len();
-    both[..middle].copy_from_slice(a);
-    both[middle..].copy_from_slice(b);
 }
 
 // Two pages one after the other.
@@ -164,6 +128,8 @@ pub(crate) fn two_pages(a: &[u8; 512], b: &[u8; 512]) -> [u8; 1024]
     ensures { result ≡ a.now ++ b.now }
 {
     let mut both = [0u8; 1024];
-    put_two(a, b, &mut both);
+    let (front, back) = both.split_at_mut(512);
+    front.copy_from_slice(a);
+    back.copy_from_slice(b);
     both
 }

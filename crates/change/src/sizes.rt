@@ -5,72 +5,62 @@ ghost use Rattle.model.specs.Entry.{clusters_for};
 ghost use Rattle.model.specs.Plan.{first_of};
 ghost use Rattle.change.specs.Deeds.{growth_by, length_by, number_by, page_by};
 
+use reached::END_MARK;
 use tree::along::Place;
 
 // The clusters that data of that many bytes need.
 pub(crate) fn clusters_for(bytes: usize) -> usize
     ensures { result ≡ clusters_for bytes }
 {
-    bytes / 1024 + (bytes % 1024 + 1023) / 1024
-}
-
-// The same of a length as an entry has it.
-pub(crate) fn file_clusters(length: u32) -> u32
-    ensures { result ≡ clusters_for length }
-{
-    length / 1024 + (length % 1024 + 1023) / 1024
+    bytes.div_ceil(1024)
 }
 
 // The clusters that a directory of that many entries needs.
-pub(crate) fn directory_clusters(length: u32) -> u32
-    ensures { result ≡ (length + 1) / 2 }
+pub(crate) fn directory_clusters(entries: u32) -> usize
+    ensures { result ≡ (entries + 1) / 2 }
 {
-    length / 2 + length % 2
+    entries.div_ceil(2) as usize
 }
 
 // Behind the last entry of an even directory a cluster is added.
-pub(crate) fn growth_by(dead: Place, length: u32) -> usize
+pub(crate) fn growth_by(dead: Option<Place>, length: u32) -> usize
     ensures { result ≡ growth_by dead length }
 {
     match dead {
-        Place::At { slot: _, page: _ } => 0,
-        Place::Nowhere => (1 - length % 2) as usize,
+        Some(_) => 0,
+        None => (1 - length % 2) as usize,
     }
 }
 
-pub(crate) fn length_by(dead: Place, length: u32) -> u32
+pub(crate) fn length_by(dead: Option<Place>, length: u32) -> u32
     requires { length + 1 < word_limit }
     ensures { result ≡ length_by dead length }
 {
     match dead {
-        Place::At { slot: _, page: _ } => length,
-        Place::Nowhere => length + 1,
+        Some(_) => length,
+        None => length + 1,
     }
 }
 
 // The slot's number, counted from the directory's first entry.
-pub(crate) fn number_by(dead: Place, length: u32) -> u32
+pub(crate) fn number_by(dead: Option<Place>, length: u32) -> u32
     requires { number_by dead length < word_limit }
     ensures { result ≡ number_by dead length }
 {
     match dead {
-        Place::At { slot, page: _ } => slot + 2,
-        Place::Nowhere => length,
+        Some(place) => place.slot + 2,
+        None => length,
     }
 }
 
 // The page of the new entry.
-pub(crate) fn page_by(dead: Place, last: u32, growth: &[u32]) -> usize
+pub(crate) fn page_by(dead: Option<Place>, last: u32, growth: &[u32]) -> usize
     ensures { result ≡ page_by dead last growth.now }
 {
-    match dead {
-        Place::At { slot: _, page } => page,
-        Place::Nowhere => {
-            if growth.len() == 0 {
-                return last as usize * 2 + 1;
-            }
-            growth[0] as usize * 2
-        }
+    match (dead, growth.first()) {
+        (Some(place), _) => place.page,
+        (None, Some(added)) => 2 * (*added as usize),
+        (None, None) => 2 * (last as usize) + 1,
     }
 }
 
@@ -78,8 +68,5 @@ pub(crate) fn page_by(dead: Place, last: u32, growth: &[u32]) -> usize
 pub(crate) fn first_of(clusters: &[u32]) -> u32
     ensures { result ≡ first_of clusters.now }
 {
-    if clusters.len() == 0 {
-        return 0xFFFF_FFFF;
-    }
-    clusters[0]
+    clusters.first().copied().unwrap_or(END_MARK)
 }

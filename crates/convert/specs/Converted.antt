@@ -1,13 +1,12 @@
 -- An image in the other format (request 2 of document 02).
-use Rattle.std.specs.Prelude.{◌≡◌, List, ℕ, zero, suc, ◌*◌, eqb, length, replicate}
+use Rattle.std.specs.Prelude.{◌≡◌, List, ℕ, zero, suc, ◌*◌, eqb, length, replicate, Result as Returned}
 use Rattle.page.specs.declared.Format.{Format}
 use Rattle.page.specs.Page.{cluster_bytes, page_at, pages_in, written}
 use Rattle.model.specs.Check.{Result, fault, ok}
-use Rattle.layout.specs.Refusal.{number_of, page_of}
+use Rattle.layout.specs.declared.Refusal.{Refusal}
+use Rattle.layout.specs.Refusal.{told_by}
 use Rattle.layout.specs.Superblock.{clusters_in, good_length, up_to}
 use Rattle.layout.specs.Table.{data_of, need_pages, unless}
-use Rattle.convert.specs.declared.Conversion.{Conversion}
-use Rattle.convert.specs.declared.Conversion.TheVariants as conversion
 
 -- an image with its first n pages written in turn
 unfoldable pub filled : Format → (ℕ → List ℕ) → ℕ → List ℕ → List ℕ
@@ -30,16 +29,12 @@ converted from to image room =
     (unless (eqb room (room_for from to image)) 23
     (need_pages from image (up_to (λ p. p) (pages_in from (length image))) (ok (in_format from to image))))
 
--- what an answer tells, with the output as the call left it
-abbrev pub told_conversion : Conversion → List ℕ → Result (List ℕ)
-told_conversion conversion.Done after = ok after
-told_conversion (conversion.Refused refusal) after = fault (number_of refusal) (page_of refusal)
-
+-- what a call leaves of an output: the image, or on a refusal what it was
 abbrev pub output_after : Result (List ℕ) → List ℕ → List ℕ
 output_after (fault n p) before = before
 output_after (ok image) before = image
 
 -- A call ends with an outcome: its answer tells it, and the output is the image or, on a refusal, what it was.
-pub record Converts (outcome : Result (List ℕ)) (answer : Conversion) (before after : List ℕ) : Type 0 where
-  pub told : told_conversion answer after ≡ outcome
+pub record Converts (outcome : Result (List ℕ)) (answer : Returned (Unit {0}) Refusal) (before after : List ℕ) : Type 0 where
+  pub told : told_by (λ u. after) answer ≡ outcome
   pub output : after ≡ output_after outcome before

@@ -1,19 +1,19 @@
 -- What the layer above may use of `judge`, and the theorem that carries the rest: the search over all flips and the syndrome say the same.
 use mathlib.Core.Path.{◌≡◌, refl, sym, ap, ◌∙◌}
-use mathlib.Core.Bool.{Bool, true, false, cond}
+use mathlib.Core.Bool.{Bool, true, false}
 use mathlib.Core.List.{List}
 use mathlib.Core.Option.{Option, none, some}
 use Prim.Native.Nat.{ℕ, ◌<◌, ◌^◌}
 use native.Mathlib.Omega.{arith}
 use borrow.Author.Tests.{eq-eqb, ne_eqb}
 use lib.Bits.{bit_xor}
-use lib.Dec.{T, eqb}
+use lib.Dec.{T}
 use lib.ListN.{length, get_or, length-set}
 use Rattle.ecc.specs.declared.Code.{Code}
 use Rattle.ecc.specs.declared.Verdict.{Verdict}
 use Rattle.ecc.specs.declared.Verdict.TheVariants.{Good, DataBit, CodeBit, Unreadable}
 use Rattle.ecc.specs.Code.{◌⊕◌, code_of}
-use Rattle.ecc.specs.Judge.{flip_bit, counted, matches, code_bit, find_below, good_or, data_bit_or, code_bit_or, judge, judge_slice, corrected}
+use Rattle.ecc.specs.Judge.{flip_bit, counted, matches, code_bit, find_below, good_or, data_bit_or, code_bit_or, judge, judge_slice, corrected, Placed}
 use Rattle.ecc.proofs.Codes.{⊕-zero→, ⊕-zero←, eq→same}
 use Rattle.ecc.proofs.Linear.{pattern}
 use Rattle.ecc.proofs.Syndrome.{syndrome, locate, matches→, →matches, syndrome-data, syndrome-code, syndrome-counted}
@@ -68,12 +68,6 @@ pub slice-by : (d : List ℕ) {right stored code : Code} {v : Verdict} → lengt
 slice-by d {code = code} size e f told = told d size e ∙ ap (judge d) f ∙ sym (slice_chunk d code size)
 
 -- ---- a verdict names a place in the chunk
-abbrev pub Placed : Verdict → Type 0
-Placed Good = Unit {0}
-Placed (DataBit byte bit) = (byte < 128) × (bit < 8)
-Placed CodeBit = Unit {0}
-Placed Unreadable = Unit {0}
-
 pub judge-placed : (d : List ℕ) (c : Code) → Placed (judge d c)
 unfolding judge
 judge-placed d c = go (matches d c) (find_below 1024 (λ k. matches (flip_bit d k) c)) refl (find_below 20 (λ k. matches d (c ⊕ code_bit k)))
@@ -84,14 +78,6 @@ judge-placed d c = go (matches d c) (find_below 1024 (λ k. matches (flip_bit d 
     go false (some k) e y = let r = find-some 1024 (λ k. matches (flip_bit d k) c) k e in (omega (arith, r.0), omega arith)
     go false none e (some k) = tt
     go false none e none = tt
-
-pub slice-placed : (d : List ℕ) (c : Code) → Placed (judge_slice d c)
-unfolding judge_slice
-slice-placed d c = go (eqb (length d) 128)
-  where
-    go : (b : Bool) → Placed (cond b (judge d c) Unreadable)
-    go true = judge-placed d c
-    go false = tt
 
 -- ---- a chunk beside its own fresh code is good
 pub fresh-matches : (d : List ℕ) → T (matches d (code_of d))

@@ -1,5 +1,5 @@
 -- How a chunk and its stored code are judged (RULES, "Pages and their code").
-use Rattle.std.specs.Prelude.{Bool, true, false, ◌&&◌, cond, List, [], ◌∷◌, ℕ, zero, suc, ◌/◌, ◌%◌, ◌^◌, eqb, length, get_or, set}
+use Rattle.std.specs.Prelude.{Bool, true, false, ◌&&◌, cond, List, [], ◌∷◌, ℕ, zero, suc, ◌/◌, ◌%◌, ◌^◌, eqb, ◌<◌, length, get_or, set}
 use Rattle.std.proofs.Math.Option.{Option, none, some}
 use Rattle.std.specs.Int.Bits.{bit_and, bit_xor}
 use Rattle.ecc.specs.declared.Code.{Code}
@@ -88,3 +88,10 @@ corrected Good chunk = chunk
 corrected (DataBit byte bit) chunk = flip_at chunk byte bit
 corrected CodeBit chunk = chunk
 corrected Unreadable chunk = chunk
+
+-- The place that a verdict names lies in a chunk.
+abbrev pub Placed : Verdict → Type 0
+Placed Good = Unit {0}
+Placed (DataBit byte bit) = (byte < 128) × (bit < 8)
+Placed CodeBit = Unit {0}
+Placed Unreadable = Unit {0}

@@ -1,8 +1,8 @@
 #![tactic(auto)]
 
-ghost use Rattle.std.specs.Prelude.{◌≡◌, List, ℕ, ◌<◌, get_or, length, take};
+ghost use Rattle.std.specs.Prelude.{◌≡◌, List, ℕ, ◌<◌, ◌≤◌, get_or, length, take};
 ghost use Rattle.ecc.specs.Code.{code_of, contribution, ◌⊕◌};
-ghost use Rattle.ecc.specs.Four.{code_at, codes_of, judge_four};
+ghost use Rattle.ecc.specs.Four.{code_at, codes_of, count_of, judge_four};
 ghost use Rattle.ecc.specs.Judge.{judge, judge_slice};
 ghost use Rattle.ecc.specs.Parities.{code_in, HoldsParities};
 
@@ -12,7 +12,7 @@ pub mod claims;
 mod parities;
 
 // The three code bytes of a chunk.
-#[derive(Clone, Copy)]
+#[derive(Clone, Copy, PartialEq, Eq)]
 pub struct Code {
     pub byte0: u8,
     pub byte1: u8,
@@ -20,7 +20,7 @@ pub struct Code {
 }
 
 // How a chunk beside its stored code is judged. A DataBit has the place of the flipped bit.
-#[derive(Clone, Copy)]
+#[derive(Clone, Copy, PartialEq, Eq)]
 pub enum Verdict {
     Good,
     DataBit { byte: usize, bit: u8 },
@@ -32,7 +32,7 @@ pub enum Verdict {
 const START: u32 = 0x7F77;
 
 // `sums` with the byte at index i taken in: of its entry's ones above bit 7 those of the index stay.
-// Entries have 16 bits, so that the table is made quickly; sums have 32, which is the quicker width to work in.
+// Entries have 16 bits, so that the table is small; sums have 32, which is the quicker width to work in.
 fn with_byte(table: &[u16; 256], sums: u32, i: usize, byte: u8) -> u32
     requires { HoldsParities table.now × (i < 128) }
     ensures { code_in result ≡ code_in sums ⊕ contribution i byte }
@@ -50,7 +50,7 @@ fn code_in(sums: u32) -> Code
     Code {
         byte0: (sums % 128) as u8,
         byte1: byte2 ^ (127 * odd),
-        byte2: byte2,
+        byte2,
     }
 }
 
@@ -60,10 +60,9 @@ pub fn chunk_code(chunk: &[u8]) -> Code
 {
     let table = parity_table();
     let mut sums = START;
-    let mut i: usize = 0;
-    while i < 128 && i < chunk.len() {
-        sums = with_byte(table, sums, i, chunk[i]);
-        i += 1;
+    let bytes = &chunk[..chunk.len().min(128)];
+    for (i, byte) in bytes.iter().enumerate() {
+        sums = with_byte(table, sums, i, *byte);
     }
     code_in(sums)
 }
@@ -76,17 +75,17 @@ fn judge_by(right: Code, stored: Code) -> Verdict
     let columns = (right.byte0 ^ stored.byte0) & 0x77;
     let opposite = (right.byte1 ^ stored.byte1) & 0x7F;
     let index = (right.byte2 ^ stored.byte2) & 0x7F;
-    if (columns == 0) & ((opposite == 0) & (index == 0)) {
+    if columns == 0 && opposite == 0 && index == 0 {
         return Verdict::Good;
     }
     let bit = columns >> 4;
-    if (columns % 16 == 7 - bit) & (opposite == 127 - index) {
+    if columns % 16 == 7 - bit && opposite == 127 - index {
         return Verdict::DataBit {
             byte: index as usize,
-            bit: bit,
+            bit,
         };
     }
-    if u8::count_ones(columns) + u8::count_ones(opposite) + u8::count_ones(index) == 1 {
+    if columns.count_ones() + opposite.count_ones() + index.count_ones() == 1 {
         return Verdict::CodeBit;
     }
     Verdict::Unreadable
@@ -102,27 +101,30 @@ pub fn judge_chunk(chunk: &[u8], stored: Code) -> Verdict
     judge_by(chunk_code(chunk), stored)
 }
 
-// The codes of a page's four chunks.
-#[derive(Drop)]
-struct FourCodes {
-    chunk0: Code,
-    chunk1: Code,
-    chunk2: Code,
-    chunk3: Code,
+// One thing for each of a page's four chunks, by their numbers.
+#[derive(Clone, Copy)]
+pub struct Four<T> {
+    pub chunk0: T,
+    pub chunk1: T,
+    pub chunk2: T,
+    pub chunk3: T,
 }
 
-// How a page's four chunks are judged.
-#[derive(Drop)]
-pub struct FourVerdicts {
-    pub chunk0: Verdict,
-    pub chunk1: Verdict,
-    pub chunk2: Verdict,
-    pub chunk3: Verdict,
+impl Four<bool> {
+    // How many of the four are true.
+    pub fn count(self) -> usize
+        ensures { (result ≡ count_of self) × (result ≤ 4) }
+    {
+        usize::from(self.chunk0)
+            + usize::from(self.chunk1)
+            + usize::from(self.chunk2)
+            + usize::from(self.chunk3)
+    }
 }
 
 // The codes of four chunks in one pass (request 10 of document 02): no sum waits for another. Each turn takes two
 // bytes of every chunk in.
-fn codes_of(chunk0: &[u8], chunk1: &[u8], chunk2: &[u8], chunk3: &[u8]) -> FourCodes
+fn codes_of(chunk0: &[u8], chunk1: &[u8], chunk2: &[u8], chunk3: &[u8]) -> Four<Code>
     requires { (length chunk0.now ≡ 128) × (length chunk1.now ≡ 128) × (length chunk2.now ≡ 128) × (length chunk3.now ≡ 128) }
     ensures { result ≡ codes_of chunk0.now chunk1.now chunk2.now chunk3.now }
 {
@@ -131,8 +133,7 @@ fn codes_of(chunk0: &[u8], chunk1: &[u8], chunk2: &[u8], chunk3: &[u8]) -> FourC
     let mut sums1 = START;
     let mut sums2 = START;
     let mut sums3 = START;
-    let mut turn: usize = 0;
-    while turn < 64 {
+    for turn in 0..64 {
         let i = 2 * turn;
         let even0 = with_byte(table, sums0, i, chunk0[i]);
         let even1 = with_byte(table, sums1, i, chunk1[i]);
@@ -143,9 +144,8 @@ fn codes_of(chunk0: &[u8], chunk1: &[u8], chunk2: &[u8], chunk3: &[u8]) -> FourC
         sums1 = with_byte(table, even1, j, chunk1[j]);
         sums2 = with_byte(table, even2, j, chunk2[j]);
         sums3 = with_byte(table, even3, j, chunk3[j]);
-        turn += 1;
     }
-    FourCodes {
+    Four {
         chunk0: code_in(sums0),
         chunk1: code_in(sums1),
         chunk2: code_in(sums2),
@@ -153,14 +153,11 @@ fn codes_of(chunk0: &[u8], chunk1: &[u8], chunk2: &[u8], chunk3: &[u8]) -> FourC
     }
 }
 
-// A byte that is missing counts as zero.
+// A byte that is missing counts as zero. `fields` says the same of its bytes; neither crate stands on the other.
 fn byte_at(bytes: &[u8], i: usize) -> u8
     ensures { result ≡ get_or bytes.now i 0 }
 {
-    if i < bytes.len() {
-        return bytes[i];
-    }
-    0
+    bytes.get(i).copied().unwrap_or(0)
 }
 
 // The stored code of chunk k: three bytes for each chunk in turn.
@@ -182,21 +179,19 @@ pub fn judge_four(
     chunk2: &[u8],
     chunk3: &[u8],
     stored: &[u8],
-) -> FourVerdicts
+) -> Four<Verdict>
     ensures { result ≡ judge_four chunk0.now chunk1.now chunk2.now chunk3.now stored.now }
 {
-    if (chunk0.len() == 128)
-        & ((chunk1.len() == 128) & ((chunk2.len() == 128) & (chunk3.len() == 128)))
-    {
+    if chunk0.len() == 128 && chunk1.len() == 128 && chunk2.len() == 128 && chunk3.len() == 128 {
         let right = codes_of(chunk0, chunk1, chunk2, chunk3);
-        return FourVerdicts {
+        return Four {
             chunk0: judge_by(right.chunk0, code_at(stored, 0)),
             chunk1: judge_by(right.chunk1, code_at(stored, 1)),
             chunk2: judge_by(right.chunk2, code_at(stored, 2)),
             chunk3: judge_by(right.chunk3, code_at(stored, 3)),
         };
     }
-    FourVerdicts {
+    Four {
         chunk0: judge_chunk(chunk0, code_at(stored, 0)),
         chunk1: judge_chunk(chunk1, code_at(stored, 1)),
         chunk2: judge_chunk(chunk2, code_at(stored, 2)),

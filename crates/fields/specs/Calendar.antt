@@ -1,9 +1,9 @@
 -- A time in the shop's own, as the code hands it on.
-use Rattle.std.proofs.Math.Option.{Option, none, some}
+use Rattle.std.specs.Prelude.{None, Option, Some}
+use Rattle.std.proofs.Math.Option as math
 use Rattle.model.specs.declared.Moment.{Moment}
-use Rattle.fields.specs.declared.calendar.Shown.{Shown}
-use Rattle.fields.specs.declared.calendar.Shown.TheVariants as is
 
-abbrev pub shown_as : Option Moment → Shown
-shown_as none = is.Unknown
-shown_as (some m) = is.Time m
+-- the moment that the model shows, or none where it shows none
+abbrev pub shown_as : math.Option Moment → Option Moment
+shown_as math.none = None
+shown_as (math.some m) = Some m

@@ -1,7 +1,6 @@
 // A time shifted by minutes: it carries across day, month and year.
-ghost use Rattle.std.specs.Prelude.{◌≡◌, true, ◌+◌, ◌<◌, ◌≤◌, pos, ◌+ℤ◌, length};
+ghost use Rattle.std.specs.Prelude.{◌≡◌, true, ◌<◌, pos, ◌+ℤ◌};
 ghost use Rattle.model.specs.Calendar.{clock_at, day_after, day_before, is_shift, moved, shown};
-ghost use Rattle.model.specs.Bytes.{slice};
 ghost use Rattle.model.specs.Entry.{entry_of};
 ghost use Rattle.model.specs.Time.{valid_date, valid_moment};
 ghost use Rattle.fields.specs.Calendar.{shown_as};
@@ -17,17 +16,10 @@ const MOST_AHEAD: i32 = 300;
 // A day has this many minutes.
 const DAY: i32 = 1440;
 
-// What is shown of a stored time: it, shifted, or that it is not known.
-#[derive(Drop)]
-pub enum Shown {
-    Unknown,
-    Time(Moment),
-}
-
 pub fn is_shift(minutes: i32) -> bool
     ensures { result ≡ is_shift minutes }
 {
-    (MOST_BEHIND <= minutes) & (minutes <= MOST_AHEAD)
+    (MOST_BEHIND..=MOST_AHEAD).contains(&minutes)
 }
 
 fn day_after(date: Date) -> Date
@@ -36,16 +28,15 @@ fn day_after(date: Date) -> Date
 {
     if date.day < days_in(date.year, date.month) {
         return Date {
-            year: date.year,
-            month: date.month,
             day: date.day + 1,
+            ..date
         };
     }
     if date.month < 12 {
         return Date {
-            year: date.year,
             month: date.month + 1,
             day: 1,
+            ..date
         };
     }
     Date {
@@ -61,16 +52,15 @@ fn day_before(date: Date) -> Date
 {
     if 1 < date.day {
         return Date {
-            year: date.year,
-            month: date.month,
             day: date.day - 1,
+            ..date
         };
     }
     if 1 < date.month {
         return Date {
-            year: date.year,
             month: date.month - 1,
             day: days_in(date.year, date.month - 1),
+            ..date
         };
     }
     Date {
@@ -85,10 +75,10 @@ fn clock_at(moment: Moment, date: Date, minute: u32) -> Moment
     ensures { result ≡ clock_at moment date minute }
 {
     Moment {
-        date: date,
+        date,
         hour: minute / 60,
         minute: minute % 60,
-        second: moment.second,
+        ..moment
     }
 }
 
@@ -116,34 +106,21 @@ fn shift(moment: Moment, minutes: i32) -> Moment
     clock_at(moment, day_after(date), (minute - DAY) as u32)
 }
 
-// A stored time in the shop's own: unknown where it is invalid or falls out of 1980 to 9999.
-pub fn shop_time(time: &[u8], minutes: i32) -> Shown
+// A stored time in the shop's own: not known where it is invalid or falls out of 1980 to 9999.
+#[tactic(auto, unfolding(model::specs::Calendar::shown, model::specs::Calendar::shifted, model::specs::Time::valid_time))]
+pub fn shop_time(time: &[u8], minutes: i32) -> Option<Moment>
     ensures { result ≡ shown_as (shown minutes time.now) }
 {
-    if !is_valid_time(time) {
-        return Shown::Unknown;
-    }
-    if !is_shift(minutes) {
-        return Shown::Unknown;
+    if !is_valid_time(time) | !is_shift(minutes) {
+        return None;
     }
     let moment = shift(moment_of(time), minutes);
-    if !in_years(moment.date.year) {
-        return Shown::Unknown;
-    }
-    Shown::Time(moment)
-}
-
-fn shop_time_at(page: &[u8], from: usize, minutes: i32) -> Shown
-    requires { from + 8 ≤ length page.now }
-    ensures { result ≡ shown_as (shown minutes (slice page.now from 8)) }
-{
-    let end = from + 8;
-    shop_time(&page[from..end], minutes)
+    in_years(moment.date.year).then_some(moment)
 }
 
 // When the entry in a page was last changed, in the shop's own time.
-pub fn modified_at(page: &[u8; 512], minutes: i32) -> Shown
+pub fn modified_at(page: &[u8; 512], minutes: i32) -> Option<Moment>
     ensures { result ≡ shown_as (shown minutes (entry_of page.now).modified) }
 {
-    shop_time_at(page, 0x18, minutes)
+    shop_time(&page[0x18..0x20], minutes)
 }

@@ -1,5 +1,5 @@
 // An entry's fields as one value.
-ghost use Rattle.std.specs.Prelude.{◌≡◌, ◌+◌, ◌≤◌, length};
+ghost use Rattle.std.specs.Prelude.{◌≡◌, ◌+◌, ◌≤◌};
 ghost use Rattle.model.specs.Bytes.{slice};
 ghost use Rattle.model.specs.Entry.{entry_of};
 ghost use Rattle.fields.specs.Entries.{fields_of_entry};
@@ -18,46 +18,28 @@ pub struct Entry {
     pub name: [u8; 32],
 }
 
-fn eight(page: &[u8], from: usize) -> [u8; 8]
-    requires { from + 8 ≤ length page.now }
-    ensures { result ≡ slice page.now from 8 }
+// The bytes of a field, as many as it has.
+fn field<const N: usize>(page: &[u8; 512], from: usize) -> [u8; N]
+    requires { from + N ≤ 512 }
+    ensures { result ≡ slice page.now from N }
 {
-    let mut field = [0u8; 8];
-    let end = from + 8;
-    field.copy_from_slice(&page[from..end]);
-    field
-}
-
-fn thirty_two(page: &[u8], from: usize) -> [u8; 32]
-    requires { from + 32 ≤ length page.now }
-    ensures { result ≡ slice page.now from 32 }
-{
-    let mut field = [0u8; 32];
-    let end = from + 32;
-    field.copy_from_slice(&page[from..end]);
-    field
+    let mut bytes = [0u8; N];
+    bytes.copy_from_slice(&page[from..from + N]);
+    bytes
 }
 
 // Every field of an entry's page.
 pub fn entry_of(page: &[u8; 512]) -> Entry
     ensures { result ≡ fields_of_entry (entry_of page.now) }
 {
-    let mode = half_at(page, 0x00) as u16;
-    let length = word_at(page, 0x04);
-    let created = eight(page, 0x08);
-    let first = word_at(page, 0x10);
-    let dir_entry = word_at(page, 0x14);
-    let modified = eight(page, 0x18);
-    let attribute = word_at(page, 0x20);
-    let name = thirty_two(page, 0x40);
     Entry {
-        mode: mode,
-        length: length,
-        created: created,
-        first: first,
-        dir_entry: dir_entry,
-        modified: modified,
-        attribute: attribute,
-        name: name,
+        mode: half_at(page, 0x00) as u16,
+        length: word_at(page, 0x04),
+        created: field(page, 0x08),
+        first: word_at(page, 0x10),
+        dir_entry: word_at(page, 0x14),
+        modified: field(page, 0x18),
+        attribute: word_at(page, 0x20),
+        name: field(page, 0x40),
     }
 }

@@ -4,70 +4,43 @@ ghost use Rattle.model.specs.Bytes.{before_zero, slice};
 ghost use Rattle.model.specs.Names.{legal_bytes, good_name, same_name, dot_name, dot_dot_name};
 ghost use Rattle.model.specs.Entry.{entry_of};
 
-// How many bytes stand before the first zero.
-fn count_before_zero(field: &[u8]) -> usize
-    ensures { result ≡ length (before_zero field.now) }
-{
-    let mut i: usize = 0;
-    while i < field.len() {
-        if field[i] == 0 {
-            return i;
-        }
-        i += 1;
-    }
-    i
-}
-
-// The name in the bytes of an entry's page: 32 bytes where no zero ends it.
-fn name_in(page: &[u8]) -> &[u8]
-    requires { length page.now ≡ 512 }
-    ensures { result.now ≡ before_zero (slice page.now 0x40 32) }
-{
-    let field = &page[0x40..0x60];
-    let count = count_before_zero(field);
-    &field[..count]
-}
-
-// The name of an entry, lent from its page.
+// The name of an entry, lent from its page: 32 bytes where no zero ends it.
 pub fn entry_name(page: &[u8; 512]) -> &[u8]
     ensures { result.now ≡ (entry_of page.now).name }
 {
-    name_in(page)
+    let field = &page[0x40..0x60];
+    let count = field
+        .iter()
+        .position(|byte| *byte == 0)
+        .unwrap_or(field.len());
+    &field[..count]
 }
 
 // How long an entry's name is.
 pub fn name_length(page: &[u8; 512]) -> usize
     ensures { result ≡ length (before_zero (slice page.now 0x40 32)) }
 {
-    let name = entry_name(page);
-    name.len()
+    entry_name(page).len()
 }
 
 // Whether a byte may stand in a name.
 fn is_legal(byte: u8) -> bool
     ensures { result ≡ legal_bytes (byte ∷ []) }
 {
-    (0x20 <= byte) & (byte <= 0x7E) & !((byte == b'*') | (byte == b'/') | (byte == b'?'))
+    (0x20..=0x7E).contains(&byte) & !matches!(byte, b'*' | b'/' | b'?')
 }
 
 fn all_legal(name: &[u8]) -> bool
     ensures { result ≡ legal_bytes name.now }
 {
-    let mut i: usize = 0;
-    while i < name.len() {
-        if !is_legal(name[i]) {
-            return false;
-        }
-        i += 1;
-    }
-    true
+    name.iter().all(|byte| is_legal(*byte))
 }
 
 // Whether two names are the same, compared whole.
 pub fn same_name(a: &[u8], b: &[u8]) -> bool
     ensures { result ≡ same_name a.now b.now }
 {
-    check::same(a, b)
+    a == b
 }
 
 // Whether a name keeps the name rule.
@@ -95,16 +68,16 @@ pub fn is_named(page: &[u8; 512], name: &[u8]) -> bool
     same_name(entry_name(page), name)
 }
 
-// Whether an entry is named `.`, as the first one of a directory is.
+// Whether an entry is named `.`, as the first one of a directory is: `is_named`, under the paper's word for it.
 pub fn is_dot(page: &[u8; 512]) -> bool
     ensures { result ≡ same_name (entry_of page.now).name dot_name }
 {
-    same_name(entry_name(page), b".")
+    is_named(page, b".")
 }
 
 // Whether an entry is named `..`, as the second one of a directory is.
 pub fn is_dot_dot(page: &[u8; 512]) -> bool
     ensures { result ≡ same_name (entry_of page.now).name dot_dot_name }
 {
-    same_name(entry_name(page), b"..")
+    is_named(page, b"..")
 }

@@ -1,8 +1,8 @@
 // When a time that is handed in is valid, and what it shows.
-ghost use Rattle.std.specs.Prelude.{◌≡◌, ◌<◌, ◌≤◌, get_or};
-ghost use Rattle.model.specs.Time.{days_in, in_years, is_leap, moment_of, month_days, valid_time};
+ghost use Rattle.std.specs.Prelude.{◌≡◌, ◌≤◌};
+ghost use Rattle.model.specs.Time.{days_in, in_years, is_leap, moment_of, valid_date, valid_time};
 
-use crate::numbers::{byte_in, half_in};
+use crate::numbers::{byte_in, half_at};
 use model::{Date, Moment};
 
 // The days of each month, one row for ordinary and one for leap years.
@@ -17,27 +17,19 @@ fn is_leap(year: u32) -> bool
     (year % 4 == 0) & (!(year % 100 == 0) | (year % 400 == 0))
 }
 
-// How many days a month has, counted from 0.
-fn days(leap: bool, month: usize) -> u8
-    requires { month < 12 }
-    ensures { result ≡ get_or (month_days leap) month 0 }
-{
-    let row = leap as usize;
-    DAYS[row][month]
-}
-
-// The same of a month from 1 to 12.
+// How many days a month has.
 pub(crate) fn days_in(year: u32, month: u32) -> u32
     requires { (1 ≤ month) × (month ≤ 12) }
     ensures { result ≡ days_in year month }
 {
-    days(is_leap(year), (month - 1) as usize) as u32
+    let row = is_leap(year) as usize;
+    u32::from(DAYS[row][(month - 1) as usize])
 }
 
 pub(crate) fn in_years(year: u32) -> bool
     ensures { result ≡ in_years year }
 {
-    (1980 <= year) & (year <= 9999)
+    (1980..=9999).contains(&year)
 }
 
 // What the bytes of a time show.
@@ -46,7 +38,7 @@ pub(crate) fn moment_of(time: &[u8]) -> Moment
 {
     Moment {
         date: Date {
-            year: half_in(time, 6),
+            year: half_at(time, 6),
             month: byte_in(time, 5) as u32,
             day: byte_in(time, 4) as u32,
         },
@@ -56,25 +48,23 @@ pub(crate) fn moment_of(time: &[u8]) -> Moment
     }
 }
 
+// Month 1 to 12, year 1980 to 9999, day from 1 to the month's last.
+fn is_valid_date(date: Date) -> bool
+    ensures { result ≡ valid_date date }
+{
+    (1..=12).contains(&date.month)
+        && in_years(date.year)
+        && (1..=days_in(date.year, date.month)).contains(&date.day)
+}
+
 // Whether eight bytes are a time: zero, second, minute, hour, day, month, and a half for the year.
+#[tactic(auto, unfolding(model::specs::Time::valid_time))]
 pub fn is_valid_time(time: &[u8]) -> bool
     ensures { result ≡ valid_time time.now }
 {
-    if time.len() != 8 {
+    if (time.len() != 8) | (byte_in(time, 0) != 0) {
         return false;
     }
-    let month = time[5] as usize;
-    if month < 1 {
-        return false;
-    }
-    if 12 < month {
-        return false;
-    }
-    let day = time[4];
-    let year = half_in(time, 6);
-    let last = days(is_leap(year), month - 1);
-    (time[0] == 0)
-        & ((time[1] <= 59)
-            & ((time[2] <= 59)
-                & ((time[3] <= 23) & (in_years(year) & ((1 <= day) & (day <= last))))))
+    let moment = moment_of(time);
+    (moment.second <= 59) & (moment.minute <= 59) & (moment.hour <= 23) & is_valid_date(moment.date)
 }

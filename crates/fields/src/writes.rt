@@ -1,59 +1,28 @@
-// Numbers and bytes put into a page. What would lie past its end is not written.
-ghost use Rattle.std.specs.Prelude.{◌≡◌, ◌%◌, set};
+// Numbers and bytes put into bytes, as a page's. What would lie past their end is not written.
+ghost use Rattle.std.specs.Prelude.{◌≡◌};
 ghost use Rattle.std.proofs.lemmas.List.Edits.{sets};
 ghost use Rattle.model.specs.Bytes.{little_bytes};
 
-fn put_byte(bytes: &mut [u8], at: usize, value: u8)
-    ensures { bytes.new ≡ set bytes.old at value }
-{
-    if at < bytes.len() {
-        bytes[at] = value;
-    }
-}
-
-// The lowest byte of a number.
-fn low(value: u32) -> u8
-    ensures { result ≡ value % 256 }
-{
-    (value % 256) as u8
-}
-
-fn put_bytes_in(bytes: &mut [u8], at: usize, field: &[u8])
+// Bytes put at a place.
+pub fn put_bytes(bytes: &mut [u8], at: usize, field: &[u8])
     ensures { bytes.new ≡ sets bytes.old at field.now }
 {
     if at < bytes.len() {
-        let mut i: usize = 0;
-        while i < field.len() {
-            put_byte(bytes, at + i, field[i]);
-            i += 1;
-        }
+        let count = field.len().min(bytes.len() - at);
+        bytes[at..at + count].copy_from_slice(&field[..count]);
     }
 }
 
-// Bytes put at a place of a page.
-pub fn put_bytes(page: &mut [u8; 512], at: usize, field: &[u8])
-    ensures { page.new ≡ sets page.old at field.now }
+// A half put at a place.
+pub fn put_half(bytes: &mut [u8], at: usize, value: u32)
+    ensures { bytes.new ≡ sets bytes.old at (little_bytes 2 value) }
 {
-    put_bytes_in(page, at, field)
+    put_bytes(bytes, at, &value.to_le_bytes()[..2])
 }
 
-// A half put at a place of a page.
-pub fn put_half(page: &mut [u8; 512], at: usize, value: u32)
-    ensures { page.new ≡ sets page.old at (little_bytes 2 value) }
+// A word put at a place.
+pub fn put_word(bytes: &mut [u8], at: usize, value: u32)
+    ensures { bytes.new ≡ sets bytes.old at (little_bytes 4 value) }
 {
-    let field = [low(value), low(value / 256)];
-    put_bytes_in(page, at, &field)
-}
-
-// A word put at a place of a page.
-pub fn put_word(page: &mut [u8; 512], at: usize, value: u32)
-    ensures { page.new ≡ sets page.old at (little_bytes 4 value) }
-{
-    let field = [
-        low(value),
-        low(value / 256),
-        low(value / 256 / 256),
-        low(value / 256 / 256 / 256),
-    ];
-    put_bytes_in(page, at, &field)
+    put_bytes(bytes, at, &value.to_le_bytes())
 }

@@ -1,205 +1,179 @@
 // Runs the figures (RULES, "Numbers to meet") on the bench card, each on a fresh copy of it.
 #![tactic(auto)]
 
-use change::Answer;
-use lookup::reading::ReadOutcome;
+use layout::Refusal;
 use page::Format;
 use std::io::{Read, Write};
 use std::{fs, io};
-use tree::Checked;
 
 const BYTES: usize = 59136;
 
 // 12:34:56 on 29 February 2000.
 const TIME: [u8; 8] = [0, 56, 34, 12, 29, 2, 0xD0, 0x07];
 
-fn say(rt: &impl Print, text: &[u8]) -> io::Result<()> {
-    io::writer(rt).write_all(text)
+// A card of its own, and where it is told what is done to it: a method for each call, which reads as the figures do.
+#[derive(Drop)]
+struct Trial<'a, P: Print> {
+    rt: &'a P,
+    image: [u8; BYTES],
 }
 
-fn say_number(rt: &impl Print, text: &[u8], n: usize) -> io::Result<()> {
-    say(rt, text)?;
-    println!(rt; "{n}")
-}
-
-fn tell(rt: &impl Print, what: &[u8], answer: Answer) -> io::Result<()> {
-    say(rt, what)?;
-    match answer {
-        Answer::Done => say(rt, b": done\n"),
-        Answer::Refused(refusal) => say_number(rt, b": refused ", refusal.number() as usize),
+impl<'a, P: Print> Trial<'a, P> {
+    // A figure's own copy of the fresh card.
+    fn on(rt: &'a P, fresh: &[u8; BYTES]) -> Trial<'a, P> {
+        let image = *fresh;
+        Trial { rt, image }
     }
-}
 
-fn tell_free(rt: &impl Print, image: &[u8; BYTES]) -> io::Result<()> {
-    match tree::check(Format::Raw, image) {
-        Checked::Refused(refusal) => say_number(rt, b"refused ", refusal.number() as usize),
-        Checked::Card(counts) => say_number(rt, b"free ", counts.free),
+    // How the change ended that was just named.
+    fn tell(&self, answer: Result<(), Refusal>) -> io::Result<()> {
+        match answer {
+            Ok(()) => println!(self.rt; ": done"),
+            Err(refusal) => println!(self.rt; ": refused {}", refusal.number()),
+        }
     }
-}
 
-fn tell_listing(rt: &impl Print, image: &[u8; BYTES]) -> io::Result<()> {
-    let mut text = [0u8; 1024];
-    let length = listing::list(Format::Raw, image, 0, &mut text);
-    say(rt, listing::written(&text, length))
-}
-
-fn tell_read(rt: &impl Print, image: &[u8; BYTES], path: &[u8], from: usize) -> io::Result<()> {
-    let mut out = [0u8; 16];
-    let mut mended: usize = 0;
-    match lookup::reading::read(Format::Raw, image, path, from, &mut out, &mut mended) {
-        ReadOutcome::Bytes(count) => say_number(rt, b"read ", count),
-        ReadOutcome::Refused(refusal) => say_number(
-            rt,
-            b"read refused ",
-            refusal.number() as usize,
-        ),
+    fn create(&mut self, path: &str, bytes: &[u8]) -> io::Result<()> {
+        print!(self.rt; "create {path}")?;
+        self.create_unnamed(path, bytes)
     }
-}
 
-// One change, told.
-fn create(
-    rt: &impl Print,
-    image: &mut [u8; BYTES],
-    what: &[u8],
-    path: &[u8],
-    bytes: &[u8],
-) -> io::Result<()> {
-    let time = TIME;
-    tell(
-        rt,
-        what,
-        change::create(Format::Raw, image, path, &time, bytes),
-    )
-}
+    // The file's length is told too.
+    fn create_of(&mut self, path: &str, bytes: &[u8]) -> io::Result<()> {
+        print!(self.rt; "create {path} of {}", bytes.len())?;
+        self.create_unnamed(path, bytes)
+    }
 
-fn replace(
-    rt: &impl Print,
-    image: &mut [u8; BYTES],
-    what: &[u8],
-    path: &[u8],
-    bytes: &[u8],
-) -> io::Result<()> {
-    let time = TIME;
-    tell(
-        rt,
-        what,
-        change::replace(Format::Raw, image, path, &time, bytes),
-    )
-}
+    fn create_unnamed(&mut self, path: &str, bytes: &[u8]) -> io::Result<()> {
+        let path = path.as_bytes();
+        let answer = change::create(Format::Raw, &mut self.image, path, &TIME, bytes);
+        self.tell(answer)
+    }
 
-fn delete(rt: &impl Print, image: &mut [u8; BYTES], what: &[u8], path: &[u8]) -> io::Result<()> {
-    tell(rt, what, change::delete(Format::Raw, image, path))
-}
+    fn empty(&mut self, path: &str) -> io::Result<()> {
+        print!(self.rt; "replace {path} by nothing")?;
+        let answer = change::replace(Format::Raw, &mut self.image, path.as_bytes(), &TIME, b"");
+        self.tell(answer)
+    }
 
-fn make_dir(rt: &impl Print, image: &mut [u8; BYTES], what: &[u8], path: &[u8]) -> io::Result<()> {
-    let time = TIME;
-    tell(rt, what, change::make_dir(Format::Raw, image, path, &time))
-}
+    fn delete(&mut self, path: &str) -> io::Result<()> {
+        print!(self.rt; "delete {path}")?;
+        let answer = change::delete(Format::Raw, &mut self.image, path.as_bytes());
+        self.tell(answer)
+    }
 
-fn remove_dir(
-    rt: &impl Print,
-    image: &mut [u8; BYTES],
-    what: &[u8],
-    path: &[u8],
-) -> io::Result<()> {
-    tell(rt, what, change::remove_dir(Format::Raw, image, path))
+    fn make_dir(&mut self, path: &str) -> io::Result<()> {
+        print!(self.rt; "make {path}")?;
+        let answer = change::make_dir(Format::Raw, &mut self.image, path.as_bytes(), &TIME);
+        self.tell(answer)
+    }
+
+    fn remove_dir(&mut self, path: &str) -> io::Result<()> {
+        print!(self.rt; "remove {path}")?;
+        let answer = change::remove_dir(Format::Raw, &mut self.image, path.as_bytes());
+        self.tell(answer)
+    }
+
+    fn tell_free(&self) -> io::Result<()> {
+        match tree::check(Format::Raw, &self.image) {
+            Ok(counts) => println!(self.rt; "free {}", counts.free),
+            Err(refusal) => println!(self.rt; "refused {}", refusal.number()),
+        }
+    }
+
+    fn tell_listing(&self) -> io::Result<()> {
+        let mut text = [0u8; 1024];
+        let length = listing::list(Format::Raw, &self.image, 0, &mut text);
+        io::writer(self.rt).write_all(listing::written(&text, length))
+    }
+
+    fn tell_read(&self, path: &str, from: usize) -> io::Result<()> {
+        let mut out = [0u8; 16];
+        let mut mended: usize = 0;
+        let path = path.as_bytes();
+        match lookup::reading::read(Format::Raw, &self.image, path, from, &mut out, &mut mended) {
+            Ok(count) => println!(self.rt; "read {count}"),
+            Err(refusal) => println!(self.rt; "read refused {}", refusal.number()),
+        }
+    }
 }
 
 // The greatest file: 28,672 bytes, before and after it was removed.
 fn greatest(rt: &impl Print, fresh: &[u8; BYTES]) -> io::Result<()> {
-    let mut image = *fresh;
-    let fits = [7u8; 28672];
+    let mut card = Trial::on(rt, fresh);
     let more = [7u8; 28673];
-    create(rt, &mut image, b"create /A of 28673", b"/A", &more)?;
-    create(rt, &mut image, b"create /A of 28672", b"/A", &fits)?;
-    delete(rt, &mut image, b"delete /A", b"/A")?;
-    create(rt, &mut image, b"create /A of 28673", b"/A", &more)?;
-    create(rt, &mut image, b"create /A of 28672", b"/A", &fits)
+    let fits = &more[..28672];
+    card.create_of("/A", &more)?;
+    card.create_of("/A", fits)?;
+    card.delete("/A")?;
+    card.create_of("/A", &more)?;
+    card.create_of("/A", fits)
 }
 
 // A removed and then B created, and the other order.
 fn removed_first(rt: &impl Print, fresh: &[u8; BYTES]) -> io::Result<()> {
-    let mut image = *fresh;
-    create(rt, &mut image, b"create /A", b"/A", b"")?;
-    create(rt, &mut image, b"create /C", b"/C", b"")?;
-    delete(rt, &mut image, b"delete /A", b"/A")?;
-    create(rt, &mut image, b"create /B", b"/B", b"")?;
-    tell_free(rt, &image)
+    let mut card = Trial::on(rt, fresh);
+    card.create("/A", b"")?;
+    card.create("/C", b"")?;
+    card.delete("/A")?;
+    card.create("/B", b"")?;
+    card.tell_free()
 }
 
 fn created_first(rt: &impl Print, fresh: &[u8; BYTES]) -> io::Result<()> {
-    let mut image = *fresh;
-    create(rt, &mut image, b"create /A", b"/A", b"")?;
-    create(rt, &mut image, b"create /C", b"/C", b"")?;
-    create(rt, &mut image, b"create /B", b"/B", b"")?;
-    delete(rt, &mut image, b"delete /A", b"/A")?;
-    tell_free(rt, &image)
+    let mut card = Trial::on(rt, fresh);
+    card.create("/A", b"")?;
+    card.create("/C", b"")?;
+    card.create("/B", b"")?;
+    card.delete("/A")?;
+    card.tell_free()
 }
 
 // Eight names: a file, but no directory; nine are none. A read at the file's end, and one byte further.
 fn eight_names(rt: &impl Print, fresh: &[u8; BYTES]) -> io::Result<()> {
-    let mut image = *fresh;
-    let eight = b"/a/b/c/d/e/f/g/h";
-    make_dir(rt, &mut image, b"make /a", b"/a")?;
-    make_dir(rt, &mut image, b"make /a/b", b"/a/b")?;
-    make_dir(rt, &mut image, b"make /a/b/c", b"/a/b/c")?;
-    make_dir(rt, &mut image, b"make /a/b/c/d", b"/a/b/c/d")?;
-    make_dir(rt, &mut image, b"make /a/b/c/d/e", b"/a/b/c/d/e")?;
-    make_dir(rt, &mut image, b"make /a/b/c/d/e/f", b"/a/b/c/d/e/f")?;
-    make_dir(rt, &mut image, b"make /a/b/c/d/e/f/g", b"/a/b/c/d/e/f/g")?;
-    make_dir(rt, &mut image, b"make /a/b/c/d/e/f/g/h", eight)?;
-    create(
-        rt,
-        &mut image,
-        b"create /a/b/c/d/e/f/g/h",
-        eight,
-        b"twelve bytes",
-    )?;
-    create(
-        rt,
-        &mut image,
-        b"create /a/b/c/d/e/f/g/h/i",
-        b"/a/b/c/d/e/f/g/h/i",
-        b"",
-    )?;
-    tell_read(rt, &image, eight, 0)?;
-    tell_read(rt, &image, eight, 12)?;
-    tell_read(rt, &image, eight, 13)
+    let mut card = Trial::on(rt, fresh);
+    let eight = "/a/b/c/d/e/f/g/h";
+    card.make_dir("/a")?;
+    card.make_dir("/a/b")?;
+    card.make_dir("/a/b/c")?;
+    card.make_dir("/a/b/c/d")?;
+    card.make_dir("/a/b/c/d/e")?;
+    card.make_dir("/a/b/c/d/e/f")?;
+    card.make_dir("/a/b/c/d/e/f/g")?;
+    card.make_dir(eight)?;
+    card.create(eight, b"twelve bytes")?;
+    card.create("/a/b/c/d/e/f/g/h/i", b"")?;
+    card.tell_read(eight, 0)?;
+    card.tell_read(eight, 12)?;
+    card.tell_read(eight, 13)
 }
 
 // A save in its directory, and the whole listing; then all of it taken away again.
 fn save(rt: &impl Print, fresh: &[u8; BYTES]) -> io::Result<()> {
-    let mut image = *fresh;
-    let bytes = [7u8; 1500];
-    make_dir(rt, &mut image, b"make /SAVE", b"/SAVE")?;
-    create(rt, &mut image, b"create /SAVE/A", b"/SAVE/A", &bytes)?;
-    tell_listing(rt, &image)?;
-    remove_dir(rt, &mut image, b"remove /SAVE", b"/SAVE")?;
-    replace(
-        rt,
-        &mut image,
-        b"replace /SAVE/A by nothing",
-        b"/SAVE/A",
-        b"",
-    )?;
-    tell_free(rt, &image)?;
-    delete(rt, &mut image, b"delete /SAVE/A", b"/SAVE/A")?;
-    remove_dir(rt, &mut image, b"remove /SAVE", b"/SAVE")?;
-    tell_listing(rt, &image)
+    let mut card = Trial::on(rt, fresh);
+    card.make_dir("/SAVE")?;
+    card.create("/SAVE/A", &[7u8; 1500])?;
+    card.tell_listing()?;
+    card.remove_dir("/SAVE")?;
+    card.empty("/SAVE/A")?;
+    card.tell_free()?;
+    card.delete("/SAVE/A")?;
+    card.remove_dir("/SAVE")?;
+    card.tell_listing()
 }
 
 fn run(rt: &impl Print, fresh: &[u8; BYTES]) -> io::Result<()> {
-    say(rt, b"== fresh\n")?;
-    tell_listing(rt, fresh)?;
-    say(rt, b"== the greatest file\n")?;
+    println!(rt; "== fresh")?;
+    Trial::on(rt, fresh).tell_listing()?;
+    println!(rt; "== the greatest file")?;
     greatest(rt, fresh)?;
-    say(rt, b"== removed first\n")?;
+    println!(rt; "== removed first")?;
     removed_first(rt, fresh)?;
-    say(rt, b"== created first\n")?;
+    println!(rt; "== created first")?;
     created_first(rt, fresh)?;
-    say(rt, b"== eight names\n")?;
+    println!(rt; "== eight names")?;
     eight_names(rt, fresh)?;
-    say(rt, b"== a save\n")?;
+    println!(rt; "== a save")?;
     save(rt, fresh)
 }
 
@@ -213,6 +187,6 @@ fn main(rt: HostRuntime) -> io::Result<()> {
     file.take(BYTES as u64).read_to_end(&mut image)?;
     match image.as_slice().first_chunk::<BYTES>() {
         Some(fresh) => run(&rt, fresh),
-        None => say(&rt, b"the bench card is cut\n"),
+        None => println!(rt; "the bench card is cut"),
     }
 }

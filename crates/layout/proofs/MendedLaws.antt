@@ -9,18 +9,11 @@ use Rattle.model.specs.View.{pages_of}
 use Rattle.model.proofs.NeededPages.{total-most}
 use Rattle.model.proofs.PlanFits.{length-pages}
 use Rattle.layout.specs.declared.Superblock.{Superblock}
-use Rattle.layout.specs.declared.Verdict.{Verdict}
-use Rattle.layout.specs.declared.Verdict.TheVariants as verdict
-use Rattle.layout.specs.Mended.{Adds, mended_over, opening_mended}
+use Rattle.layout.specs.Mended.{mended_over, opening_mended}
 use Rattle.layout.specs.Needed.{opening_pages}
 use Rattle.layout.specs.Table.{open_card, table_page}
 use Rattle.layout.proofs.NeededOnce.{opening-few}
 use Rattle.layout.proofs.TablePages.{get_or-pages}
-
--- a page before the others
-pub adds_on : (r : Verdict) (m x y after : ℕ) {n : ℕ} → n ≡ wrapped (m + x) → Adds r n y after → Adds r m (x + y) after
-adds_on verdict.Sound m x y after e h = h ∙ count-on m x y e
-adds_on (verdict.Refused f) m x y after e h = tt
 
 -- ---- the table's pages in turn
 module _ (f : ℕ → ℕ) (names : List ℕ) where

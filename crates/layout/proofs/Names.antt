@@ -1,5 +1,5 @@
 -- The names of the table's clusters, judged one by one: one law for each way of a turn.
-use Rattle.std.proofs.Common.{◌≡◌, ℕ, zero, suc, ◌+◌, ◌-◌, ◌<◌, ◌≤◌, Bool, true, false, cond, not, ◌&&◌, eqb, ltb, leb, List, [], ◌∷◌, length, get_or, drop, sym, refl, ap, ◌∙◌, add-one, sub-one, arith, drop_of_length-le, ltb-true, ne_eqb, eqb-true, leb-true}
+use Rattle.std.proofs.Common.{◌≡◌, ℕ, zero, suc, ◌+◌, ◌<◌, ◌≤◌, Bool, true, false, not, ◌&&◌, eqb, ltb, leb, List, [], ◌∷◌, length, get_or, drop, sym, refl, ap, ◌∙◌, add-one, arith, drop_of_length-le, ltb-true, ne_eqb, eqb-true, leb-true}
 use native.Mathlib.Decide.{ℕ_discrete}
 use Rattle.model.specs.Counts.{block_of, is_listed}
 use Rattle.model.specs.Tree.{hit, times}
@@ -14,31 +14,24 @@ times-next : (f : ℕ → ℕ) (n x : ℕ) → times (up_to f (suc n)) x ≡ tim
 unfolding up_to
 times-next f n x = omega (arith, times-append (up_to f n) (f n ∷ []) x)
 
--- ---- a name is new: from the last of the names before it down to the indirect cluster's own
+-- ---- a name is new: it is none of the names before it, nor the indirect cluster's own
 module _ (f : ℕ → ℕ) (indirect name : ℕ) where
   abbrev pub is_new : ℕ → Bool
   is_new n = eqb (times (indirect ∷ up_to f n) name) 0
 
-  pub new_none : (n : ℕ) → n ≡ 0 → not (eqb indirect name) ≡ is_new n
-  unfolding up_to
-  new_none n e = rw e (go (eqb indirect name))
+  met : (n i : ℕ) → i < n → f i ≡ name → 1 ≤ times (up_to f n) name
+  met zero i h e = absurd (omega arith)
+  met (suc n) i h e = go (ℕ_discrete i n) (λ l. met n i l e)
     where
-      go : (b : Bool) → not b ≡ eqb (cond b 1 0 + 0) 0
-      go true = refl
-      go false = refl
+      go : Dec (i ≡ n) → (i < n → 1 ≤ times (up_to f n) name) → 1 ≤ times (up_to f (suc n)) name
+      go (yes l) before = let last : hit (f n) name ≡ 1 = rw (← l, e) (hit-self name) in omega (arith, times-next f n name)
+      go (no l) before = omega (arith, times-next f n name, before (omega arith))
 
-  pub new-not : (n : ℕ) → 0 < n → f (n - 1) ≡ name → is_new n ≡ false
-  new-not zero h e = absurd (omega arith)
-  new-not (suc n) h e =
-      let one : hit (f n) name ≡ 1 = rw (rw (sub-one (suc n)) at e) (hit-self name) in
-      ne_eqb _ 0 (λ (z : times (indirect ∷ up_to f (suc n)) name ≡ 0). omega (arith, times-next f n name))
+  pub new-stop : (n i : ℕ) → i < n → f i ≡ name → is_new n ≡ false
+  new-stop n i h e = ne_eqb _ 0 (λ (z : times (indirect ∷ up_to f n) name ≡ 0). omega (arith, met n i h e))
 
-  pub new-later : (n : ℕ) → 0 < n → (f (n - 1) ≡ name → ⊥) → is_new n ≡ is_new (n - 1)
-  new-later zero h e = absurd (omega arith)
-  new-later (suc n) h e =
-      let none : hit (f n) name ≡ 0 = hit-0 (f n) name (rw (sub-one (suc n)) at e) in
-      let same : times (indirect ∷ up_to f (suc n)) name ≡ times (indirect ∷ up_to f n) name = omega (arith, times-next f n name) in
-      rw (sub-one (suc n)) (ap (λ (x : ℕ). eqb x 0) same)
+  pub new_more : (i : ℕ) → (f i ≡ name → ⊥) → times (up_to f i) name ≡ 0 → times (up_to f (i + 1)) name ≡ 0
+  new_more i e none = rw (add-one i) (omega (arith, times-next f i name, hit-0 (f i) name e))
 
 -- ---- all names, in order
 module _ (f : ℕ → ℕ) (indirect : ℕ) where

@@ -4,9 +4,7 @@ use mathlib.Core.Option.{Option, none, some}
 use Rattle.page.specs.declared.Format.{Format}
 use Rattle.page.specs.Page.{page_at, is_some, or_kept}
 use Rattle.model.specs.Check.{Result, fault, ok}
-use Rattle.layout.specs.declared.Superblock.{Superblock}
-use Rattle.layout.specs.declared.Verdict.{Verdict}
-use Rattle.layout.specs.Table.{unless, with_page, need_pages, told, data_of}
+use Rattle.layout.specs.Table.{unless, with_page, need_pages, data_of}
 
 -- a page that is there
 abbrev pub Readable : Format → List ℕ → ℕ → Type 0
@@ -26,10 +24,6 @@ not-ok n p a e = absurd (let z : ◌≡◌ {A = ℕ} 0 1 = cc in omega arith)
 
 pub same_ok : {A : Type 0} (a b : A) → ◌≡◌ {A = Result A} (ok a) (ok b) → a ≡ b
 same_ok a b e = cc
-
--- what an answer says, where its verdict is known
-pub as-told : (s : Superblock) {v w : Verdict} {card : Result Superblock} → v ≡ w → told v s ≡ card → told w s ≡ card
-as-told s known e = rw (← known) e
 
 module _ {A : Type 0} where
   pub unless-ok : (b : Bool) (n : ℕ) (rest : Result A) (a : A) → unless b n rest ≡ ok a → (b ≡ true) × (rest ≡ ok a)

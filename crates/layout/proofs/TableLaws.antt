@@ -1,12 +1,16 @@
 -- The table's words: loading them one by one, their number, and which stands where.
-use Rattle.std.proofs.Common.{◌≡◌, ℕ, ◌+◌, ◌*◌, ◌/◌, ◌%◌, ◌<◌, Bool, true, List, length, get_or, set, ap, ◌∙◌, arith}
+use Rattle.std.proofs.Common.{◌≡◌, ℕ, ◌+◌, ◌*◌, ◌/◌, ◌%◌, ◌<◌, min, Bool, true, List, length, get_or, set, ap, ◌∙◌, arith}
 use Rattle.page.specs.declared.Format.{Format}
 use Rattle.page.specs.Page.{page_at, is_some, Read}
 use Rattle.model.specs.Bytes.{word}
 use Rattle.layout.specs.declared.Superblock.{Superblock}
-use Rattle.layout.specs.Table.{data_of, names_of, table_page, table_word, table_of}
+use Rattle.layout.specs.Table.{data_of, names_of, table_clusters, table_page, table_word, table_of}
 use Rattle.layout.proofs.Stages.{there, read-data}
 use Rattle.layout.proofs.UpTo.{length-up_to, get_or-up_to, filled, filled_more}
+
+-- how many clusters the table has, as the code divides
+pub div_ceil-clusters : (end : ℕ) → end / 256 + min 1 (end % 256) ≡ table_clusters end
+div_ceil-clusters end = omega arith
 
 -- the page in the buffer is the one with word c
 abbrev pub Holding : Format → List ℕ → List ℕ → ℕ → List ℕ → Type 0

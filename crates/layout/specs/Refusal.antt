@@ -1,5 +1,7 @@
--- The paper's number for each refusal, and the page that goes with number 2 (RULES, "Refusal numbers, in order").
-use Rattle.std.specs.Prelude.{ℕ}
+-- The paper's number for each refusal, the page that goes with number 2 (RULES, "Refusal numbers, in order"), and what a
+-- call tells by them.
+use Rattle.std.specs.Prelude.{ℕ, Result as Returned, Ok, Err}
+use Rattle.model.specs.Check.{Result, fault, ok}
 use Rattle.layout.specs.declared.Refusal.{Refusal}
 use Rattle.layout.specs.declared.Refusal.TheVariants as is
 
@@ -42,3 +44,15 @@ page_of is.BadOffset = 0
 page_of is.Locked = 0
 page_of is.NoRoom = 0
 page_of is.WrongOutput = 0
+
+module _ {A B : Type 0} where
+  -- what a call tells: its value as it is seen, or the refusal's number and page
+  abbrev pub told_by : (A → B) → Returned A Refusal → Result B
+  told_by see (Ok a) = ok (see a)
+  told_by see (Err r) = fault (number_of r) (page_of r)
+
+module _ {A : Type 0} where
+  -- the same of a value that is seen as it is
+  abbrev pub told : Returned A Refusal → Result A
+  told (Ok a) = ok a
+  told (Err r) = fault (number_of r) (page_of r)

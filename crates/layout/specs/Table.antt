@@ -1,5 +1,5 @@
 -- The indirect cluster, the table's clusters and the table's words (RULES, "Superblock and table"): refusals 1 to 5 in the check's order.
-use Rattle.std.specs.Prelude.{ℕ, ◌+◌, ◌*◌, ◌/◌, ◌%◌, Bool, true, false, not, ◌&&◌, List, [], ◌∷◌, ◌++◌, length, drop, ◌==◌, nat_le, nat_lt, slice_index}
+use Rattle.std.specs.Prelude.{◌≡◌, ℕ, ◌+◌, ◌*◌, ◌/◌, ◌%◌, Bool, true, false, not, ◌&&◌, List, [], ◌∷◌, ◌++◌, length, drop, ◌==◌, nat_le, nat_lt, slice_index, Result as Returned, Ok, Err}
 use Rattle.std.proofs.Math.Option.{Option, none, some}
 use Rattle.page.specs.declared.Format.{Format}
 use Rattle.page.specs.Page.{page_at}
@@ -8,11 +8,11 @@ use Rattle.model.specs.Check.{Result, fault, ok}
 use Rattle.model.specs.Counts.{block_of, is_listed}
 use Rattle.model.specs.Tree.{times}
 use Rattle.model.specs.View.{pages_of}
-use Rattle.layout.specs.declared.Superblock.{Superblock}
 use Rattle.layout.specs.declared.Opened.{Opened}
-use Rattle.layout.specs.declared.Verdict.{Verdict}
-use Rattle.layout.specs.declared.Verdict.TheVariants as verdict
-use Rattle.layout.specs.Refusal.{number_of, page_of}
+use Rattle.layout.specs.declared.Refusal.{Refusal}
+use Rattle.layout.specs.declared.Refusal.TheVariants.{UnreadablePage}
+use Rattle.layout.specs.declared.Superblock.{Superblock}
+use Rattle.layout.specs.Refusal.{told_by}
 use Rattle.layout.specs.Superblock.{clusters_in, good_length, good_text, good_superblock, superblock_of, up_to}
 
 -- One word for each allocatable cluster, 256 words to a cluster.
@@ -74,12 +74,13 @@ open_card format image =
     (open_table image (superblock_of format page)))))
 
 -- what the answer of a call says: of a card that is refused nothing but why
-abbrev pub told : Verdict → Superblock → Result Superblock
-told verdict.Sound s = ok s
-told (verdict.Refused r) s = fault (number_of r) (page_of r)
+abbrev pub told_opened : Returned Opened Refusal → Result Superblock
+told_opened answer = told_by (λ o. o.superblock) answer
 
-abbrev pub told_opened : Opened → Result Superblock
-told_opened o = told o.verdict o.superblock
+-- A call that needs a page: it is in the buffer, or the call is refused with its number and the buffer as it was.
+abbrev pub Needs : ℕ → Option (List ℕ) → List ℕ → Returned (Unit {0}) Refusal → List ℕ → Type 0
+Needs p found before (Ok u) after = found ≡ some after
+Needs p found before (Err r) after = (found ≡ none) × (r ≡ UnreadablePage p) × (after ≡ before)
 
 -- ---- the table's words
 

@@ -5,20 +5,20 @@ pub mod page0;
 pub mod table;
 
 ghost use Rattle.std.specs.Prelude.{◌≡◌, ◌%◌, ◌^◌};
-ghost use Rattle.layout.specs.Mended.{Adds, mended_over, opening_mended};
+ghost use Rattle.layout.specs.Mended.{Adds, mended_over, mended_told, opening_mended};
 ghost use Rattle.layout.specs.Needed.{opening_pages};
-ghost use Rattle.layout.specs.Refusal.{number_of, page_of};
+ghost use Rattle.layout.specs.Refusal.{number_of, page_of, told_by};
 ghost use Rattle.layout.specs.See.{image_page};
 ghost use Rattle.layout.specs.Superblock.{superblock_of};
-ghost use Rattle.layout.specs.Table.{open_card, told, told_opened, table_after};
+ghost use Rattle.layout.specs.Table.{open_card, told_opened, table_after};
 
 use model::{LIST_WORDS, MOST_CLUSTERS};
-use page::{Format, read_counted, settled};
+use page::{Format, settled};
 use page0::{clusters_in, good_length, good_superblock, good_text, superblock_of};
-use table::{judge_table, load_table};
+use table::{judge_table, load_table, need_page};
 
 // Why a call is refused: a case for each row of the paper's table.
-#[derive(Clone, Copy)]
+#[derive(Clone, Copy, PartialEq, Eq)]
 pub enum Refusal {
     BadShift,
     BadLength,
@@ -72,24 +72,8 @@ impl Refusal {
         ensures { result ≡ page_of self }
     {
         match self {
-            Refusal::BadShift => 0,
-            Refusal::BadLength => 0,
             Refusal::UnreadablePage(page) => page,
-            Refusal::BadText => 0,
-            Refusal::BadSuperblock => 0,
-            Refusal::BadTableName => 0,
-            Refusal::BadChain => 0,
-            Refusal::BadEntry => 0,
-            Refusal::BadPath => 0,
-            Refusal::BadTime => 0,
-            Refusal::Absent => 0,
-            Refusal::WrongKind => 0,
-            Refusal::Exists => 0,
-            Refusal::NotEmpty => 0,
-            Refusal::BadOffset => 0,
-            Refusal::Locked => 0,
-            Refusal::NoRoom => 0,
-            Refusal::WrongOutput => 0,
+            _ => 0,
         }
     }
 }
@@ -114,18 +98,9 @@ pub struct Superblock {
     pub bad: [u32; LIST_WORDS],
 }
 
-// How a card, or a part of its tree, is judged.
+// A card that is open, with how many chunks were corrected in the pages that were needed.
 #[derive(Clone, Copy)]
-pub enum Verdict {
-    Sound,
-    Refused(Refusal),
-}
-
-// A card that is open, with how many chunks were corrected in the pages that were needed; or why it is refused: then the
-// superblock says nothing, and no chunk is counted.
-#[derive(Drop)]
 pub struct Opened {
-    pub verdict: Verdict,
     pub superblock: Superblock,
     pub mended: usize,
 }
@@ -138,48 +113,46 @@ pub fn image_page(geometry: Geometry, page: usize) -> usize
 }
 
 // The check up to the table: length, page 0, format text, the other superblock rules, the table. The lent page gets page 0.
-fn judge_card(format: Format, image: &[u8], page: &mut [u8; 512], mended: &mut usize) -> Verdict
-    ensures judged { told result (superblock_of format page.new) ≡ open_card format image.now }
+#[tactic(auto, unfolding(crate::specs::Table::open_card, crate::specs::Table::unless, crate::specs::Table::with_page))]
+fn judge_card(
+    format: Format,
+    image: &[u8],
+    page: &mut [u8; 512],
+    mended: &mut usize,
+) -> Result<(), Refusal>
+    ensures judged { told_by (λ u. superblock_of format page.new) result ≡ open_card format image.now }
     ensures counted { Adds result mended.old (mended_over format image.now (opening_pages image.now (superblock_of format page.new))) mended.new }
 {
     if !good_length(format, image.len()) {
-        return Verdict::Refused(Refusal::BadLength);
+        return Err(Refusal::BadLength);
     }
-    if !read_counted(format, image, 0, page, mended) {
-        return Verdict::Refused(Refusal::UnreadablePage(0));
-    }
+    need_page(format, image, 0, page, mended)?;
     if !good_text(page) {
-        return Verdict::Refused(Refusal::BadText);
+        return Err(Refusal::BadText);
     }
     if !good_superblock(format, clusters_in(format, image.len()), page) {
-        return Verdict::Refused(Refusal::BadSuperblock);
+        return Err(Refusal::BadSuperblock);
     }
-    judge_table(image, superblock_of(format, page), mended)
+    judge_table(image, &superblock_of(format, page), mended)
 }
 
 // Checks the card up to its table, and loads the table's words. A refusal leaves the lent table as it was.
-pub fn open_card(format: Format, image: &[u8], table: &mut [u32; MOST_CLUSTERS]) -> Opened
+pub fn open_card(
+    format: Format,
+    image: &[u8],
+    table: &mut [u32; MOST_CLUSTERS],
+) -> Result<Opened, Refusal>
     ensures opened { told_opened result ≡ open_card format image.now }
     ensures loaded { table.new ≡ table_after image.now (open_card format image.now) table.old }
-    ensures mended { result.mended ≡ opening_mended format image.now (open_card format image.now) }
+    ensures mended { mended_told result ≡ opening_mended format image.now (open_card format image.now) }
 {
     let mut page = [0u8; 512];
     let mut mended: usize = 0;
-    let verdict = judge_card(format, image, &mut page, &mut mended);
-    let s = superblock_of(format, &page);
-    match verdict {
-        Verdict::Sound => {
-            load_table(image, s, table);
-            Opened {
-                verdict: Verdict::Sound,
-                superblock: s,
-                mended: settled(mended),
-            }
-        }
-        Verdict::Refused(refusal) => Opened {
-            verdict: Verdict::Refused(refusal),
-            superblock: s,
-            mended: 0,
-        },
-    }
+    judge_card(format, image, &mut page, &mut mended)?;
+    let superblock = superblock_of(format, &page);
+    load_table(image, &superblock, table);
+    Ok(Opened {
+        superblock,
+        mended: settled(mended),
+    })
 }

@@ -1,7 +1,5 @@
 // Page 0 of a card: the format text, the version, the fixed numbers and the superblock's numbers.
-ghost use Rattle.std.specs.Prelude.{◌≡◌, ◌+◌, ◌≤◌, length};
-ghost use Rattle.model.specs.Bytes.{slice};
-ghost use Rattle.model.specs.Names.{same_name};
+ghost use Rattle.std.specs.Prelude.{◌≡◌};
 ghost use Rattle.layout.specs.Superblock.{bad_blocks_of, clusters_in, good_length, good_text, good_version, fixed_numbers, superblock_of, good_numbers, good_bad_block, good_bad_blocks, good_superblock};
 
 use crate::{Geometry, Superblock};
@@ -22,66 +20,55 @@ pub fn good_length(format: Format, bytes: usize) -> bool
     ensures { result ≡ good_length format bytes }
 {
     let clusters = clusters_in(format, bytes);
-    (bytes % cluster_bytes(format) == 0)
-        & ((clusters % 8 == 0) & ((LEAST_CLUSTERS <= clusters) & (clusters <= MOST_CLUSTERS)))
-}
-
-// Whether the text stands in the bytes from `at` on.
-fn text_stands(bytes: &[u8], at: usize, text: &[u8]) -> bool
-    requires { at + length text.now ≤ length bytes.now }
-    ensures { result ≡ same_name (slice bytes.now at (length text.now)) text.now }
-{
-    let to = at + text.len();
-    check::same(&bytes[at..to], text)
+    bytes % cluster_bytes(format) == 0
+        && clusters % 8 == 0
+        && LEAST_CLUSTERS <= clusters
+        && clusters <= MOST_CLUSTERS
 }
 
 pub fn good_text(page: &[u8; 512]) -> bool
     ensures { result ≡ good_text page.now }
 {
-    text_stands(page, 0, b"Sony PS2 Memory Card Format ")
+    page.starts_with(b"Sony PS2 Memory Card Format ")
 }
 
 pub fn good_version(page: &[u8; 512]) -> bool
     ensures { result ≡ good_version page.now }
 {
-    text_stands(page, 0x1C, b"1.1.0.0\0\0\0\0\0") | text_stands(page, 0x1C, b"1.2.0.0\0\0\0\0\0")
+    let version = &page[0x1C..0x28];
+    version == b"1.1.0.0\0\0\0\0\0".as_slice() || version == b"1.2.0.0\0\0\0\0\0".as_slice()
 }
 
 pub fn fixed_numbers(page: &[u8; 512]) -> bool
     ensures { result ≡ fixed_numbers page.now }
 {
-    (half_at(page, 0x28) == 512)
-        & ((half_at(page, 0x2A) == 2) & ((half_at(page, 0x2C) == 16) & (word_at(page, 0x3C) == 0)))
+    half_at(page, 0x28) == 512
+        && half_at(page, 0x2A) == 2
+        && half_at(page, 0x2C) == 16
+        && word_at(page, 0x3C) == 0
 }
 
 // The words of the bad block list.
 fn bad_blocks(page: &[u8; 512]) -> [u32; LIST_WORDS]
     ensures { result ≡ bad_blocks_of page.now }
 {
-    let mut bad = [0u32; LIST_WORDS];
-    let mut i: usize = 0;
-    while i < LIST_WORDS {
-        bad[i] = word_at(page, 0xD0 + 4 * i);
-        i += 1;
-    }
-    bad
+    std::array::from_fn(|i| word_at(page, 0xD0 + 4 * i))
 }
 
 pub fn superblock_of(format: Format, page: &[u8; 512]) -> Superblock
     ensures { result ≡ superblock_of format page.now }
 {
-    let bad = bad_blocks(page);
     Superblock {
         clusters: word_at(page, 0x30),
         geometry: Geometry {
-            format: format,
+            format,
             offset: word_at(page, 0x34),
         },
         end: word_at(page, 0x38),
         backup1: word_at(page, 0x40),
         backup2: word_at(page, 0x44),
         indirect: word_at(page, 0x50),
-        bad: bad,
+        bad: bad_blocks(page),
     }
 }
 
@@ -90,34 +77,27 @@ pub fn good_numbers(n: usize, s: Superblock) -> bool
     ensures { result ≡ good_numbers n s }
 {
     let top = s.geometry.offset as usize + s.end as usize;
-    (s.clusters as usize == n)
-        & ((1 <= s.end)
-            & ((top <= n)
-                & (!(s.backup1 == s.backup2)
-                    & (((s.backup1 as usize) < n / BLOCK_CLUSTERS)
-                        & (((s.backup2 as usize) < n / BLOCK_CLUSTERS)
-                            & ((top <= BLOCK_CLUSTERS * s.backup1 as usize)
-                                & (top <= BLOCK_CLUSTERS * s.backup2 as usize)))))))
+    s.clusters as usize == n
+        && 1 <= s.end
+        && top <= n
+        && s.backup1 != s.backup2
+        && (s.backup1 as usize) < n / BLOCK_CLUSTERS
+        && (s.backup2 as usize) < n / BLOCK_CLUSTERS
+        && top <= BLOCK_CLUSTERS * s.backup1 as usize
+        && top <= BLOCK_CLUSTERS * s.backup2 as usize
 }
 
 // The rule on a word of the bad block list, for an image of n clusters.
 fn good_bad_block(n: usize, word: u32) -> bool
     ensures { result ≡ good_bad_block n word }
 {
-    (word == NO_BLOCK) | ((1 <= word) & ((word as usize) < n / BLOCK_CLUSTERS))
+    word == NO_BLOCK || (1 <= word && (word as usize) < n / BLOCK_CLUSTERS)
 }
 
 fn good_bad_blocks(n: usize, bad: &[u32]) -> bool
     ensures { result ≡ good_bad_blocks n bad.now }
 {
-    let mut i: usize = 0;
-    while i < bad.len() {
-        if !good_bad_block(n, bad[i]) {
-            return false;
-        }
-        i += 1;
-    }
-    true
+    bad.iter().all(|word| good_bad_block(n, *word))
 }
 
 // Every rule of page 0 but its text.
@@ -125,6 +105,5 @@ pub fn good_superblock(format: Format, n: usize, page: &[u8; 512]) -> bool
     ensures { result ≡ good_superblock format n page.now }
 {
     let s = superblock_of(format, page);
-    let bad = s.bad;
-    good_version(page) & (fixed_numbers(page) & (good_numbers(n, s) & good_bad_blocks(n, &bad)))
+    good_version(page) && fixed_numbers(page) && good_numbers(n, s) && good_bad_blocks(n, &s.bad)
 }

@@ -6,6 +6,7 @@ use page::Format;
 use std::io;
 use std::io::{Read, Write};
 
+// The other program has it too: the library takes no handle, and the two share no other crate.
 fn show(rt: &impl Print, image: &[u8]) -> io::Result<()> {
     let mut text = [0u8; SMALL_ROOM];
     let length = listing::list(Format::Raw, image, 0, &mut text);
@@ -19,7 +20,7 @@ fn main(rt: HostRuntime) -> io::Result<()> {
         .take(SMALL_IMAGE as u64 + 1)
         .read_to_end(&mut image)?;
     if SMALL_IMAGE < image.len() {
-        return io::writer(&rt).write_all(b"refused 1\n");
+        return println!(rt; "refused 1");
     }
     show(&rt, image.as_slice())
 }

@@ -9,8 +9,10 @@ use native.Mathlib.Omega.{arith}
 use borrow.Author.Tests.{eq-eqb, le-ltb, leb-false, leb-true, lt-ltb, ne_eqb}
 use lib.Dec.{leb}
 use lib.ListN.{drop, get_or, length, length-append, set, take}
-use lib.Seq.{append_snoc, length-sets, length-take-le, set-append_seam, set_out, sets, sets-eq, take_at, take-length, take-nil, take-suc}
-use Rattle.listing.specs.Emit.{Wrote, most}
+use lib.Seq.{append_snoc, length-sets, length-take-le, set-append_seam, set_out, sets, sets-eq, take_at, take-nil, take-suc}
+use Rattle.listing.specs.Emit.{Writes}
+use Rattle.listing.specs.Sizes.{most}
+use Rattle.listing.specs.declared.emit.Text.{Text}
 use Rattle.listing.specs.Text.{decimal_of, digits_of, fitted, page_text, space}
 
 sets-append : (a b l : List ℕ) (i : ℕ) → sets l i (a ++ b) ≡ sets (sets l i a) (i + length a) b
@@ -29,43 +31,37 @@ sets-most s l p h = go (leb p most) refl
     go true e = let f = leb-true p most e in let m : min p most ≡ p = omega arith in rw m
     go false e = let f = leb-false p most e in sets-out s l (min p most) (omega arith) ∙ sym (sets-out s l p (omega arith))
 
-pub wrote_none : (o : List ℕ) (at : ℕ) → at ≤ most → Wrote o at [] o at
-wrote_none o at h = record { out = refl; place = omega arith }
+pub writes_none : (a : Text) → Writes a [] a
+writes_none a = record { same_reference = refl; out = refl; place = let h = a.counted.0 in omega arith }
 
-module _ {o : List ℕ} {at : ℕ} {s o₁ : List ℕ} {a₁ : ℕ} where
-  pub wrote-append : {t o₂ : List ℕ} {a₂ : ℕ} → length o ≤ most → Wrote o at s o₁ a₁ → Wrote o₁ a₁ t o₂ a₂ → Wrote o at (s ++ t) o₂ a₂
-  wrote-append {t} {o₂} {a₂} h v w =
+module _ {a b : Text} {s : List ℕ} where
+  pub writes-append : {c : Text} {t : List ℕ} → Writes a s b → Writes b t c → Writes a (s ++ t) c
+  writes-append {c} {t} v w =
       record {
-        out = w.out ∙ rw (v.out, v.place) (sets-most t (sets o at s) (at + length s) (rw (length-sets o at s) h)) ∙ sym (sets-append s t o at);
-        place = w.place ∙ rw (length-append s t) (omega arith);
+        same_reference = w.same_reference ∙ v.same_reference;
+        out = w.out ∙ rw (v.out, v.place) (sets-most t (sets a.out.now a.at s) (a.at + length s) (rw (length-sets a.out.now a.at s) a.counted.1)) ∙ sym (sets-append s t a.out.now a.at);
+        place = w.place ∙ rw (length-append s t, v.place) (omega arith);
       }
 
-  pub wrote-length : Wrote o at s o₁ a₁ → length o₁ ≡ length o
-  wrote-length w = ap length w.out ∙ length-sets o at s
-
-  -- the same text, said otherwise
-  pub wrote_as : {t : List ℕ} → s ≡ t → Wrote o at s o₁ a₁ → Wrote o at t o₁ a₁
-  wrote_as e w = rw e at w
+  -- the same bytes, said otherwise
+  pub writes_as : {t : List ℕ} → s ≡ t → Writes a s b → Writes a t b
+  writes_as e w = rw e at w
 
 -- a turn of a copy, and its end
-module _ (s : List ℕ) (i : ℕ) {o : List ℕ} {at : ℕ} {o₁ : List ℕ} {a₁ : ℕ} where
-  pub wrote-more : {o₂ : List ℕ} {a₂ : ℕ} → length o ≤ most → i < length s → Wrote o at (take i s) o₁ a₁ → Wrote o₁ a₁ (get_or s i 0 ∷ []) o₂ a₂
-      → Wrote o at (take (i + 1) s) o₂ a₂
-  wrote-more h l v w = wrote_as (sym (take-suc s i 0 l) ∙ ap (λ (n : ℕ). take n s) (sym (add-one i))) (wrote-append h v w)
+module _ (s : List ℕ) (i : ℕ) {a b : Text} where
+  pub writes-more : {c : Text} → i < length s → Writes a (take i s) b → Writes b (get_or s i 0 ∷ []) c → Writes a (take (i + 1) s) c
+  writes-more l v w = writes_as (sym (take-suc s i 0 l) ∙ ap (λ (n : ℕ). take n s) (sym (add-one i))) (writes-append v w)
 
-  pub wrote-whole : i ≡ length s → Wrote o at (take i s) o₁ a₁ → Wrote o at s o₁ a₁
-  wrote-whole e w = wrote_as (ap (λ (n : ℕ). take n s) e ∙ take-length s) w
-
--- what stands in a buffer that had room for the text
-pub wrote-fits : {o : List ℕ} {at : ℕ} {s o₁ : List ℕ} {a₁ : ℕ} → length o ≤ most → at + length s ≤ length o → Wrote o at s o₁ a₁
-    → (take a₁ o₁ ≡ take at o ++ s) × (a₁ ≡ at + length s)
-wrote-fits {o} {at} {s} {o₁} {a₁} m h w = (rw (w.out, e, sets-eq s o at h) (take_at (take at o ++ s) (drop (at + length s) o) (at + length s) l), e)
+-- what stands in a buffer that had room for the bytes
+pub writes-fits : {a b : Text} {s : List ℕ} → a.at + length s ≤ length a.out.now → Writes a s b
+    → (take b.at b.out.now ≡ take a.at a.out.now ++ s) × (b.at ≡ a.at + length s)
+writes-fits {a} {b} {s} h w = (rw (w.out, e, sets-eq s a.out.now a.at h) (take_at (take a.at a.out.now ++ s) (drop (a.at + length s) a.out.now) (a.at + length s) l), e)
   where
-    e : a₁ ≡ at + length s
-    e = omega (arith, w.place)
+    e : b.at ≡ a.at + length s
+    e = omega (arith, a.counted.1, w.place)
 
-    l : length (take at o ++ s) ≡ at + length s
-    l = rw (length-append (take at o) s, length-take-le at o (omega arith))
+    l : length (take a.at a.out.now ++ s) ≡ a.at + length s
+    l = rw (length-append (take a.at a.out.now) s, length-take-le a.at a.out.now (omega arith))
 
 -- a text from the start of a part on: what fits, and behind a shorter text what stood there
 sets-fitted : (front l s : List ℕ) → sets (front ++ l) (length front) s ≡ front ++ fitted l s
@@ -76,18 +72,23 @@ sets-fitted front (y ∷ l) (x ∷ s) =
     let rest = sets-fitted (front ++ (x ∷ [])) l s in
     rw (set-append_seam front y l x) (rw (append_snoc front x l, append_snoc front x (fitted l s), longer) at rest)
 
-pub wrote-listing : {o s o₁ : List ℕ} {a₁ : ℕ} → length s ≤ most → Wrote o 0 s o₁ a₁ → (a₁ ≡ length s) × (o₁ ≡ fitted o s)
-wrote-listing {o} {s} h w = (omega (arith, w.place), w.out ∙ sets-fitted [] o s)
+-- what a whole text from the start of a buffer on leaves
+pub writes-listing : {a b : Text} {s : List ℕ} → length s ≤ most → a.at ≡ 0 → Writes a s b
+    → (b.at ≡ length s) × (b.out.now ≡ fitted a.out.now s) × (a.out.ghost_name ≡ b.out.ghost_name)
+writes-listing {a} {b} {s} h e w = (omega (arith, w.place), w.out ∙ rw e (sets-fitted [] a.out.now s), sym w.same_reference)
 
 -- ---- the digits of a number
 
 module _ (n : ℕ) where
+  last-digit : n < 10 → n % 10 ≡ n
+  last-digit l = omega arith
+
   pub digits-none : (k : ℕ) → k ≡ 0 → digits_of k n ≡ []
   digits-none k e = rw e (unfold digits_of in refl)
 
-  pub digits-one : (k : ℕ) → 0 < k → n < 10 → digits_of k n ≡ (0x30 + n) ∷ []
+  pub digits-one : (k : ℕ) → 0 < k → n < 10 → digits_of k n ≡ (0x30 + n % 10) ∷ []
   digits-one zero h l = absurd (omega arith)
-  digits-one (suc k) h l = unfold digits_of in rw (lt-ltb n 10 l)
+  digits-one (suc k) h l = unfold digits_of in rw (lt-ltb n 10 l, last-digit l)
 
   pub digits_more : (k j : ℕ) → k ≡ suc j → 10 ≤ n → digits_of k n ≡ digits_of j (n / 10) ++ ((0x30 + n % 10) ∷ [])
   digits_more k j e l = rw e (unfold digits_of in rw (le-ltb n 10 l))

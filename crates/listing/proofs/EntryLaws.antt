@@ -10,15 +10,16 @@ use lib.ListN.{drop, length, length-take}
 use Rattle.fields.proofs.NameLaws.{name-short}
 use Rattle.tree.specs.Scan.{lives}
 use Rattle.fields.specs.Calendar.{shown_as}
-use Rattle.fields.specs.declared.calendar.Shown.{Shown}
+use Rattle.std.specs.Prelude as code
 use Rattle.model.specs.declared.Moment.{Moment}
 use Rattle.model.specs.Bytes.{slice}
 use Rattle.model.specs.Calendar.{shown}
 use Rattle.model.specs.Entry.{Entry, entry_of, is_directory, is_live}
-use Rattle.tree.specs.Slots.{next_of, slot_pages}
+use Rattle.tree.specs.Slots.{next_of}
 use Rattle.listing.specs.declared.path.Path.{Path}
-use Rattle.listing.specs.Paths.{name_room, path_bytes}
-use Rattle.listing.specs.Render.{Leads, Texts, inside_at, line_at}
+use Rattle.listing.specs.Paths.{path_bytes}
+use Rattle.listing.specs.Sizes.{name_room}
+use Rattle.listing.specs.Render.{Leads, line_at}
 use Rattle.listing.specs.Stamps.{shown_text}
 use Rattle.listing.specs.Text.{directory_letter, entry_line, file_letter, stamp_text, within}
 
@@ -35,25 +36,6 @@ module _ (path : List ℕ) (o : Option Entry) (quiet : false ≡ lives o) where
       go none h = refl
       go (some e) h = rw (← h)
 
-  no-inside : (table : List ℕ) (deeper : Texts) → [] ≡ inside_at table deeper path o
-  no-inside table deeper = go o quiet
-    where
-      go : (o : Option Entry) → false ≡ lives o → [] ≡ inside_at table deeper path o
-      go none h = refl
-      go (some e) h = rw (← h)
-
-no-slots : (table : List ℕ) (start : ℕ) → slot_pages table start 0 0 ≡ []
-unfolding slot_pages
-no-slots table start = refl
-
-pub leads-nowhere : (table : List ℕ) (o : Option Entry) (at start : ℕ) (path : Path) → false ≡ lives o
-    → Leads table (path_bytes path) o path.len (record { at = at; path = path; start = start; count = 0 })
-leads-nowhere table o at start path quiet =
-    record {
-      short = omega arith;
-      inside = λ deeper empty. rw (no-slots table start) (empty (path_bytes path) ∙ no-inside (path_bytes path) o quiet table deeper);
-    }
-
 -- ---- a live entry
 
 shown-text : (o : Option Moment) → shown_text (shown_as o) ≡ stamp_text o
@@ -61,44 +43,30 @@ shown-text none = refl
 shown-text (some m) = refl
 
 -- its length, and its path with its name, as the code has them
-pub record Seen (path : List ℕ) (len : ℕ) (o : Option Entry) (e : Entry) (size : ℕ) (own : Path) : Type 0 where
+pub record Seen (path : List ℕ) (o : Option Entry) (e : Entry) (size : ℕ) (own : List ℕ) : Type 0 where
   pub shown : o ≡ some e
   pub live : true ≡ is_live e
   pub length-is : size ≡ e.length
-  pub path-is : path_bytes own ≡ within path e.name
-  pub longer : own.len ≤ len + name_room
+  pub path-is : own ≡ within path e.name
 
-pub seen_by : (path : List ℕ) (len : ℕ) (o : Option Entry) (page name : List ℕ) (size : ℕ) (own : Path) → o ≡ some (entry_of page) → true ≡ is_live (entry_of page)
-    → size ≡ (entry_of page).length → name ≡ (entry_of page).name → (path_bytes own ≡ within path name) × (own.len ≡ len + length name + 1)
-    → Seen path len o (entry_of page) size own
-seen_by path len o page name size own shown live long named grown =
-    record {
-      shown = shown;
-      live = live;
-      length-is = long;
-      path-is = grown.0 ∙ ap (within path) named;
-      longer = omega (arith, grown.1, name-fits page name named);
-    }
+pub seen_by : {path : List ℕ} {o : Option Entry} (page : List ℕ) {name : List ℕ} {size : ℕ} {own : List ℕ} → o ≡ some (entry_of page) → true ≡ is_live (entry_of page)
+    → size ≡ (entry_of page).length → name ≡ (entry_of page).name → own ≡ within path name → Seen path o (entry_of page) size own
+seen_by {path} page see live long named grown =
+    record { shown = see; live = live; length-is = long; path-is = grown ∙ ap (within path) named }
 
-module _ {path : List ℕ} {len : ℕ} {o : Option Entry} {e : Entry} {size : ℕ} {own : Path} (seen : Seen path len o e size own) where
-  module _ (minutes : ℤ) (changed : Shown) (stamp : changed ≡ shown_as (shown minutes e.modified)) where
-    pub file-line : false ≡ is_directory e → entry_line file_letter size (path_bytes own) (shown_text changed) ≡ line_at minutes path o
+module _ {path : List ℕ} {o : Option Entry} {e : Entry} {size : ℕ} {own : List ℕ} (seen : Seen path o e size own) where
+  module _ (minutes : ℤ) (changed : code.Option Moment) (stamp : changed ≡ shown_as (shown minutes e.modified)) where
+    pub file-line : false ≡ is_directory e → entry_line file_letter size own (shown_text changed) ≡ line_at minutes path o
     file-line kind = rw (seen.shown, ← kind, ← seen.live, seen.length-is, seen.path-is, stamp, shown-text (shown minutes e.modified))
 
-    pub directory-line : true ≡ is_directory e → entry_line directory_letter size (path_bytes own) (shown_text changed) ≡ line_at minutes path o
+    pub directory-line : true ≡ is_directory e → entry_line directory_letter size own (shown_text changed) ≡ line_at minutes path o
     directory-line kind = rw (seen.shown, ← kind, ← seen.live, seen.length-is, seen.path-is, stamp, shown-text (shown minutes e.modified))
 
-  pub file-leads : (table : List ℕ) (at start : ℕ) → false ≡ is_directory e → Leads table path o len (record { at = at; path = own; start = start; count = 0 })
-  file-leads table at start kind =
+  pub directory-leads : {at : Path} (table : List ℕ) (len first start count : ℕ) → true ≡ is_directory e → path_bytes at ≡ own → at.len ≤ len + name_room
+      → first ≡ e.first_cluster → start ≡ next_of table first → count ≡ size - 2
+      → Leads table path o len (code.Some (record { path = at; start = start; count = count }))
+  directory-leads table len first start count kind same long f s c =
       record {
-        short = seen.longer;
-        inside = λ deeper empty. rw (no-slots table start, seen.shown, ← kind) (empty (path_bytes own));
-      }
-
-  pub directory-leads : (table : List ℕ) (at first start count : ℕ) → true ≡ is_directory e → first ≡ e.first_cluster → start ≡ next_of table first → count ≡ size - 2
-      → Leads table path o len (record { at = at; path = own; start = start; count = count })
-  directory-leads table at first start count kind f s c =
-      record {
-        short = seen.longer;
-        inside = λ deeper empty. rw (seen.shown, ← kind, c, s, f, seen.length-is, seen.path-is);
+        grows = long;
+        text = λ deeper. rw (seen.shown, ← kind, c, s, f, same, seen.length-is, seen.path-is);
       }

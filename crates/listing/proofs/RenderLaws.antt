@@ -1,26 +1,25 @@
 -- A turn of the loop over a directory's slots: the line of one slot, what is inside it, then the slots that are left.
 use Prim.Native.Nat.{ℕ, suc, zero, ◌+◌, ◌-◌, ◌<◌, ◌≤◌}
+use mathlib.Core.Bool.{Bool, false, true}
 use mathlib.Core.List.{List, [], ◌++◌, ◌∷◌}
 use mathlib.Core.Path.{◌∙◌, ◌≡◌, ap, refl, sym}
 use native.Mathlib.Numerals.{add-one, sub-one}
 use native.Mathlib.Omega.{arith}
+use borrow.Author.Tests.{leb-false, leb-true}
+use lib.Dec.{leb}
 use lib.IntN.{ℤ}
-use lib.ListN.{length}
 use Rattle.model.specs.View.{View}
 use Rattle.tree.specs.Slots.{slot_page, slot_pages, cluster_after}
-use Rattle.listing.specs.declared.entries.Listed.{Listed}
-use Rattle.listing.specs.Emit.{Wrote, most}
-use Rattle.listing.specs.Paths.{path_bytes}
-use Rattle.listing.specs.Render.{Leads, inside_at, joined, line_at, slots_text}
-use Rattle.listing.proofs.EmitLaws.{wrote-append, wrote_as}
+use Rattle.std.specs.Prelude.{None, Option}
+use Rattle.listing.specs.declared.emit.Text.{Text}
+use Rattle.listing.specs.declared.entries.Directory.{Directory}
+use Rattle.listing.specs.Emit.{Writes}
+use Rattle.listing.specs.Render.{Leads, inside_at, joined, line_at, slots_text, text_in}
+use Rattle.listing.proofs.EmitLaws.{writes-append, writes_as, writes_none}
 
--- Whatever writes the text that is left from where the buffer and the place are now makes the whole text written from where they were.
-abbrev pub Remains : List ℕ → ℕ → List ℕ → List ℕ → ℕ → List ℕ → Type 0
-Remains before at whole buffer next left = (after : List ℕ) (end : ℕ) → Wrote buffer next left after end → Wrote before at whole after end
-
-pub remains-as : {before : List ℕ} {at : ℕ} {whole buffer buffer' : List ℕ} {next next' : ℕ} {left : List ℕ} → buffer' ≡ buffer → next' ≡ next
-    → Remains before at whole buffer next left → Remains before at whole buffer' next' left
-remains-as e f remains after end w = remains after end (rw (e, f) at w)
+-- Whatever writes the text that is left now has written the whole text from where it began.
+abbrev pub Remains : Text → List ℕ → Text → List ℕ → Type 0
+Remains first whole now left = (last : Text) → Writes now left last → Writes first whole last
 
 module _ (minutes : ℤ) (v : View) (t : List ℕ) where
   pub slots-none : (below : ℕ) (path : List ℕ) → slots_text minutes v t below path [] ≡ []
@@ -45,9 +44,6 @@ module _ (minutes : ℤ) (v : View) (t : List ℕ) where
     abbrev pub left : ℕ → ℕ → ℕ → List ℕ
     left c k n = slots_text minutes v t below path (slot_pages t c k (n - k))
 
-    pub left-all : (c n : ℕ) → left c 0 n ≡ slots_text minutes v t below path (slot_pages t c 0 n)
-    left-all c n = let z : n - 0 ≡ n = omega arith in rw z
-
     pub left-none : (c k n : ℕ) → n ≤ k → left c k n ≡ []
     unfolding slot_pages
     left-none c k n h = let z : n - k ≡ 0 = omega arith in rw z (slots-none below path)
@@ -57,17 +53,23 @@ module _ (minutes : ℤ) (v : View) (t : List ℕ) where
       unfolding slot_pages
       first_slot = let z : n - k ≡ suc (n - (k + 1)) = omega arith in rw (z, here, step, add-one k)
 
-      module _ {before : List ℕ} {at : ℕ} {whole buffer : List ℕ} {next : ℕ} (fits : length buffer ≤ most) (remains : Remains before at whole buffer next (left c k n))
-          {after : List ℕ} {end : ℕ} (line : Wrote buffer next (line_at minutes path (v.entry page)) after end) where
+      module _ {first : Text} {whole : List ℕ} {now after : Text} (remains : Remains first whole now (left c k n)) (line : Writes now (line_at minutes path (v.entry page)) after) where
         -- where no directory may lie further down
-        pub turn-flat : below ≡ 0 → Remains before at whole after end (left x (k + 1) n)
-        turn-flat flat last stop w =
-            remains last stop (wrote_as (sym (ap (slots_text minutes v t below path) first_slot ∙ slots-flat below path page _ flat)) (wrote-append fits line w))
+        pub turn-flat : below ≡ 0 → Remains first whole after (left x (k + 1) n)
+        turn-flat flat last w =
+            remains last (writes_as (sym (ap (slots_text minutes v t below path) first_slot ∙ slots-flat below path page _ flat)) (writes-append line w))
 
-        pub turn-deep : {len : ℕ} {own : Listed} {later : List ℕ} {beyond : ℕ} → 0 < below → Leads t path (v.entry page) len own
-            → Wrote after end (slots_text minutes v t (below - 1) (path_bytes own.path) (slot_pages t own.start 0 own.count)) later beyond
-            → Remains before at whole later beyond (left x (k + 1) n)
-        turn-deep deep leads inside last stop w =
-            remains last stop
-            (wrote_as (sym (ap (slots_text minutes v t below path) first_slot ∙ slots-deep below path page _ deep))
-            (wrote-append fits (wrote-append fits line (wrote_as (leads.inside (slots_text minutes v t (below - 1)) (slots-none (below - 1))) inside)) w))
+        pub turn-deep : {len : ℕ} {inside : Option Directory} {later : Text} → 0 < below → Leads t path (v.entry page) len inside
+            → Writes after (text_in t (slots_text minutes v t (below - 1)) inside) later → Remains first whole later (left x (k + 1) n)
+        turn-deep deep leads inside last w =
+            remains last
+            (writes_as (sym (ap (slots_text minutes v t below path) first_slot ∙ slots-deep below path page _ deep))
+            (writes-append (writes-append line (writes_as (leads.text (slots_text minutes v t (below - 1))) inside)) w))
+
+        -- where nothing is inside
+        pub turn-none : {len : ℕ} → Leads t path (v.entry page) len None → Remains first whole after (left x (k + 1) n)
+        turn-none leads = go (leb 1 below) refl
+          where
+            go : (b : Bool) → leb 1 below ≡ b → Remains first whole after (left x (k + 1) n)
+            go true e = turn-deep (leb-true 1 below e) leads (writes_none after)
+            go false e = turn-flat (let f = leb-false 1 below e in omega arith)

@@ -36,7 +36,7 @@ use Rattle.reached.proofs.Totalling.{total-zero}
 use Rattle.tree.proofs.CheckLaws.{end_fits}
 use Rattle.tree.specs.Counted.{counts_in, superblock_in}
 use Rattle.tree.specs.declared.Counts.{Counts}
-use Rattle.listing.specs.Emit.{most}
+use Rattle.listing.specs.Sizes.{most}
 use Rattle.listing.specs.Room.{Fits}
 use Rattle.listing.specs.Text.{card_word, count_line, counts_text, date_text, decimal_of, digits_of, entry_line, free_word, held_word, listing_of, mended_word, orphaned_word, page_text, reached_word, refusal_text, stamp_text, text_of, time_text, tree_text, within}
 

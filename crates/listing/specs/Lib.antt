@@ -3,5 +3,6 @@ pub mod Text
 pub mod Room
 pub mod Stamps
 pub mod Emit
+pub mod Sizes
 pub mod Paths
 pub mod Render

@@ -7,23 +7,20 @@ mod lines;
 mod path;
 mod stamps;
 
-ghost use Rattle.std.specs.Prelude.{◌≡◌, ◌≤◌, length, take, true};
-ghost use Rattle.layout.specs.See.{view_by};
-ghost use Rattle.model.specs.Calendar.{is_shift};
-ghost use Rattle.model.specs.Check.{ok};
-ghost use Rattle.tree.specs.Counted.{check_of};
-ghost use Rattle.listing.specs.Emit.{Wrote};
-ghost use Rattle.listing.specs.Render.{WroteTree};
+ghost use Rattle.std.specs.Prelude.{◌≡◌, length, take};
+ghost use Rattle.listing.specs.Emit.{Writes};
+ghost use Rattle.listing.specs.Render.{Lists};
 ghost use Rattle.listing.specs.Room.{Fits};
 ghost use Rattle.listing.specs.Text.{fitted, listing_of};
 
+use emit::Text;
 use entries::list_tree;
 use fields::calendar::is_shift;
-use layout::{Geometry, Refusal, Verdict, open_card};
-use lines::{put_counts, put_refusal};
+use layout::{Refusal, open_card};
 use model::MOST_CLUSTERS;
 use page::Format;
-use tree::{Checked, Counts, check_in};
+use tree::card::Card;
+use tree::check_in;
 
 // What the programs `list` and `cards` read at most, in bytes.
 pub const SMALL_IMAGE: usize = 59136;
@@ -36,43 +33,32 @@ const LINE_ROOM: usize = 290;
 // hold at most 112 entries, and six lines have the counts.
 pub const SMALL_ROOM: usize = (6 + 112) * LINE_ROOM;
 
-// The lines of all entries by the first `end` words of a table.
-fn list_words(
-    image: &[u8],
-    table: &[u32],
-    end: usize,
-    geometry: Geometry,
-    minutes: i32,
-    out: &mut [u8],
-    at: usize,
-) -> usize
-    requires { end ≤ length table.now }
-    ensures { WroteTree minutes (view_by geometry (take end table.now) image.now) out.old at out.new result }
+// A card's counts and entries, or why it is refused: then nothing is written. What the check accepts opens.
+fn list_card(text: &mut Text, format: Format, image: &[u8], minutes: i32) -> Result<(), Refusal>
+    ensures { Lists (listing_of format image.now minutes) result text.old text.new }
 {
-    list_tree(image, &table[..end], geometry, minutes, out, at)
+    if !is_shift(minutes) {
+        return Err(Refusal::BadShift);
+    }
+    let mut table = [0u32; MOST_CLUSTERS];
+    let counts = check_in(format, image, &mut table)?;
+    let s = open_card(format, image, &mut table)?.superblock;
+    let card = Card {
+        image,
+        table: &table[..s.end as usize],
+        geometry: s.geometry,
+    };
+    text.put_counts(counts);
+    list_tree(text, &card, minutes);
+    Ok(())
 }
 
-// A card that the check accepts, with room for its table. It opens, since the check opened it.
-fn list_card(
-    format: Format,
-    image: &[u8],
-    minutes: i32,
-    table: &mut [u32; MOST_CLUSTERS],
-    counts: Counts,
-    out: &mut [u8],
-) -> usize
-    requires { (ok counts ≡ check_of format image.now) × (is_shift minutes ≡ true) }
-    ensures { Wrote out.old 0 (listing_of format image.now minutes) out.new result }
+// The whole listing of an image: its counts and entries, or the line of its refusal.
+fn put_listing(text: &mut Text, format: Format, image: &[u8], minutes: i32)
+    ensures { Writes text.old (listing_of format image.now minutes) text.new }
 {
-    let at = put_counts(out, 0, counts);
-    let opened = open_card(format, image, table);
-    let verdict = opened.verdict;
-    match verdict {
-        Verdict::Refused(_) => at,
-        Verdict::Sound => {
-            let s = opened.superblock;
-            list_words(image, table, s.end as usize, s.geometry, minutes, out, at)
-        }
+    if let Err(refusal) = list_card(text, format, image, minutes) {
+        text.put_refusal(refusal);
     }
 }
 
@@ -81,15 +67,9 @@ pub fn list(format: Format, image: &[u8], minutes: i32, out: &mut [u8]) -> usize
     ensures length { result ≡ length (listing_of format image.now minutes) }
     ensures text { out.new ≡ fitted out.old (listing_of format image.now minutes) }
 {
-    if !is_shift(minutes) {
-        return put_refusal(out, Refusal::BadShift);
-    }
-    let mut table = [0u32; MOST_CLUSTERS];
-    let checked = check_in(format, image, &mut table);
-    match checked {
-        Checked::Refused(refusal) => put_refusal(out, refusal),
-        Checked::Card(counts) => list_card(format, image, minutes, &mut table, counts, out),
-    }
+    let mut text = Text { out, at: 0 };
+    put_listing(&mut text, format, image, minutes);
+    text.at
 }
 
 // The listing of a small image fits its room, whatever the image holds.
@@ -101,8 +81,5 @@ pub fn small_fits()
 pub fn written(out: &[u8], length: usize) -> &[u8]
     ensures { result.now ≡ take length out.now }
 {
-    if out.len() <= length {
-        return out;
-    }
-    &out[..length]
+    out.get(..length).unwrap_or(out)
 }

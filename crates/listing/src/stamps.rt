@@ -1,58 +1,59 @@
 // A time as text.
-ghost use Rattle.listing.specs.Emit.{Wrote};
+ghost use Rattle.listing.specs.Emit.{Writes};
 ghost use Rattle.listing.specs.Stamps.{shown_text};
 ghost use Rattle.listing.specs.Text.{date_text, four_digits, time_text, two_digits};
 
-use crate::emit::{put, put_byte};
-use fields::calendar::Shown;
+use crate::emit::Text;
 use model::{Date, Moment};
 
-// The last two digits of a number.
-fn put_two(out: &mut [u8], at: usize, number: u32) -> usize
-    ensures { Wrote out.old at (two_digits number) out.new result }
-{
-    let a = put_byte(out, at, b'0' + (number / 10 % 10) as u8);
-    put_byte(out, a, b'0' + (number % 10) as u8)
-}
+impl Text<'_> {
+    // The last two digits of a number.
+    fn put_two(&mut self, number: u32)
+        ensures { Writes self.old (two_digits number) self.new }
+    {
+        self.put_byte(b'0' + (number / 10 % 10) as u8);
+        self.put_byte(b'0' + (number % 10) as u8);
+    }
 
-// The last four.
-fn put_four(out: &mut [u8], at: usize, number: u32) -> usize
-    ensures { Wrote out.old at (four_digits number) out.new result }
-{
-    let a = put_two(out, at, number / 100);
-    put_two(out, a, number)
-}
+    // The last four.
+    fn put_four(&mut self, number: u32)
+        ensures { Writes self.old (four_digits number) self.new }
+    {
+        self.put_two(number / 100);
+        self.put_two(number);
+    }
 
-// `YYYY-MM-DD`.
-fn put_date(out: &mut [u8], at: usize, date: Date) -> usize
-    ensures { Wrote out.old at (date_text date) out.new result }
-{
-    let a = put_four(out, at, date.year);
-    let b = put_byte(out, a, b'-');
-    let c = put_two(out, b, date.month);
-    let d = put_byte(out, c, b'-');
-    put_two(out, d, date.day)
-}
+    // `YYYY-MM-DD`.
+    fn put_date(&mut self, date: Date)
+        ensures { Writes self.old (date_text date) self.new }
+    {
+        self.put_four(date.year);
+        self.put_byte(b'-');
+        self.put_two(date.month);
+        self.put_byte(b'-');
+        self.put_two(date.day);
+    }
 
-// `YYYY-MM-DD hh:mm:ss`.
-fn put_time(out: &mut [u8], at: usize, moment: Moment) -> usize
-    ensures { Wrote out.old at (time_text moment) out.new result }
-{
-    let a = put_date(out, at, moment.date);
-    let b = put_byte(out, a, b' ');
-    let c = put_two(out, b, moment.hour);
-    let d = put_byte(out, c, b':');
-    let e = put_two(out, d, moment.minute);
-    let f = put_byte(out, e, b':');
-    put_two(out, f, moment.second)
-}
+    // `YYYY-MM-DD hh:mm:ss`.
+    fn put_time(&mut self, moment: Moment)
+        ensures { Writes self.old (time_text moment) self.new }
+    {
+        self.put_date(moment.date);
+        self.put_byte(b' ');
+        self.put_two(moment.hour);
+        self.put_byte(b':');
+        self.put_two(moment.minute);
+        self.put_byte(b':');
+        self.put_two(moment.second);
+    }
 
-// A time, or `unknown`.
-pub(crate) fn put_stamp(out: &mut [u8], at: usize, changed: Shown) -> usize
-    ensures { Wrote out.old at (shown_text changed) out.new result }
-{
-    match changed {
-        Shown::Unknown => put(out, at, b"unknown"),
-        Shown::Time(moment) => put_time(out, at, moment),
+    // A time, or `unknown`.
+    pub(crate) fn put_stamp(&mut self, changed: Option<Moment>)
+        ensures { Writes self.old (shown_text changed) self.new }
+    {
+        match changed {
+            None => self.put(b"unknown"),
+            Some(moment) => self.put_time(moment),
+        }
     }
 }

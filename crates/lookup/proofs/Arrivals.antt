@@ -1,17 +1,17 @@
 -- Where names lead from a slot of the tree, and what an arrival of the code says of it.
-use Prim.Native.Nat.{ℕ}
-use mathlib.Core.List.{List, [], ◌∷◌}
+use Rattle.std.specs.Prelude.{Ok, Err}
+use Rattle.std.specs.Prelude.{Result as Returned}
+use mathlib.Core.List.{[], ◌∷◌}
 use mathlib.Core.Path.{◌≡◌, ap, ap₂}
 use Rattle.model.specs.Check.{Result, fault, ok}
-use Rattle.model.specs.Entry.{entry_of}
 use Rattle.model.specs.Lookup.{found, look_in, tell}
 use Rattle.model.specs.Names.{Path}
 use Rattle.model.specs.Tree.{Slot, Tree}
 use Rattle.model.specs.View.{View}
-use Rattle.lookup.specs.Descend.{Stands}
-use Rattle.lookup.specs.declared.way.Arrival.{Arrival}
-use Rattle.lookup.specs.declared.way.Arrival.TheVariants as arrival
-use Rattle.lookup.specs.declared.way.Arrived.{Arrived}
+use Rattle.layout.specs.Refusal.{number_of, page_of}
+use Rattle.layout.specs.declared.Refusal.{Refusal}
+use Rattle.lookup.specs.Descend.{StandsAt}
+use Rattle.lookup.specs.declared.way.EntryAt.{EntryAt}
 
 -- from a slot on: each name in the directory that the names before it lead to
 abbrev pub arrive : Slot → Tree → Path → Result (Slot × Tree)
@@ -20,19 +20,14 @@ arrive Slot.dead s (n ∷ path) = fault 9 0
 arrive (Slot.file e chain pages) s (n ∷ path) = fault 10 0
 arrive (Slot.directory e chain) s (n ∷ path) = tell (λ h t. arrive h t path) (fault 9 0) (look_in s (n ∷ []))
 
--- what an arrival says, with the page of the entry there
-abbrev pub Arrives : View → Result (Slot × Tree) → Arrival → List ℕ → Type 0
-Arrives v (fault n p) (arrival.At first) page = ⊥
-Arrives v (fault n p) arrival.Absent page = (n ≡ 9) × (p ≡ 0)
-Arrives v (fault n p) arrival.WrongKind page = (n ≡ 10) × (p ≡ 0)
-Arrives v (ok x) (arrival.At first) page = Stands v first (entry_of page) x.0 x.1
-Arrives v (ok x) arrival.Absent page = ⊥
-Arrives v (ok x) arrival.WrongKind page = ⊥
+-- what an arrival says of it: a refusal has its number, and no page
+abbrev pub Arrives : View → Result (Slot × Tree) → Returned EntryAt Refusal → Type 0
+Arrives v (fault n p) (Ok e) = ⊥
+Arrives v (fault n p) (Err r) = (n ≡ number_of r) × (p ≡ page_of r) × (page_of r ≡ 0)
+Arrives v (ok x) (Ok e) = StandsAt v e x.0 x.1
+Arrives v (ok x) (Err r) = ⊥
 
-abbrev pub ArrivesBy : View → Result (Slot × Tree) → Arrived → Type 0
-ArrivesBy v r a = Arrives v r a.arrival a.page
-
-pub arrives-as : (v : View) (r : Result (Slot × Tree)) (a : Arrived) (b : Arrival) → a.arrival ≡ b → ArrivesBy v r a → Arrives v r b a.page
+pub arrives-as : (v : View) (r : Result (Slot × Tree)) (a b : Returned EntryAt Refusal) → a ≡ b → Arrives v r a → Arrives v r b
 arrives-as v r a b e x = rw e at x
 
 -- a slot and its inside, as arrived at and as found

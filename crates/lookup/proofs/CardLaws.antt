@@ -1,4 +1,5 @@
 -- A card that the check accepts, by what the open call told: the tree that the view of the loaded table holds.
+use Rattle.std.specs.Prelude.{Err}
 use Prim.Native.Nat.{◌≤◌, ℕ}
 use mathlib.Core.List.{List}
 use mathlib.Core.Path.{◌≡◌, refl, sym}
@@ -20,7 +21,7 @@ use Rattle.tree.proofs.SlotSteps.{fault-ok}
 use Rattle.tree.specs.Counted.{superblock_in}
 use Rattle.lookup.specs.Answers.{TellsRead}
 use Rattle.lookup.specs.Paths.{on_card, with_path}
-use Rattle.lookup.specs.declared.reading.ReadOutcome.TheVariants as reading
+use Rattle.lookup.proofs.AnswerLaws.{tells-refused}
 
 module _ (format : Format) (image : List ℕ) where
   -- what the check refuses, every call refuses
@@ -68,6 +69,5 @@ module _ (format : Format) (image : List ℕ) where
         let e = table-loaded format image s (accepted s h).opened before after l in
         rw e (accepted s h).holds
 
-pub read-unopened : (x : Result (List ℕ)) (f : Refusal) (before : List ℕ) → x ≡ fault (number_of f) (page_of f) → TellsRead x (reading.Refused f) before before
-unfolding and_then
-read-unopened x f before e = rw e (record { count = refl; buffer = refl })
+pub read-unopened : (x : Result (List ℕ)) (f : Refusal) (before : List ℕ) → x ≡ fault (number_of f) (page_of f) → TellsRead x (Err f) before before
+read-unopened x f before e = record { count = tells-refused x length f (Err f) refl e; buffer = rw e }

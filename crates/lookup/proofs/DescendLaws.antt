@@ -1,4 +1,6 @@
 -- The names of a path one after the other: the code arrives where they lead in the tree.
+use Rattle.std.specs.Prelude.{Ok, Err}
+use Rattle.std.specs.Prelude.{Result as Returned}
 use Rattle.layout.specs.declared.Geometry.{Geometry}
 use Prim.Native.Nat.{◌+◌, ◌<◌, suc, ℕ}
 use mathlib.Core.List.{List, [], ◌∷◌}
@@ -18,12 +20,11 @@ use Rattle.model.specs.Pages.{decoded}
 use Rattle.model.specs.Tree.{Root, Slot, Tree, root_slot}
 use Rattle.model.specs.View.{View}
 use Rattle.reached.specs.Table.{table_links}
-use Rattle.lookup.specs.declared.way.Arrival.{Arrival}
-use Rattle.lookup.specs.declared.way.Arrival.TheVariants as arrival
-use Rattle.lookup.specs.declared.way.Arrived.{Arrived}
-use Rattle.lookup.specs.Descend.{Stands, at_root, descended, entered, names_from, onward}
-use Rattle.lookup.proofs.Arrivals.{Arrives, ArrivesBy, arrive}
-use Rattle.lookup.proofs.DescendSteps.{onward-absent, onward-kind, standing}
+use Rattle.layout.specs.declared.Refusal.{Refusal}
+use Rattle.lookup.specs.declared.way.EntryAt.{EntryAt}
+use Rattle.lookup.specs.Descend.{Stands, StandsAt, at_root, descended, entered, names_from, onward}
+use Rattle.lookup.proofs.Arrivals.{Arrives, arrive}
+use Rattle.lookup.proofs.DescendSteps.{onward-refused}
 use Rattle.lookup.proofs.EnterLaws.{enters, root_stands, some_same}
 
 -- one name, then the others
@@ -40,26 +41,14 @@ arrive-more (Slot.directory e cs) s n q = go (look_in s (n ∷ []))
 module _ (v : View) (t : List ℕ) (names : Path) where
   -- the other names, from where the first one leads
   abbrev pub Others : Type 0
-  Others = (first p : ℕ) (page : List ℕ) (h : Slot) (s : Tree) → Stands v first (entry_of page) h s → ArrivesBy v (arrive h s names) (onward v t (standing first p page) names)
+  Others = (here : EntryAt) (h : Slot) (s : Tree) → StandsAt v here h s → Arrives v (arrive h s names) (onward v t (Ok here) names)
 
-  ended : (a : Arrived) (r : Result (Slot × Tree)) → ((x : Slot × Tree) → ArrivesBy v (ok x) a → ⊥) → ArrivesBy v r a → ArrivesBy v (and_then r (λ x. arrive x.0 x.1 names)) a
+  next-arrives : Others → (a : Returned EntryAt Refusal) (r : Result (Slot × Tree)) → Arrives v r a → Arrives v (and_then r (λ x. arrive x.0 x.1 names)) (onward v t a names)
   unfolding and_then
-  ended a (fault k b) never u = u
-  ended a (ok y) never u = absurd (never y u)
-
-  next-arrives : Others → (a : Arrived) (r : Result (Slot × Tree)) → ArrivesBy v r a → ArrivesBy v (and_then r (λ x. arrive x.0 x.1 names)) (onward v t a names)
-  unfolding and_then
-  next-arrives others a r u = go a.arrival refl
-    where
-      on : (next p : ℕ) (page : List ℕ) (r : Result (Slot × Tree)) → Arrives v r (arrival.At next) page
-          → ArrivesBy v (and_then r (λ x. arrive x.0 x.1 names)) (onward v t (standing next p page) names)
-      on next p page (fault k b) u = absurd u
-      on next p page (ok y) u = others next p page y.0 y.1 u
-
-      go : (b : Arrival) → a.arrival ≡ b → ArrivesBy v (and_then r (λ x. arrive x.0 x.1 names)) (onward v t a names)
-      go arrival.Absent e = rw (onward-absent v t a names e) (ended a r (λ x u. rw e at u) u)
-      go arrival.WrongKind e = rw (onward-kind v t a names e) (ended a r (λ x u. rw e at u) u)
-      go (arrival.At next) e = rw e (on next a.at a.page r (rw e at u))
+  next-arrives others (Ok here) (fault k b) u = absurd u
+  next-arrives others (Ok here) (ok y) u = others here y.0 y.1 u
+  next-arrives others (Err r) (fault k b) u = rw (onward-refused v t r names) u
+  next-arrives others (Err r) (ok y) u = absurd u
 
 -- the root stands where page 0 was read
 pub root-read : (v : View) → ((p : ℕ) → v.entry p ≡ decoded (v.page p)) → (root : Root) → HoldsCard v root → (page : List ℕ) → v.page 0 ≡ some page
@@ -72,21 +61,20 @@ root-read v reads root card page e =
 
 module _ (v : View) (t : List ℕ) (links : (c : ℕ) → v.link c ≡ table_links t c) (reads : (p : ℕ) → v.entry p ≡ decoded (v.page p)) where
   -- from an entry that stands in the tree on
-  pub onward-arrives : (names : Path) (first p : ℕ) (page : List ℕ) (h : Slot) (s : Tree) → Stands v first (entry_of page) h s
-      → ArrivesBy v (arrive h s names) (onward v t (standing first p page) names)
+  pub onward-arrives : (names : Path) (here : EntryAt) (h : Slot) (s : Tree) → StandsAt v here h s → Arrives v (arrive h s names) (onward v t (Ok here) names)
   unfolding onward and_then
-  onward-arrives [] first p page h s x = x
-  onward-arrives (n ∷ names) first p page h s x =
-      rw (arrive-more h s n names) (next-arrives v t names (λ first p page h s. onward-arrives names first p page h s) (entered v t first page n) (arrive h s (n ∷ [])) (enters v t links reads first page n h s x))
+  onward-arrives [] here h s x = x
+  onward-arrives (n ∷ names) here h s x =
+      rw (arrive-more h s n names) (next-arrives v t names (λ here h s. onward-arrives names here h s) (entered v t here.first here.page n) (arrive h s (n ∷ [])) (enters v t links reads here.first here.page n h s x))
 
   pub descended-arrives : (root : Root) → HoldsCard v root → (names : Path)
-      → ArrivesBy v (arrive (root_slot root) root.slots names) (descended v t names)
+      → Arrives v (arrive (root_slot root) root.slots names) (descended v t names)
   unfolding descended
   descended-arrives root card names = go (v.page 0) refl
     where
-      go : (o : Option (List ℕ)) → v.page 0 ≡ o → ArrivesBy v (arrive (root_slot root) root.slots names) (onward v t (at_root o) names)
+      go : (o : Option (List ℕ)) → v.page 0 ≡ o → Arrives v (arrive (root_slot root) root.slots names) (onward v t (at_root o) names)
       go none e = absurd (let z : none ≡ some root.root_entry = sym (reads 0 ∙ ap decoded e) ∙ card.root_page in let w : ◌≡◌ {A = ℕ} 0 1 = cc in omega arith)
-      go (some page) e = onward-arrives names 0 0 page (root_slot root) root.slots (root-read v reads root card page e)
+      go (some page) e = onward-arrives names (record { at = 0; first = 0; page = page }) (root_slot root) root.slots (root-read v reads root card page e)
 
 -- ---- the names of a path's bytes
 
@@ -103,12 +91,12 @@ names-of-path bytes names e =
     names-get names bytes 0 (λ j l. let z : 0 + j ≡ j = omega arith in ap (name_at bytes) z ∙ name-of-path bytes names j e l)
 
 -- for every card that the view holds and every path that the bytes are
-abbrev pub Leads : View → List ℕ → ℕ → Arrival → List ℕ → Type 0
-Leads v path count a page =
-    (root : Root) → HoldsCard v root → (names : Path) → path_of path ≡ some names → length names ≡ count → Arrives v (arrive (root_slot root) root.slots names) a page
+abbrev pub Leads : View → List ℕ → ℕ → Returned EntryAt Refusal → Type 0
+Leads v path count a =
+    (root : Root) → HoldsCard v root → (names : Path) → path_of path ≡ some names → length names ≡ count → Arrives v (arrive (root_slot root) root.slots names) a
 
-pub leads : (geometry : Geometry) (table image path : List ℕ) (count : ℕ) (r : Arrived) → r ≡ descended (view_by geometry table image) table (names_from path 0 count)
-    → Leads (view_by geometry table image) path count r.arrival r.page
+pub leads : (geometry : Geometry) (table image path : List ℕ) (count : ℕ) (r : Returned EntryAt Refusal) → r ≡ descended (view_by geometry table image) table (names_from path 0 count)
+    → Leads (view_by geometry table image) path count r
 leads geometry table image path count r e root card names p l =
     let same : names_from path 0 count ≡ names = ap (names_from path 0) (sym l) ∙ names-of-path path names p in
     rw (e, same) (descended-arrives (view_by geometry table image) table (λ c. refl) (λ a. refl) root card names)

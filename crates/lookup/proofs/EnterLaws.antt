@@ -1,8 +1,10 @@
 -- One name further: from a slot that the view holds to the slot that is found inside it.
+use Rattle.std.specs.Prelude.{Some, None, Ok, Err}
+use Rattle.std.specs.Prelude.{Option}
 use Prim.Native.Nat.{◌-◌, ℕ}
-use mathlib.Core.Bool.{Bool, ◌&&◌, false, not, true}
+use mathlib.Core.Bool.{Bool, ◌&&◌, cond, false, not, true}
 use mathlib.Core.List.{List, [], ◌∷◌}
-use mathlib.Core.Option.{Option, none, some}
+use mathlib.Core.Option.{Option as Maybe, none, some}
 use mathlib.Core.Path.{◌∙◌, ◌≡◌, ap, refl, sym}
 use native.Mathlib.Omega.{arith}
 use lib.Dec.{leb→le}
@@ -17,12 +19,11 @@ use Rattle.model.specs.Pages.{decoded}
 use Rattle.model.specs.Tree.{Root, Slot, Tree, entry_pages, root_slot}
 use Rattle.model.specs.View.{View}
 use Rattle.reached.specs.Table.{table_links}
-use Rattle.lookup.specs.declared.way.Arrival.TheVariants as arrival
 use Rattle.tree.specs.declared.along.Place.{Place}
-use Rattle.tree.specs.declared.along.Place.TheVariants as place
-use Rattle.lookup.specs.Descend.{Stands, entered, landed, landed_at, nowhere, pick_arrived}
+use Rattle.layout.specs.declared.Refusal.TheVariants as is
+use Rattle.lookup.specs.Descend.{Stands, entered, landed, landed_at}
 use Rattle.tree.specs.Scan.{bearing, scan}
-use Rattle.lookup.proofs.Arrivals.{Arrives, ArrivesBy, arrive}
+use Rattle.lookup.proofs.Arrivals.{Arrives, arrive}
 use Rattle.tree.specs.Slots.{next_of, slot_pages}
 use Rattle.tree.proofs.ChainPages.{directory-pages}
 use Rattle.lookup.proofs.FindLaws.{Finds, scan-finds}
@@ -61,62 +62,64 @@ module _ (v : View) (t : List ℕ) (links : (c : ℕ) → v.link c ≡ table_lin
 
 module _ (v : View) (t : List ℕ) (links : (c : ℕ) → v.link c ≡ table_links t c) (first : ℕ) (e : Entry) (n : Name) where
   -- the place of a name in a directory of this entry
-  abbrev placed : Place
+  abbrev placed : Option Place
   placed = scan (bearing v n) (slot_pages t (next_of t first) 0 (e.length - 2)) 0
 
-  enter-file : (h : Slot) (s : Tree) (page : List ℕ) → Stands v first e h s → is_directory e ≡ false → Arrives v (arrive h s (n ∷ [])) arrival.WrongKind page
-  enter-file Slot.dead s page x f = absurd x
-  enter-file (Slot.file d cs ds) s page x f = (refl, refl)
-  enter-file (Slot.directory d cs) s page x f = tf x.1 f
+  enter-file : (h : Slot) (s : Tree) → Stands v first e h s → is_directory e ≡ false → Arrives v (arrive h s (n ∷ [])) (Err is.WrongKind)
+  enter-file Slot.dead s x f = absurd x
+  enter-file (Slot.file d cs ds) s x f = (refl, refl, refl)
+  enter-file (Slot.directory d cs) s x f = tf x.1 f
 
   -- a directory's place of a name says what is found
   directory-finds : (d : Entry) (cs : List ℕ) (s : Tree) → (x : Stands v first e (Slot.directory d cs) s) → Finds v x.5.0 s n placed
   directory-finds d cs s x = scan-finds v x.5.0 n (slot_pages t (next_of t first) 0 (e.length - 2)) s 0 (stands-held v t links first e d cs s x)
 
-  enter-absent : (h : Slot) (s : Tree) (page : List ℕ) → Stands v first e h s → is_directory e ≡ true → placed ≡ place.Nowhere → Arrives v (arrive h s (n ∷ [])) arrival.Absent page
-  enter-absent Slot.dead s page x f q = absurd x
-  enter-absent (Slot.file d cs ds) s page x f q = tf f x.1
-  enter-absent (Slot.directory d cs) s page x f q =
+  enter-absent : (h : Slot) (s : Tree) → Stands v first e h s → is_directory e ≡ true → placed ≡ None → Arrives v (arrive h s (n ∷ [])) (Err is.Absent)
+  enter-absent Slot.dead s x f q = absurd x
+  enter-absent (Slot.file d cs ds) s x f q = tf f x.1
+  enter-absent (Slot.directory d cs) s x f q =
       let y : look_in s (n ∷ []) ≡ absent = rw q at (directory-finds d cs s x) in
-      rw y (refl, refl)
+      rw y (refl, refl, refl)
 
   -- the page of a name that is found holds an entry, which stands there
-  enter-found : (h : Slot) (s : Tree) → Stands v first e h s → is_directory e ≡ true → (k p : ℕ) → placed ≡ place.At k p
-      → (g : Slot) × (u : Tree) × (d : Entry) × (v.entry p ≡ some d) × Stands v d.first_cluster d g u × (arrive h s (n ∷ []) ≡ ok (g, u))
-  enter-found Slot.dead s x f k p q = absurd x
-  enter-found (Slot.file d cs ds) s x f k p q = tf f x.1
-  enter-found (Slot.directory d cs) s x f k p q =
-      let y : Finds v x.5.0 s n (place.At k p) = rw q at (directory-finds d cs s x) in
-      let z = held-stands v _ _ p y.0 y.1 n y.3 y.4 (λ w. tf (rw w at y.5) refl) in
+  enter-found : (h : Slot) (s : Tree) → Stands v first e h s → is_directory e ≡ true → (at : Place) → placed ≡ Some at
+      → (g : Slot) × (u : Tree) × (d : Entry) × (v.entry at.page ≡ some d) × Stands v d.first_cluster d g u × (arrive h s (n ∷ []) ≡ ok (g, u))
+  enter-found Slot.dead s x f at q = absurd x
+  enter-found (Slot.file d cs ds) s x f at q = tf f x.1
+  enter-found (Slot.directory d cs) s x f at q =
+      let y : Finds v x.5.0 s n (Some at) = rw q at (directory-finds d cs s x) in
+      let z = held-stands v _ _ at.page y.0 y.1 n y.3 y.4 (λ w. tf (rw w at y.5) refl) in
       (y.0, y.1, z.0, z.1, z.2, rw y.2)
 
   stands-as : (g : Slot) (u : Tree) (d d' : Entry) (next : ℕ) → Stands v d.first_cluster d g u → d ≡ d' → next ≡ d'.first_cluster → Stands v next d' g u
   stands-as g u d d' next x z eq = rw (eq, ← z) x
 
   -- the entry that was read stands where the name leads
-  enter-there : (h : Slot) (s : Tree) → Stands v first e h s → is_directory e ≡ true → (k p : ℕ) → placed ≡ place.At k p
-      → (page : List ℕ) (next : ℕ) → v.entry p ≡ some (entry_of page) → next ≡ (entry_of page).first_cluster → Arrives v (arrive h s (n ∷ [])) (arrival.At next) page
-  enter-there h s x f k p q page next read eq =
-      let y = enter-found h s x f k p q in
+  enter-there : (h : Slot) (s : Tree) → Stands v first e h s → is_directory e ≡ true → (at : Place) → placed ≡ Some at
+      → (page : List ℕ) (next : ℕ) → v.entry at.page ≡ some (entry_of page) → next ≡ (entry_of page).first_cluster
+      → Arrives v (arrive h s (n ∷ [])) (Ok (record { at = at.page; first = next; page = page }))
+  enter-there h s x f at q page next read eq =
+      let y = enter-found h s x f at q in
       let z : y.2 ≡ entry_of page = some_same _ _ (sym y.3 ∙ read) in
       rw y.5 (stands-as y.0 y.1 y.2 (entry_of page) next y.4 z eq)
 
 -- One name further the code arrives where the tree's name leads; the view's entries are those of its pages.
 pub enters : (v : View) (t : List ℕ) → ((c : ℕ) → v.link c ≡ table_links t c) → ((p : ℕ) → v.entry p ≡ decoded (v.page p)) → (first : ℕ) (page : List ℕ) (n : Name) (h : Slot) (s : Tree)
-    → Stands v first (entry_of page) h s → ArrivesBy v (arrive h s (n ∷ [])) (entered v t first page n)
+    → Stands v first (entry_of page) h s → Arrives v (arrive h s (n ∷ [])) (entered v t first page n)
 unfolding entered
 enters v t links reads first page n h s x = kind (is_directory (entry_of page)) refl
   where
-    read : is_directory (entry_of page) ≡ true → (k p : ℕ) → placed v t links first (entry_of page) n ≡ place.At k p → (o : Option (List ℕ)) → v.page p ≡ o → ArrivesBy v (arrive h s (n ∷ [])) (landed p o)
-    read d k p q none r =
-        let y = enter-found v t links first (entry_of page) n h s x d k p q in
-        absurd (let z : none ≡ some y.2 = sym (reads p ∙ ap decoded r) ∙ y.3 in let w : ◌≡◌ {A = ℕ} 0 1 = cc in omega arith)
-    read d k p q (some bytes) r = enter-there v t links first (entry_of page) n h s x d k p q bytes (word bytes 0x10) (reads p ∙ ap decoded r) refl
+    read : is_directory (entry_of page) ≡ true → (at : Place) → placed v t links first (entry_of page) n ≡ Some at → (o : Maybe (List ℕ)) → v.page at.page ≡ o
+        → Arrives v (arrive h s (n ∷ [])) (landed at.page o)
+    read d at q none r =
+        let y = enter-found v t links first (entry_of page) n h s x d at q in
+        absurd (let z : none ≡ some y.2 = sym (reads at.page ∙ ap decoded r) ∙ y.3 in let w : ◌≡◌ {A = ℕ} 0 1 = cc in omega arith)
+    read d at q (some bytes) r = enter-there v t links first (entry_of page) n h s x d at q bytes (word bytes 0x10) (reads at.page ∙ ap decoded r) refl
 
-    found : is_directory (entry_of page) ≡ true → (r : Place) → placed v t links first (entry_of page) n ≡ r → ArrivesBy v (arrive h s (n ∷ [])) (landed_at v r)
-    found d place.Nowhere q = enter-absent v t links first (entry_of page) n h s _ x d q
-    found d (place.At k p) q = read d k p q (v.page p) refl
+    found : is_directory (entry_of page) ≡ true → (r : Option Place) → placed v t links first (entry_of page) n ≡ r → Arrives v (arrive h s (n ∷ [])) (landed_at v r)
+    found d None q = enter-absent v t links first (entry_of page) n h s x d q
+    found d (Some at) q = read d at q (v.page at.page) refl
 
-    kind : (b : Bool) → is_directory (entry_of page) ≡ b → ArrivesBy v (arrive h s (n ∷ [])) (pick_arrived b (landed_at v (placed v t links first (entry_of page) n)) (nowhere arrival.WrongKind))
+    kind : (b : Bool) → is_directory (entry_of page) ≡ b → Arrives v (arrive h s (n ∷ [])) (cond b (landed_at v (placed v t links first (entry_of page) n)) (Err is.WrongKind))
     kind true d = found d (placed v t links first (entry_of page) n) refl
-    kind false d = enter-file v t links first (entry_of page) n h s _ x d
+    kind false d = enter-file v t links first (entry_of page) n h s x d

@@ -15,6 +15,7 @@ pub mod StepLaws
 pub mod CopyLaws
 pub mod PagesLaws
 pub mod MendedLaws
+pub mod CopySteps
 pub mod ReadLaws
 pub mod ReadSteps
 pub mod CardLaws

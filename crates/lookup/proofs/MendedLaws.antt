@@ -1,4 +1,5 @@
 -- The count of corrected chunks that a call reports, and how a read grows it.
+use Rattle.std.specs.Prelude.{None}
 use Prim.Native.Nat.{◌+◌, suc, ℕ}
 use mathlib.Core.Bool.{true}
 use mathlib.Core.List.{List}
@@ -16,7 +17,6 @@ use Rattle.model.specs.View.{View}
 use Rattle.tree.specs.Mended.{count_after}
 use Rattle.tree.specs.Scan.{scan, unread}
 use Rattle.tree.specs.Slots.{cluster_after, slot_page, slot_pages}
-use Rattle.tree.specs.declared.along.Place.TheVariants as place
 use Rattle.lookup.specs.Descend.{pages_for}
 use Rattle.lookup.specs.Mended.{reported}
 use Rattle.lookup.proofs.PagesLaws.{all-readable}
@@ -28,6 +28,10 @@ unfolding and_then
 reports (fault n p) f total before e = rw e
 reports (ok a) f total before e = rw e
 
+-- a refusal leaves it
+pub kept : {A : Type 0} (x : Result A) (n p total before : ℕ) → x ≡ fault n p → before ≡ reported x total before
+kept x n p total before e = rw e
+
 -- ---- the pages that a read copies from
 module _ (v : View) (mend : ℕ → ℕ) (t : List ℕ) where
   added : (o : Option (List ℕ)) (chunks now : ℕ) {next : ℕ} → is_some o ≡ true → next ≡ count_after o chunks now → next ≡ wrapped (now + chunks)
@@ -36,7 +40,7 @@ module _ (v : View) (mend : ℕ → ℕ) (t : List ℕ) where
 
   -- a page more, and what is left to count
   pub count-page : (c k skip left x page less now : ℕ) {next whole : ℕ} → pages_for skip left ≡ suc (pages_for 0 less) → x ≡ cluster_after t c k → page ≡ slot_page c k
-      → scan (unread v) (slot_pages t c k (pages_for skip left)) k ≡ place.Nowhere → next ≡ count_after (v.page page) (mend page) now
+      → scan (unread v) (slot_pages t c k (pages_for skip left)) k ≡ None → next ≡ count_after (v.page page) (mend page) now
       → wrapped (now + total_over mend (slot_pages t c k (pages_for skip left))) ≡ whole → wrapped (next + total_over mend (slot_pages t x (k + 1) (pages_for 0 less))) ≡ whole
   unfolding slot_pages
   count-page c k skip left x page less now fewer s at h e w =

@@ -1,15 +1,15 @@
 -- What a read answers: the refusals, and the bytes of the pages that the code steps through.
 use Rattle.layout.specs.declared.Geometry.{Geometry}
+use Rattle.std.specs.Prelude.{Some, None, Ok, Err}
 use Prim.Native.Nat.{◌%◌, ◌+◌, ◌-◌, ◌/◌, ◌<◌, ◌≤◌, suc, zero, ℕ}
 use mathlib.Core.Bool.{Bool, cond, false, true}
-use mathlib.Core.List.{List, [], ◌∷◌, map}
+use mathlib.Core.List.{List, [], ◌∷◌, ◌++◌, map}
 use mathlib.Core.Option.{Option}
 use mathlib.Core.Path.{◌∙◌, ◌≡◌, ap, ap₂, refl, sym}
 use native.Mathlib.Omega.{arith}
 use borrow.Author.Tests.{le-leb, leb-true, lt-leb, ne_eqb}
 use lib.Dec.{eqb, leb}
 use lib.ListN.{drop, length, take}
-use lib.Seq.{sets, sets-eq}
 use Rattle.layout.specs.Refusal.{number_of, page_of}
 use Rattle.layout.specs.See.{on_image}
 use Rattle.layout.specs.declared.Refusal.{Refusal}
@@ -27,9 +27,9 @@ use Rattle.tree.specs.Scan.{scan, unread}
 use Rattle.lookup.specs.Mended.{read_pages}
 use Rattle.lookup.specs.Read.{bytes_from, bytes_to_copy, data_of_pages, pages_with, read_from}
 use Rattle.tree.specs.Slots.{cluster_at, slot_pages}
-use Rattle.tree.specs.declared.along.Place.TheVariants as place
-use Rattle.lookup.specs.declared.reading.ReadOutcome.TheVariants as reading
+use Rattle.tree.specs.declared.along.Place.{Place}
 use Rattle.tree.proofs.ChainPages.{chain-pages}
+use Rattle.lookup.proofs.AnswerLaws.{tells-refused, tells-value}
 use Rattle.lookup.proofs.PagesLaws.{scan-gives}
 
 -- ---- the pages with a byte to copy
@@ -127,11 +127,11 @@ module _ (v : View) (t : List ℕ) (links : (c : ℕ) → v.link c ≡ table_lin
         y.1 ∙ ap₂ (λ (ps : List ℕ) (ds : List (Option (List ℕ))). and_then (data_of_pages ps ds) (λ bytes. ok (slice bytes (from % 512) to_copy))) p
         (with-map v.page from to_copy (pages_of y.0) ∙ ap (map v.page) p)
 
-    pub read-unreadable : 0 < to_copy → (k p : ℕ) → scan (unread v) data_pages (from / 512) ≡ place.At k p → read_from from room h s ≡ fault 2 p
+    pub read-unreadable : 0 < to_copy → (at : Place) → scan (unread v) data_pages (from / 512) ≡ Some at → read_from from room h s ≡ fault 2 at.page
     unfolding and_then
-    read-unreadable b k p q = let g : data_of_pages data_pages (map v.page data_pages) ≡ fault 2 p = rw q at (scan-gives v data_pages (from / 512)) in through b ∙ rw g
+    read-unreadable b at q = let g : data_of_pages data_pages (map v.page data_pages) ≡ fault 2 at.page = rw q at (scan-gives v data_pages (from / 512)) in through b ∙ rw g
 
-    pub read-bytes : 0 < to_copy → scan (unread v) data_pages (from / 512) ≡ place.Nowhere → read_from from room h s ≡ ok (slice (data_along v data_pages) (from % 512) to_copy)
+    pub read-bytes : 0 < to_copy → scan (unread v) data_pages (from / 512) ≡ None → read_from from room h s ≡ ok (slice (data_along v data_pages) (from % 512) to_copy)
     unfolding and_then
     read-bytes b q = let g : data_of_pages data_pages (map v.page data_pages) ≡ ok (data_along v data_pages) = rw q at (scan-gives v data_pages (from / 512)) in through b ∙ rw g
 
@@ -155,13 +155,13 @@ module _ (v : View) (t : List ℕ) (links : (c : ℕ) → v.link c ≡ table_lin
 
 -- ---- the answers
 
-pub read-refused : (geometry : Geometry) (x : Result (List ℕ)) (n p : ℕ) (f : Refusal) (before after : List ℕ) → x ≡ fault n p → on_image {A = List ℕ} geometry (fault n p) ≡ fault (number_of f) (page_of f) → after ≡ before
-    → TellsRead (on_image geometry x) (reading.Refused f) before after
-unfolding and_then
-read-refused geometry x n p f before after e g b = let z : on_image geometry x ≡ fault (number_of f) (page_of f) = ap (on_image geometry) e ∙ g in rw z (record { count = refl; buffer = b })
+pub read-refused : (geometry : Geometry) (x : Result (List ℕ)) (n p : ℕ) (f : Refusal) (before : List ℕ) → x ≡ fault n p → on_image {A = List ℕ} geometry (fault n p) ≡ fault (number_of f) (page_of f)
+    → TellsRead (on_image geometry x) (Err f) before before
+read-refused geometry x n p f before e g =
+    let z : on_image geometry x ≡ fault (number_of f) (page_of f) = ap (on_image geometry) e ∙ g in record { count = tells-refused (on_image geometry x) length f (Err f) refl z; buffer = rw z }
 
-pub read_told : (geometry : Geometry) (x : Result (List ℕ)) (bytes before after : List ℕ) (n : ℕ) → x ≡ ok bytes → length bytes ≡ n → n ≤ length before → after ≡ sets before 0 bytes
-    → TellsRead (on_image geometry x) (reading.Bytes n) before after
-unfolding and_then
-read_told geometry x bytes before after n e l h b =
-    rw e (record { count = ap {B = Result ℕ} ok (sym l); buffer = b ∙ sets-eq bytes before 0 (omega arith) ∙ (let z : 0 + length bytes ≡ length bytes = omega arith in rw z) })
+pub read_told : (geometry : Geometry) (x : Result (List ℕ)) (bytes before after : List ℕ) (n : ℕ) → x ≡ ok bytes → length bytes ≡ n → after ≡ bytes ++ drop n before
+    → TellsRead (on_image geometry x) (Ok n) before after
+read_told geometry x bytes before after n e l b =
+    let z : on_image geometry x ≡ ok bytes = ap (on_image geometry) e in
+    record { count = tells-value (on_image geometry x) length bytes n z (sym l); buffer = rw (z, l) b }

@@ -1,5 +1,7 @@
 -- The directory that a change is in, where the way along its path without the last name arrives: which refusal that is, or the
 -- directory's entry, chain and slots.
+use Rattle.std.specs.Prelude.{Ok, Err}
+use Rattle.std.specs.Prelude.{Result as Returned}
 use Prim.Native.Nat.{◌+◌, ◌-◌, ◌≤◌, suc, zero, ℕ}
 use mathlib.Core.Bool.{false, true}
 use mathlib.Core.List.{List, [], ◌∷◌}
@@ -22,10 +24,11 @@ use Rattle.model.specs.Tree.{Root, Slot, Tree, entry_pages, root_slot}
 use Rattle.model.specs.View.{Link, View}
 use Rattle.reached.specs.Table.{first_link_of, table_links}
 use Rattle.tree.specs.Slots.{next_of, slot_pages}
-use Rattle.lookup.specs.Descend.{Stands, descended, names_from}
-use Rattle.lookup.specs.declared.way.Arrival.TheVariants as arrival
-use Rattle.lookup.specs.declared.way.Arrived.{Arrived}
-use Rattle.lookup.proofs.Arrivals.{Arrives, ArrivesBy, arrive, arrives-as}
+use Rattle.layout.specs.Refusal.{number_of, page_of}
+use Rattle.layout.specs.declared.Refusal.{Refusal}
+use Rattle.lookup.specs.Descend.{StandsAt, descended, names_from}
+use Rattle.lookup.specs.declared.way.EntryAt.{EntryAt}
+use Rattle.lookup.proofs.Arrivals.{Arrives, arrive, arrives-as}
 use Rattle.lookup.proofs.DescendLaws.{descended-arrives, names-of-path}
 use Rattle.lookup.proofs.EnterLaws.{stands-chain, stands-held}
 use Rattle.lookup.proofs.PathWalk.{arrive-found, refused_at, way-to}
@@ -65,7 +68,7 @@ chain_next : (v : View) (first : ℕ) (cs ds : List ℕ) → cs ≡ first ∷ ds
 chain_next v first cs ds e x = let y : Chain v (first_link_of first) (first ∷ ds) = rw e at x in rw e (refl, y.1)
 
 module _ (v : View) (t : List ℕ) (links : (c : ℕ) → v.link c ≡ table_links t c) (reads : (p : ℕ) → v.entry p ≡ decoded (v.page p)) (root : Root) (card : HoldsCard v root)
-    (path : List ℕ) (names : Path) (k : ℕ) (parsed : path_of path ≡ some names) (count : length names ≡ suc k) (a : Arrived) (led : a ≡ descended v t (names_from path 0 k)) where
+    (path : List ℕ) (names : Path) (k : ℕ) (parsed : path_of path ≡ some names) (count : length names ≡ suc k) (a : Returned EntryAt Refusal) (led : a ≡ descended v t (names_from path 0 k)) where
   own : names_from path 0 (suc k) ≡ names
   own = ap (names_from path 0) (sym count) ∙ names-of-path path names parsed
 
@@ -79,55 +82,48 @@ module _ (v : View) (t : List ℕ) (links : (c : ℕ) → v.link c ≡ table_lin
   led-to = led ∙ ap (descended v t) before_last
 
   -- where the names before the last one lead in the tree
-  stands : (r : Result (Slot × Tree)) × (arrive (root_slot root) root.slots (parent names) ≡ r) × ArrivesBy v r a × (way (look_up root) names ≡ refused_at r)
+  stands : (r : Result (Slot × Tree)) × (arrive (root_slot root) root.slots (parent names) ≡ r) × Arrives v r a × (way (look_up root) names ≡ refused_at r)
   stands =
       (arrive (root_slot root) root.slots (parent names), refl, rw led-to (descended-arrives v t links reads root card (parent names)), way-to root names (omega arith))
 
-  pub site-absent : a.arrival ≡ arrival.Absent → way (look_up root) names ≡ 9
-  site-absent e = let y = stands in y.3 ∙ go y.0 (arrives-as v y.0 a arrival.Absent e y.2)
+  pub site-refused : (f : Refusal) → a ≡ Err f → (way (look_up root) names ≡ number_of f) × (page_of f ≡ 0)
+  site-refused f e = let y = stands in let z = go y.0 (arrives-as v y.0 a (Err f) e y.2) in (y.3 ∙ z.0, z.1)
     where
-      go : (r : Result (Slot × Tree)) → Arrives v r arrival.Absent a.page → refused_at r ≡ 9
-      go (fault n p) u = u.0
+      go : (r : Result (Slot × Tree)) → Arrives v r (Err f) → (refused_at r ≡ number_of f) × (page_of f ≡ 0)
+      go (fault n p) u = (u.0, u.2)
       go (ok x) u = absurd u
 
-  pub site-kind : a.arrival ≡ arrival.WrongKind → way (look_up root) names ≡ 10
-  site-kind e = let y = stands in y.3 ∙ go y.0 (arrives-as v y.0 a arrival.WrongKind e y.2)
-    where
-      go : (r : Result (Slot × Tree)) → Arrives v r arrival.WrongKind a.page → refused_at r ≡ 10
-      go (fault n p) u = u.0
-      go (ok x) u = absurd u
-
-  module _ (first : ℕ) (e : a.arrival ≡ arrival.At first) where
-    pub site-file : is_directory (entry_of a.page) ≡ false → way (look_up root) names ≡ 10
-    site-file f = let y = stands in y.3 ∙ go y.0 (arrives-as v y.0 a (arrival.At first) e y.2)
+  module _ (here : EntryAt) (e : a ≡ Ok here) where
+    pub site-file : is_directory (entry_of here.page) ≡ false → way (look_up root) names ≡ 10
+    site-file f = let y = stands in y.3 ∙ go y.0 (arrives-as v y.0 a (Ok here) e y.2)
       where
-        kind : (h : Slot) (s : Tree) → Stands v first (entry_of a.page) h s → refused_at (ok (h, s)) ≡ 10
+        kind : (h : Slot) (s : Tree) → StandsAt v here h s → refused_at (ok (h, s)) ≡ 10
         kind Slot.dead s x = absurd x
         kind (Slot.file d cs ds) s x = refl
         kind (Slot.directory d cs) s x = tf x.1 f
 
-        go : (r : Result (Slot × Tree)) → Arrives v r (arrival.At first) a.page → refused_at r ≡ 10
+        go : (r : Result (Slot × Tree)) → Arrives v r (Ok here) → refused_at r ≡ 10
         go (fault n p) u = absurd u
         go (ok x) u = kind x.0 x.1 u
 
-    pub site-at : is_directory (entry_of a.page) ≡ true → Site v t root names first a.at a.page
-    site-at f = let y = stands in go y.0 y.1 (arrives-as v y.0 a (arrival.At first) e y.2) y.3
+    pub site-at : is_directory (entry_of here.page) ≡ true → Site v t root names here.first here.at here.page
+    site-at f = let y = stands in go y.0 y.1 (arrives-as v y.0 a (Ok here) e y.2) y.3
       where
-        number-so : page_at_path root (parent names) ≡ a.at
-        number-so = descended-page v t links reads root card (parent names) first (sym (ap (λ (a : Arrived). a.arrival) led-to) ∙ e) ∙ ap (λ (a : Arrived). a.at) (sym led-to)
+        number-so : page_at_path root (parent names) ≡ here.at
+        number-so = descended-page v t links reads root card (parent names) here (sym led-to ∙ e)
 
-        shown-so : v.page a.at ≡ some a.page
-        shown-so = rw led-to (descended-shown v t (parent names) first (sym (ap (λ (a : Arrived). a.arrival) led-to) ∙ e))
+        shown-so : v.page here.at ≡ some here.page
+        shown-so = rw (sym led-to ∙ e) at (descended-shown v t (parent names))
 
-        asked-so : (cs : List ℕ) (s : Tree) → look_up root (parent names) ≡ found (Slot.directory (entry_of a.page) cs) s → look_up root names ≡ look_in s (last_name names ∷ [])
+        asked-so : (cs : List ℕ) (s : Tree) → look_up root (parent names) ≡ found (Slot.directory (entry_of here.page) cs) s → look_up root names ≡ look_in s (last_name names ∷ [])
         asked-so cs s g =
-            ap (look_up root) (snoc-path names (omega arith)) ∙ (site v root card (parent names) (entry_of a.page) cs s g).here (last_name names ∷ [])
+            ap (look_up root) (snoc-path names (omega arith)) ∙ (site v root card (parent names) (entry_of here.page) cs s g).here (last_name names ∷ [])
 
-        make : (d : Entry) (cs : List ℕ) (s : Tree) → arrive (root_slot root) root.slots (parent names) ≡ ok (Slot.directory d cs, s) → (x : Stands v first (entry_of a.page) (Slot.directory d cs) s)
-            → way (look_up root) names ≡ 0 → Site v t root names first a.at a.page
+        make : (d : Entry) (cs : List ℕ) (s : Tree) → arrive (root_slot root) root.slots (parent names) ≡ ok (Slot.directory d cs, s) → (x : StandsAt v here (Slot.directory d cs) s)
+            → way (look_up root) names ≡ 0 → Site v t root names here.first here.at here.page
         make d cs s r x w =
-            let pages-so = stands-chain v t links first (entry_of a.page) d cs s x in
-            let here : look_up root (parent names) ≡ found (Slot.directory (entry_of a.page) cs) s = arrive-found root (parent names) (Slot.directory d cs) s r ∙ rw x.0 in
+            let pages-so = stands-chain v t links here.first (entry_of here.page) d cs s x in
+            let at-parent : look_up root (parent names) ≡ found (Slot.directory (entry_of here.page) cs) s = arrive-found root (parent names) (Slot.directory d cs) s r ∙ rw x.0 in
             let pages-are = ap (λ (d : Entry). entry_pages (Slot.directory d cs)) (sym x.0) ∙ pages-so.2 in
             record {
               chain = cs;
@@ -135,25 +131,25 @@ module _ (v : View) (t : List ℕ) (links : (c : ℕ) → v.link c ≡ table_lin
               slots = s;
               below = x.5.0;
               open-way = w;
-              found-so = here;
+              found-so = at-parent;
               page-so = number-so;
               read = shown-so;
               two = x.2;
               long = x.3;
-              linked = chain_next v first cs pages-so.0 pages-so.1 x.4;
+              linked = chain_next v here.first cs pages-so.0 pages-so.1 x.4;
               starts = pages-so.1;
               pages = pages-are;
-              held = rw pages-are (stands-held v t links first (entry_of a.page) d cs s x);
-              named = asked-so cs s here;
+              held = rw pages-are (stands-held v t links here.first (entry_of here.page) d cs s x);
+              named = asked-so cs s at-parent;
             }
 
-        kind : (h : Slot) (s : Tree) → arrive (root_slot root) root.slots (parent names) ≡ ok (h, s) → Stands v first (entry_of a.page) h s → way (look_up root) names ≡ refused_at (ok (h, s))
-            → Site v t root names first a.at a.page
+        kind : (h : Slot) (s : Tree) → arrive (root_slot root) root.slots (parent names) ≡ ok (h, s) → StandsAt v here h s → way (look_up root) names ≡ refused_at (ok (h, s))
+            → Site v t root names here.first here.at here.page
         kind Slot.dead s r x w = absurd x
         kind (Slot.file d cs ds) s r x w = tf f x.1
         kind (Slot.directory d cs) s r x w = make d cs s r x w
 
-        go : (r : Result (Slot × Tree)) → arrive (root_slot root) root.slots (parent names) ≡ r → Arrives v r (arrival.At first) a.page → way (look_up root) names ≡ refused_at r
-            → Site v t root names first a.at a.page
+        go : (r : Result (Slot × Tree)) → arrive (root_slot root) root.slots (parent names) ≡ r → Arrives v r (Ok here) → way (look_up root) names ≡ refused_at r
+            → Site v t root names here.first here.at here.page
         go (fault n p) q u w = absurd u
         go (ok x) q u w = kind x.0 x.1 q u w

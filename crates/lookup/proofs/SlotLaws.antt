@@ -1,4 +1,5 @@
 -- A directory's slots that the view holds: scanning their pages for a dead entry, a name or a live entry gives the tree's own slot.
+use Rattle.std.specs.Prelude.{Option, Some, None}
 use Prim.Native.Nat.{◌+◌, ◌<◌, ◌≤◌, suc, ℕ}
 use mathlib.Core.Bool.{Bool, cond, false, not, true}
 use mathlib.Core.List.{List, [], ◌∷◌}
@@ -11,9 +12,8 @@ use Rattle.model.specs.Lookup.{absent, first_dead, index_of, is_named, look_in}
 use Rattle.model.specs.Names.{Name}
 use Rattle.model.specs.Tree.{Slot, Tree, dead_slots, end, node, slot_count}
 use Rattle.model.specs.View.{View}
-use Rattle.tree.specs.Scan.{bearing, dying, living_from, pick_place, scan}
+use Rattle.tree.specs.Scan.{bearing, dying, living_from, scan}
 use Rattle.tree.specs.declared.along.Place.{Place}
-use Rattle.tree.specs.declared.along.Place.TheVariants as place
 use Rattle.lookup.proofs.FindLaws.{Finds, bears-slot, directory-live, file-live, scan-finds}
 
 -- ---- the first slot that a test takes
@@ -24,9 +24,9 @@ first_by takes end = 0
 first_by takes (node h s t) = cond (takes h) 0 (suc (first_by takes t))
 
 -- what a place says of it; the first of the pages is slot k's
-abbrev First : (Slot → Bool) → Tree → List ℕ → ℕ → Place → Type 0
-First takes t ps k place.Nowhere = first_by takes t ≡ slot_count t
-First takes t ps k (place.At j p) = (k + first_by takes t ≡ j) × (first_by takes t < slot_count t) × (p ≡ get_or ps (first_by takes t) 0)
+abbrev First : (Slot → Bool) → Tree → List ℕ → ℕ → Option Place → Type 0
+First takes t ps k None = first_by takes t ≡ slot_count t
+First takes t ps k (Some at) = (k + first_by takes t ≡ at.slot) × (first_by takes t < slot_count t) × (at.page ≡ get_or ps (first_by takes t) 0)
 
 module _ (v : View) (below : ℕ) (test : ℕ → ℕ → Bool) (takes : Slot → Bool) (same : (k p : ℕ) (h : Slot) → HoldsSlot v below p h → test k p ≡ takes h) where
   scan-first : (ps : List ℕ) (t : Tree) (k : ℕ) → HoldsSlots v below ps t → First takes t ps k (scan test ps k)
@@ -36,22 +36,22 @@ module _ (v : View) (below : ℕ) (test : ℕ → ℕ → Bool) (takes : Slot �
   scan-first (p ∷ ps) end k x = absurd x
   scan-first (p ∷ ps) (node h s t) k x = go (takes h) refl (scan-first ps t (suc k) x.3)
     where
-      past : takes h ≡ false → (r : Place) → First takes t ps (suc k) r → First takes (node h s t) (p ∷ ps) k r
-      past b place.Nowhere f = rw b (ap suc f)
-      past b (place.At j q) f = rw b (omega (arith, f.0), omega (arith, f.1), f.2)
+      past : takes h ≡ false → (r : Option Place) → First takes t ps (suc k) r → First takes (node h s t) (p ∷ ps) k r
+      past b None f = rw b (ap suc f)
+      past b (Some at) f = rw b (omega (arith, f.0), omega (arith, f.1), f.2)
 
-      go : (b : Bool) → takes h ≡ b → First takes t ps (suc k) (scan test ps (suc k)) → First takes (node h s t) (p ∷ ps) k (pick_place (test k p) (place.At k p) (scan test ps (suc k)))
+      go : (b : Bool) → takes h ≡ b → First takes t ps (suc k) (scan test ps (suc k)) → First takes (node h s t) (p ∷ ps) k (cond (test k p) (Some (record { slot = k; page = p })) (scan test ps (suc k)))
       go true b f = rw (same k p h x.0, b) (rw b (omega arith, omega arith, refl))
       go false b f = rw (same k p h x.0, b) (past b (scan test ps (suc k)) f)
 
-  by-nowhere : (ps : List ℕ) (t : Tree) → HoldsSlots v below ps t → scan test ps 0 ≡ place.Nowhere → first_by takes t ≡ slot_count t
+  by-nowhere : (ps : List ℕ) (t : Tree) → HoldsSlots v below ps t → scan test ps 0 ≡ None → first_by takes t ≡ slot_count t
   by-nowhere ps t x e = rw e at (scan-first ps t 0 x)
 
-  by-at : (ps : List ℕ) (t : Tree) → HoldsSlots v below ps t → (k p : ℕ) → scan test ps 0 ≡ place.At k p
-      → (first_by takes t ≡ k) × (k < slot_count t) × (p ≡ get_or ps k 0)
-  by-at ps t x k p e =
-      let f : First takes t ps 0 (place.At k p) = rw e at (scan-first ps t 0 x) in
-      let i : first_by takes t ≡ k = omega (arith, f.0) in
+  by-at : (ps : List ℕ) (t : Tree) → HoldsSlots v below ps t → (at : Place) → scan test ps 0 ≡ Some at
+      → (first_by takes t ≡ at.slot) × (at.slot < slot_count t) × (at.page ≡ get_or ps at.slot 0)
+  by-at ps t x at e =
+      let f : First takes t ps 0 (Some at) = rw e at (scan-first ps t 0 x) in
+      let i : first_by takes t ≡ at.slot = omega (arith, f.0) in
       (i, omega (arith, f.1), f.2 ∙ ap (λ (j : ℕ). get_or ps j 0) i)
 
 -- ---- dead slots
@@ -73,11 +73,11 @@ dead-first (node (Slot.file e cs ds) s t) = ap suc (dead-first t)
 dead-first (node (Slot.directory e cs) s t) = ap suc (dead-first t)
 
 module _ (v : View) (below : ℕ) (ps : List ℕ) (t : Tree) (x : HoldsSlots v below ps t) where
-  pub dead-nowhere : scan (dying v) ps 0 ≡ place.Nowhere → first_dead t ≡ slot_count t
+  pub dead-nowhere : scan (dying v) ps 0 ≡ None → first_dead t ≡ slot_count t
   dead-nowhere e = dead-first t ∙ by-nowhere v below (dying v) is_dead (dying-slot v below) ps t x e
 
-  pub dead-at : (k p : ℕ) → scan (dying v) ps 0 ≡ place.At k p → (first_dead t ≡ k) × (k < slot_count t) × (p ≡ get_or ps k 0)
-  dead-at k p e = let y = by-at v below (dying v) is_dead (dying-slot v below) ps t x k p e in (dead-first t ∙ y.0, y.1, y.2)
+  pub dead-at : (at : Place) → scan (dying v) ps 0 ≡ Some at → (first_dead t ≡ at.slot) × (at.slot < slot_count t) × (at.page ≡ get_or ps at.slot 0)
+  dead-at at e = let y = by-at v below (dying v) is_dead (dying-slot v below) ps t x at e in (dead-first t ∙ y.0, y.1, y.2)
 
 -- ---- the slot of a name
 
@@ -86,16 +86,16 @@ name-first n end = refl
 name-first n (node h s t) = rw (name-first n t)
 
 module _ (v : View) (below : ℕ) (ps : List ℕ) (t : Tree) (x : HoldsSlots v below ps t) (n : Name) where
-  pub name-nowhere : scan (bearing v n) ps 0 ≡ place.Nowhere → look_in t (n ∷ []) ≡ absent
+  pub name-nowhere : scan (bearing v n) ps 0 ≡ None → look_in t (n ∷ []) ≡ absent
   name-nowhere e = rw e at (scan-finds v below n ps t 0 x)
 
   -- the slot that is found, with its inside
-  pub name-found : (k p : ℕ) → scan (bearing v n) ps 0 ≡ place.At k p → Finds v below t n (place.At k p)
-  name-found k p e = rw e at (scan-finds v below n ps t 0 x)
+  pub name-found : (at : Place) → scan (bearing v n) ps 0 ≡ Some at → Finds v below t n (Some at)
+  name-found at e = rw e at (scan-finds v below n ps t 0 x)
 
-  pub name-at : (k p : ℕ) → scan (bearing v n) ps 0 ≡ place.At k p → (index_of n t ≡ k) × (p ≡ get_or ps k 0)
-  name-at k p e =
-      let y = by-at v below (bearing v n) (λ h. is_named h n) (λ k p h. bears-slot v below p h n) ps t x k p e in
+  pub name-at : (at : Place) → scan (bearing v n) ps 0 ≡ Some at → (index_of n t ≡ at.slot) × (at.page ≡ get_or ps at.slot 0)
+  name-at at e =
+      let y = by-at v below (bearing v n) (λ h. is_named h n) (λ k p h. bears-slot v below p h n) ps t x at e in
       (name-first n t ∙ y.0, y.2)
 
 -- ---- live slots
@@ -127,8 +127,8 @@ one-live (node (Slot.file d cs ds) s t) l e = omega (arith, dead-slots t)
 one-live (node (Slot.directory d cs) s t) l e = omega (arith, dead-slots t)
 
 module _ (v : View) (below : ℕ) (ps : List ℕ) (t : Tree) (x : HoldsSlots v below ps t) where
-  pub live-nowhere : scan (living_from v 0) ps 0 ≡ place.Nowhere → slot_count t ≡ dead_slots t
+  pub live-nowhere : scan (living_from v 0) ps 0 ≡ None → slot_count t ≡ dead_slots t
   live-nowhere e = all-dead t (by-nowhere v below (living_from v 0) is_alive (living-slot v below) ps t x e)
 
-  pub live_at : (k p : ℕ) → scan (living_from v 0) ps 0 ≡ place.At k p → slot_count t ≡ dead_slots t → ⊥
-  live_at k p e = let y = by-at v below (living_from v 0) is_alive (living-slot v below) ps t x k p e in one-live t (rw y.0 y.1)
+  pub live_at : (at : Place) → scan (living_from v 0) ps 0 ≡ Some at → slot_count t ≡ dead_slots t → ⊥
+  live_at at e = let y = by-at v below (living_from v 0) is_alive (living-slot v below) ps t x at e in one-live t (rw y.0 y.1)

@@ -1,33 +1,35 @@
 -- The first live slot from a slot on, as the scan of a directory's pages finds it, is the tree's.
+use Rattle.std.specs.Prelude.{Some, None, Ok}
+use Rattle.std.specs.Prelude.{Option, Result as Returned}
 use Prim.Native.Nat.{◌+◌, ◌-◌, ◌<◌, ◌≤◌, suc, ℕ}
 use mathlib.Core.Bool.{Bool, ◌&&◌, false, true}
 use mathlib.Core.List.{List, [], ◌∷◌}
 use mathlib.Core.Logic.{⊎_elim}
-use mathlib.Core.Option.{Option, none, some}
+use mathlib.Core.Option.{Option as Maybe, none, some}
 use mathlib.Core.Path.{◌∙◌, ◌≡◌, ap, refl, sym}
 use native.Mathlib.Omega.{arith}
 use borrow.Author.Tests.{le-leb, leb-false, leb-true, lt-leb}
 use lib.Dec.{leb}
 use Rattle.fields.specs.Entries.{fields_of_entry}
 use Rattle.fields.specs.declared.entries.Entry as fields
-use Rattle.layout.specs.Refusal.{number_of, page_of}
 use Rattle.layout.specs.declared.Refusal.{Refusal}
 use Rattle.model.proofs.Equality.{bool, tf}
-use Rattle.model.specs.Check.{Result, and_then, fault, ok}
-use Rattle.model.specs.Entry.{Entry, is_directory}
+use Rattle.model.specs.Check.{Result, fault, ok}
+use Rattle.model.specs.Entry.{Entry, entry_of, is_directory}
 use Rattle.model.specs.Holds.{HoldsSlots}
 use Rattle.model.specs.Tree.{Slot, Tree, end, node}
 use Rattle.model.specs.View.{View}
-use Rattle.reached.specs.Table.{table_links}
-use Rattle.lookup.specs.Answers.{TellsStep, blank_entry}
-use Rattle.lookup.specs.Descend.{Stands}
+use Rattle.lookup.specs.Answers.{TellsStep, stepped_in}
+use Rattle.lookup.specs.Descend.{StandsAt}
+use Rattle.tree.specs.Card.{view_of}
+use Rattle.tree.specs.declared.card.Card.{Card}
 use Rattle.tree.specs.Scan.{living_from, scan}
 use Rattle.tree.specs.Slots.{next_of, slot_pages}
 use Rattle.lookup.specs.Step.{live_from, step_from}
 use Rattle.tree.specs.declared.along.Place.{Place}
-use Rattle.tree.specs.declared.along.Place.TheVariants as place
-use Rattle.lookup.specs.declared.stepping.Stepped.TheVariants as stepped
-use Rattle.lookup.specs.declared.stepping.SteppedEntry.{SteppedEntry}
+use Rattle.lookup.specs.declared.stepping.Stepped.{Stepped}
+use Rattle.lookup.specs.declared.way.EntryAt.{EntryAt}
+use Rattle.lookup.proofs.AnswerLaws.{tells-value}
 use Rattle.tree.proofs.ScanLaws.{scan-as}
 use Rattle.lookup.proofs.FindLaws.{directory-live, file-live}
 use Rattle.lookup.proofs.EnterLaws.{some_same, stands-held}
@@ -39,9 +41,9 @@ shift slot k at e =
     (λ (b : leb slot at ≡ false). let h : at < slot = leb-false _ _ b in lt-leb (slot - 2) k (omega arith) ∙ sym b) (bool (leb slot at))
 
 -- what a place says: the end, or a live entry with its slot
-abbrev Shows : View → Place → Option (ℕ × Entry) → Type 0
-Shows v place.Nowhere o = o ≡ none
-Shows v (place.At k p) o = (e : Entry) × (v.entry p ≡ some e) × (o ≡ some (k + 2, e))
+abbrev Shows : View → Option Place → Maybe (ℕ × Entry) → Type 0
+Shows v None o = o ≡ none
+Shows v (Some at) o = (e : Entry) × (v.entry at.page ≡ some e) × (o ≡ some (at.slot + 2, e))
 
 module _ (v : View) (slot : ℕ) where
   abbrev test : ℕ → ℕ → Bool
@@ -74,58 +76,53 @@ module _ (v : View) (slot : ℕ) where
 
 -- ---- the answers
 
-pub step-refused : (x : Result (Option (ℕ × Entry))) (f : Refusal) (e : fields.Entry) → x ≡ fault (number_of f) (page_of f) → e ≡ blank_entry
-    → TellsStep x (record { place = stepped.Refused f; entry = e })
-unfolding and_then
-step-refused x f e a b = rw a (record { slot = refl; entry = b })
+module _ (card : Card) (directory : EntryAt) (slot : ℕ) where
+  abbrev pub next-live : Option Place
+  next-live = scan (living_from (view_of card) (slot - 2)) (slot_pages card.table.now (next_of card.table.now directory.first) 0 ((entry_of directory.page).length - 2)) 0
 
-module _ (v : View) (t : List ℕ) (links : (c : ℕ) → v.link c ≡ table_links t c) (first slot : ℕ) (e : Entry) where
-  abbrev pub next-live : Place
-  next-live = scan (living_from v (slot - 2)) (slot_pages t (next_of t first) 0 (e.length - 2)) 0
-
-  pub step-file : (h : Slot) (s : Tree) → Stands v first e h s → is_directory e ≡ false → step_from slot h s ≡ fault 10 0
+  pub step-file : (h : Slot) (s : Tree) → StandsAt (view_of card) directory h s → is_directory (entry_of directory.page) ≡ false → step_from slot h s ≡ fault 10 0
   step-file Slot.dead s x f = absurd x
   step-file (Slot.file d cs ds) s x f = refl
   step-file (Slot.directory d cs) s x f = tf x.1 f
 
   -- what the step asks, and where the code's scan says it is
-  lived : (h : Slot) (s : Tree) → Stands v first e h s → is_directory e ≡ true → (o : Option (ℕ × Entry)) × (step_from slot h s ≡ ok o) × Shows v next-live o
+  lived : (h : Slot) (s : Tree) → StandsAt (view_of card) directory h s → is_directory (entry_of directory.page) ≡ true → (o : Maybe (ℕ × Entry)) × (step_from slot h s ≡ ok o) × Shows (view_of card) next-live o
   lived Slot.dead s x f = absurd x
   lived (Slot.file d cs ds) s x f = tf f x.1
   lived (Slot.directory d cs) s x f =
-      (live_from slot 2 s, refl, scan-lives v slot x.5.0 (slot_pages t (next_of t first) 0 (e.length - 2)) s 0 2 refl (stands-held v t links first e d cs s x))
+      (live_from slot 2 s, refl, scan-lives (view_of card) slot x.5.0 (slot_pages card.table.now (next_of card.table.now directory.first) 0 ((entry_of directory.page).length - 2)) s 0 2 refl (stands-held (view_of card) card.table.now (λ z. refl) directory.first (entry_of directory.page) d cs s x))
 
-  module _ (h : Slot) (s : Tree) (x : Stands v first e h s) (f : is_directory e ≡ true) where
-    pub step_end : (d : fields.Entry) → next-live ≡ place.Nowhere → d ≡ blank_entry → TellsStep (step_from slot h s) (record { place = stepped.End; entry = d })
-    unfolding and_then
-    step_end d q b =
+  module _ (h : Slot) (s : Tree) (x : StandsAt (view_of card) directory h s) (f : is_directory (entry_of directory.page) ≡ true) where
+    pub step_end : next-live ≡ None → TellsStep (step_from slot h s) (Ok None)
+    step_end q =
         let y = lived h s x f in
         let z : y.0 ≡ none = rw q at y.2 in
-        rw (y.1, z) (record { slot = refl; entry = b })
+        tells-value (step_from slot h s) stepped_in none None (y.1 ∙ ap {B = Result (Maybe (ℕ × Entry))} ok z) refl
 
-    shown : (k p : ℕ) → next-live ≡ place.At k p → (d : Entry) × (v.entry p ≡ some d) × (step_from slot h s ≡ ok (some (k + 2, d)))
-    shown k p q =
+    shown : (at : Place) → next-live ≡ Some at → (d : Entry) × ((view_of card).entry at.page ≡ some d) × (step_from slot h s ≡ ok (some (at.slot + 2, d)))
+    shown at q =
         let y = lived h s x f in
-        let z : Shows v (place.At k p) y.0 = rw q at y.2 in
-        (z.0, z.1, y.1 ∙ ap {B = Result (Option (ℕ × Entry))} ok z.2)
+        let z : Shows (view_of card) (Some at) y.0 = rw q at y.2 in
+        (z.0, z.1, y.1 ∙ ap {B = Result (Maybe (ℕ × Entry))} ok z.2)
 
-    pub step-readable : (k p : ℕ) → next-live ≡ place.At k p → (d : Entry) × (v.entry p ≡ some d)
-    step-readable k p q = let y = shown k p q in (y.0, y.1)
+    pub step-readable : (at : Place) → next-live ≡ Some at → (d : Entry) × ((view_of card).entry at.page ≡ some d)
+    step-readable at q = let y = shown at q in (y.0, y.1)
 
-    pub step-slot : (k p : ℕ) → next-live ≡ place.At k p → (read : Entry) (d : fields.Entry) → v.entry p ≡ some read → d ≡ fields_of_entry read
-        → TellsStep (step_from slot h s) (record { place = stepped.Slot (k + 2); entry = d })
-    unfolding and_then
-    step-slot k p q read d i b = let y = shown k p q in told y.0 read y.2 (some_same _ _ (sym y.1 ∙ i)) b
-      where
-        told : (a a' : Entry) → step_from slot h s ≡ ok (some (k + 2, a)) → a ≡ a' → d ≡ fields_of_entry a' → TellsStep (step_from slot h s) (record { place = stepped.Slot (k + 2); entry = d })
-        told a a' i z b = rw i (record { slot = refl; entry = b ∙ ap fields_of_entry (sym z) })
+    pub step-slot : (at : Place) → next-live ≡ Some at → (read : Entry) (d : fields.Entry) → (view_of card).entry at.page ≡ some read → d ≡ fields_of_entry read
+        → TellsStep (step_from slot h s) (Ok (Some (record { slot = at.slot + 2; entry = d })))
+    step-slot at q read d i b =
+        let y = shown at q in
+        let same : y.0 ≡ read = some_same _ _ (sym y.1 ∙ i) in
+        let is_entry : d ≡ fields_of_entry y.0 = b ∙ ap fields_of_entry (sym same) in
+        tells-value (step_from slot h s) stepped_in (some (at.slot + 2, y.0)) (Some (record { slot = at.slot + 2; entry = d })) y.2 (rw is_entry)
 
--- the code's scan is the one asked for
-pub live-as : (v : View) (t : List ℕ) (first slot length start count len from : ℕ) {r : Place} → start ≡ next_of t first → count ≡ len - 2 → len ≡ length → from ≡ slot - 2
-    → r ≡ scan (living_from v from) (slot_pages t start 0 count) 0 → scan (living_from v (slot - 2)) (slot_pages t (next_of t first) 0 (length - 2)) 0 ≡ r
-live-as v t first slot length start count len from {r} a b c d e = scan-as (living_from v (slot - 2)) t first length start count len r a b c (rw d at e)
+  -- the code's scan is the one asked for
+  pub live-as : (start count len from : ℕ) {r : Option Place} → start ≡ next_of card.table.now directory.first → count ≡ len - 2 → len ≡ (entry_of directory.page).length → from ≡ slot - 2
+      → r ≡ scan (living_from (view_of card) from) (slot_pages card.table.now start 0 count) 0 → next-live ≡ r
+  live-as start count len from {r} a b c d e =
+      scan-as (living_from (view_of card) (slot - 2)) card.table.now directory.first (entry_of directory.page).length start count len r a b c (rw d at e)
 
 -- the step at a path is the one from the slot there
-pub step-at : (slot : ℕ) (x : Result (Option (ℕ × Entry))) (v : View) (first : ℕ) (e : Entry) (r : SteppedEntry)
-    → ((h : Slot) × (s : Tree) × Stands v first e h s × (x ≡ step_from slot h s)) → ((h : Slot) (s : Tree) → Stands v first e h s → TellsStep (step_from slot h s) r) → TellsStep x r
-step-at slot x v first e r y f = rw y.3 (f y.0 y.1 y.2)
+pub step-at : (slot : ℕ) (x : Result (Maybe (ℕ × Entry))) (v : View) (e : EntryAt) (r answer : Returned (Option Stepped) Refusal) → r ≡ answer
+    → ((h : Slot) × (s : Tree) × StandsAt v e h s × (x ≡ step_from slot h s)) → ((h : Slot) (s : Tree) → StandsAt v e h s → TellsStep (step_from slot h s) r) → TellsStep x answer
+step-at slot x v e r answer same y f = rw (y.3, ← same) (f y.0 y.1 y.2)

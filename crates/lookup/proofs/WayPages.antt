@@ -1,9 +1,11 @@
 -- The page of the entry to which names lead: it reads as the view's, and its number is the tree's own.
+use Rattle.std.specs.Prelude.{Some, None, Ok, Err}
+use Rattle.std.specs.Prelude.{Option, Result as Returned}
 use Prim.Native.Nat.{◌-◌, suc, ℕ}
 use mathlib.Core.Bool.{Bool, cond, false, true}
 use mathlib.Core.List.{List, [], ◌∷◌}
 use mathlib.Core.Logic.{⊎_elim}
-use mathlib.Core.Option.{Option, none, some}
+use mathlib.Core.Option.{Option as Maybe, none, some}
 use mathlib.Core.Path.{◌∙◌, ◌≡◌, ap, refl, sym}
 use native.Mathlib.Omega.{arith}
 use lib.ListN.{get_or}
@@ -18,79 +20,74 @@ use Rattle.model.specs.Tree.{Root, Slot, Tree, end, entry_pages, node, root_slot
 use Rattle.model.specs.View.{View}
 use Rattle.reached.specs.Table.{table_links}
 use Rattle.tree.specs.Slots.{next_of, slot_pages}
-use Rattle.lookup.specs.Descend.{Stands, at_root, descended, entered, landed, landed_at, nowhere, onward, pick_arrived}
+use Rattle.layout.specs.declared.Refusal.{Refusal}
+use Rattle.layout.specs.declared.Refusal.TheVariants as is
+use Rattle.lookup.specs.Descend.{StandsAt, at_root, descended, entered, landed, landed_at, onward}
 use Rattle.tree.specs.Scan.{bearing, scan}
 use Rattle.tree.specs.declared.along.Place.{Place}
-use Rattle.tree.specs.declared.along.Place.TheVariants as place
-use Rattle.lookup.specs.declared.way.Arrival.{Arrival}
-use Rattle.lookup.specs.declared.way.Arrival.TheVariants as arrival
-use Rattle.lookup.specs.declared.way.Arrived.{Arrived}
+use Rattle.lookup.specs.declared.way.EntryAt.{EntryAt}
 use Rattle.lookup.proofs.Arrivals.{Arrives, arrive, found-same}
 use Rattle.lookup.proofs.DescendLaws.{root-read}
-use Rattle.lookup.proofs.DescendSteps.{onward-absent, onward-kind, standing}
+use Rattle.lookup.proofs.DescendSteps.{onward-refused}
 use Rattle.lookup.proofs.EnterLaws.{enters, stands-chain, stands-held}
 use Rattle.lookup.proofs.SlotLaws.{name-at}
 
--- an arrival at an entry is neither refusal
-no-absent : {A : Type 0} (next : ℕ) → arrival.Absent ≡ arrival.At next → A
-no-absent next e = absurd (let z : ◌≡◌ {A = ℕ} 0 1 = cc in omega arith)
+-- a refusal is no entry
+no-entry : {A : Type 0} {r : Refusal} {e : EntryAt} → ◌≡◌ {A = Returned EntryAt Refusal} (Err r) (Ok e) → A
+no-entry e = absurd (let z : ◌≡◌ {A = ℕ} 0 1 = cc in omega arith)
 
-no_kind : {A : Type 0} (next : ℕ) → arrival.WrongKind ≡ arrival.At next → A
-no_kind next e = absurd (let z : ◌≡◌ {A = ℕ} 0 1 = cc in omega arith)
+entry-same : {a b : EntryAt} → ◌≡◌ {A = Returned EntryAt Refusal} (Ok a) (Ok b) → a ≡ b
+entry-same e = cc
 
 -- ---- in the code
 
 module _ (v : View) (t : List ℕ) where
   -- the page of an arrival at an entry is the view's
-  abbrev pub Shown : Arrived → Type 0
-  Shown a = (next : ℕ) → a.arrival ≡ arrival.At next → v.page a.at ≡ some a.page
+  abbrev pub Shown : Returned EntryAt Refusal → Type 0
+  Shown (Ok e) = v.page e.at ≡ some e.page
+  Shown (Err r) = Unit {0}
 
-  landed-shown : (p : ℕ) (o : Option (List ℕ)) → v.page p ≡ o → Shown (landed p o)
-  landed-shown p none e next f = no-absent next f
-  landed-shown p (some page) e next f = e
+  landed-shown : (p : ℕ) (o : Maybe (List ℕ)) → v.page p ≡ o → Shown (landed p o)
+  landed-shown p none e = tt
+  landed-shown p (some page) e = e
 
   entered-shown : (first : ℕ) (page : List ℕ) (n : Name) → Shown (entered v t first page n)
   unfolding entered
   entered-shown first page n = kind (is_directory (entry_of page)) (scan (bearing v n) (slot_pages t (next_of t first) 0 ((entry_of page).length - 2)) 0)
     where
-      kind : (b : Bool) (r : Place) → Shown (pick_arrived b (landed_at v r) (nowhere arrival.WrongKind))
-      kind false r next f = no_kind next f
-      kind true place.Nowhere next f = no-absent next f
-      kind true (place.At k p) next f = landed-shown p (v.page p) refl next f
+      kind : (b : Bool) (r : Option Place) → Shown (cond b (landed_at v r) (Err is.WrongKind))
+      kind false r = tt
+      kind true None = tt
+      kind true (Some at) = landed-shown at.page (v.page at.page) refl
 
-  onward-shown : (names : Path) (a : Arrived) → Shown a → Shown (onward v t a names)
+  onward-shown : (names : Path) (a : Returned EntryAt Refusal) → Shown a → Shown (onward v t a names)
   unfolding onward
   onward-shown [] a x = x
-  onward-shown (n ∷ names) a x = go a.arrival refl (λ first. onward-shown names (entered v t first a.page n) (entered-shown first a.page n))
-    where
-      go : (b : Arrival) → a.arrival ≡ b → ((first : ℕ) → Shown (onward v t (entered v t first a.page n) names)) → Shown (onward v t a (n ∷ names))
-      go arrival.Absent e later = rw (onward-absent v t a (n ∷ names) e) x
-      go arrival.WrongKind e later = rw (onward-kind v t a (n ∷ names) e) x
-      go (arrival.At first) e later = rw e (later first)
+  onward-shown (n ∷ names) (Ok e) x = onward-shown names (entered v t e.first e.page n) (entered-shown e.first e.page n)
+  onward-shown (n ∷ names) (Err r) x = tt
 
   pub descended-shown : (names : Path) → Shown (descended v t names)
   unfolding descended
   descended-shown names = onward-shown names (at_root (v.page 0)) (go (v.page 0) refl)
     where
-      go : (o : Option (List ℕ)) → v.page 0 ≡ o → Shown (at_root o)
-      go none e next f = no-absent next f
-      go (some page) e next f = e
+      go : (o : Maybe (List ℕ)) → v.page 0 ≡ o → Shown (at_root o)
+      go none e = tt
+      go (some page) e = e
 
   -- the page of an entry that was entered is that of the name's place
-  entered-place : (first : ℕ) (page : List ℕ) (n : Name) (next : ℕ) → (entered v t first page n).arrival ≡ arrival.At next
-      → (k : ℕ) × (scan (bearing v n) (slot_pages t (next_of t first) 0 ((entry_of page).length - 2)) 0 ≡ place.At k (entered v t first page n).at)
+  entered-place : (first : ℕ) (page : List ℕ) (n : Name) (e : EntryAt) → entered v t first page n ≡ Ok e
+      → (at : Place) × (scan (bearing v n) (slot_pages t (next_of t first) 0 ((entry_of page).length - 2)) 0 ≡ Some at) × (at.page ≡ e.at)
   unfolding entered
-  entered-place first page n next e = kind (is_directory (entry_of page)) (scan (bearing v n) (slot_pages t (next_of t first) 0 ((entry_of page).length - 2)) 0) e
+  entered-place first page n e f = kind (is_directory (entry_of page)) (scan (bearing v n) (slot_pages t (next_of t first) 0 ((entry_of page).length - 2)) 0) f
     where
-      read : (k p : ℕ) (o : Option (List ℕ)) → (landed p o).arrival ≡ arrival.At next → place.At k p ≡ place.At k (landed p o).at
-      read k p none f = no-absent next f
-      read k p (some page) f = refl
+      read : (p : ℕ) (o : Maybe (List ℕ)) → landed p o ≡ Ok e → p ≡ e.at
+      read p none f = no-entry f
+      read p (some page) f = ap (λ (a : EntryAt). a.at) (entry-same f)
 
-      kind : (b : Bool) (r : Place) → (pick_arrived b (landed_at v r) (nowhere arrival.WrongKind)).arrival ≡ arrival.At next
-          → (k : ℕ) × (r ≡ place.At k (pick_arrived b (landed_at v r) (nowhere arrival.WrongKind)).at)
-      kind false r f = no_kind next f
-      kind true place.Nowhere f = no-absent next f
-      kind true (place.At k p) f = (k, read k p (v.page p) f)
+      kind : (b : Bool) (r : Option Place) → cond b (landed_at v r) (Err is.WrongKind) ≡ Ok e → (at : Place) × (r ≡ Some at) × (at.page ≡ e.at)
+      kind false r f = no-entry f
+      kind true None f = no-entry f
+      kind true (Some at) f = (at, refl, read at.page (v.page at.page) f)
 
 -- ---- in the tree
 
@@ -131,52 +128,38 @@ found-by (found g u) h s e = found-same g h u s e
 -- ---- the two numbers are the same
 
 module _ (v : View) (t : List ℕ) (links : (c : ℕ) → v.link c ≡ table_links t c) (reads : (p : ℕ) → v.entry p ≡ decoded (v.page p)) where
-  entered-page : (first p : ℕ) (page : List ℕ) (n : Name) (next : ℕ) (h g : Slot) (s u : Tree) → Stands v first (entry_of page) h s → (entered v t first page n).arrival ≡ arrival.At next
-      → arrive h s (n ∷ []) ≡ ok (g, u) → (q : Path) → page_from h s p (n ∷ q) ≡ page_from g u (entered v t first page n).at q
-  entered-page first p page n next Slot.dead g s u x e a q = absurd x
-  entered-page first p page n next (Slot.file d cs ds) g s u x e a q = absurd (let z : ◌≡◌ {A = ℕ} 0 1 = cc in omega arith)
-  entered-page first p page n next (Slot.directory d cs) g s u x e a q =
-      let place = entered-place v t first page n next e in
-      let at = name-at v x.5.0 (slot_pages t (next_of t first) 0 ((entry_of page).length - 2)) s (stands-held v t links first (entry_of page) d cs s x) n place.0 (entered v t first page n).at place.1 in
-      let pages = (stands-chain v t links first (entry_of page) d cs s x).2 in
+  entered-page : (here next : EntryAt) (n : Name) (h g : Slot) (s u : Tree) → StandsAt v here h s → entered v t here.first here.page n ≡ Ok next
+      → arrive h s (n ∷ []) ≡ ok (g, u) → (q : Path) → page_from h s here.at (n ∷ q) ≡ page_from g u next.at q
+  entered-page here next n Slot.dead g s u x e a q = absurd x
+  entered-page here next n (Slot.file d cs ds) g s u x e a q = absurd (let z : ◌≡◌ {A = ℕ} 0 1 = cc in omega arith)
+  entered-page here next n (Slot.directory d cs) g s u x e a q =
+      let place = entered-place v t here.first here.page n next e in
+      let at = name-at v x.5.0 (slot_pages t (next_of t here.first) 0 ((entry_of here.page).length - 2)) s (stands-held v t links here.first (entry_of here.page) d cs s x) n place.0 place.1 in
+      let pages = (stands-chain v t links here.first (entry_of here.page) d cs s x).2 in
       page-inside n s (entry_pages (Slot.directory d cs)) q g u (found-by (look_in s (n ∷ [])) g u a)
-      ∙ ap (λ (p : ℕ). page_from g u p q) (ap (λ (ps : List ℕ). get_or ps (index_of n s) 0) pages ∙ rw at.0 (sym at.1))
+      ∙ ap (λ (p : ℕ). page_from g u p q) (ap (λ (ps : List ℕ). get_or ps (index_of n s) 0) pages ∙ rw at.0 (sym at.1) ∙ place.2)
 
-  -- the names after the first, from the entry that it leads to
-  next-page : (names : Path) → ((first p : ℕ) (page : List ℕ) (h : Slot) (s : Tree) (next : ℕ) → Stands v first (entry_of page) h s → (onward v t (standing first p page) names).arrival ≡ arrival.At next
-      → page_from h s p names ≡ (onward v t (standing first p page) names).at)
-      → (first p : ℕ) (page : List ℕ) (n : Name) (h : Slot) (s : Tree) (next : ℕ) → Stands v first (entry_of page) h s → (onward v t (entered v t first page n) names).arrival ≡ arrival.At next
-      → page_from h s p (n ∷ names) ≡ (onward v t (entered v t first page n) names).at
-  next-page names others first p page n h s next x e = go (entered v t first page n).arrival refl
-    where
-      on : (b : ℕ) → (entered v t first page n).arrival ≡ arrival.At b → (r : Result (Slot × Tree)) → arrive h s (n ∷ []) ≡ r → Arrives v r (arrival.At b) (entered v t first page n).page
-          → page_from h s p (n ∷ names) ≡ (onward v t (entered v t first page n) names).at
-      on b f (fault k c) a y = absurd y
-      on b f (ok z) a y =
-          let same : standing b (entered v t first page n).at (entered v t first page n).page ≡ entered v t first page n = rw (← f) in
-          entered-page first p page n b h z.0 s z.1 x f a names
-          ∙ others b (entered v t first page n).at (entered v t first page n).page z.0 z.1 next y (rw same e)
-          ∙ rw same
-
-      go : (b : Arrival) → (entered v t first page n).arrival ≡ b → page_from h s p (n ∷ names) ≡ (onward v t (entered v t first page n) names).at
-      go arrival.Absent f = no-absent next (sym (ap (λ (a : Arrived). a.arrival) (onward-absent v t (entered v t first page n) names f) ∙ f) ∙ e)
-      go arrival.WrongKind f = no_kind next (sym (ap (λ (a : Arrived). a.arrival) (onward-kind v t (entered v t first page n) names f) ∙ f) ∙ e)
-      go (arrival.At b) f = on b f (arrive h s (n ∷ [])) refl (rw f at (enters v t links reads first page n h s x))
-
-  onward-page : (names : Path) (first p : ℕ) (page : List ℕ) (h : Slot) (s : Tree) (next : ℕ) → Stands v first (entry_of page) h s → (onward v t (standing first p page) names).arrival ≡ arrival.At next
-      → page_from h s p names ≡ (onward v t (standing first p page) names).at
+  onward-page : (names : Path) (here last : EntryAt) (h : Slot) (s : Tree) → StandsAt v here h s → onward v t (Ok here) names ≡ Ok last → page_from h s here.at names ≡ last.at
   unfolding onward
-  onward-page [] first p page h s next x e = refl
-  onward-page (n ∷ names) first p page h s next x e = next-page names (λ first p page h s. onward-page names first p page h s) first p page n h s next x e
+  onward-page [] here last h s x e = ap (λ (a : EntryAt). a.at) (entry-same e)
+  onward-page (n ∷ names) here last h s x e =
+      go (entered v t here.first here.page n) refl (arrive h s (n ∷ [])) refl (enters v t links reads here.first here.page n h s x) e (λ next g u. onward-page names next last g u)
+    where
+      go : (a : Returned EntryAt Refusal) → entered v t here.first here.page n ≡ a → (r : Result (Slot × Tree)) → arrive h s (n ∷ []) ≡ r → Arrives v r a → onward v t a names ≡ Ok last
+          → ((next : EntryAt) (g : Slot) (u : Tree) → StandsAt v next g u → onward v t (Ok next) names ≡ Ok last → page_from g u next.at names ≡ last.at)
+          → page_from h s here.at (n ∷ names) ≡ last.at
+      go (Err k) f r a y z later = no-entry (sym (onward-refused v t k names) ∙ z)
+      go (Ok next) f (fault k c) a y z later = absurd y
+      go (Ok next) f (ok w) a y z later = entered-page here next n h w.0 s w.1 x f a names ∙ later next w.0 w.1 y z
 
-  pub descended-page : (root : Root) → HoldsCard v root → (names : Path) (next : ℕ) → (descended v t names).arrival ≡ arrival.At next → page_at_path root names ≡ (descended v t names).at
+  pub descended-page : (root : Root) → HoldsCard v root → (names : Path) (last : EntryAt) → descended v t names ≡ Ok last → page_at_path root names ≡ last.at
   unfolding descended
-  descended-page root card names next e = from names ∙ go (v.page 0) refl e
+  descended-page root card names last e = from names ∙ go (v.page 0) refl e
     where
       from : (names : Path) → page_at_path root names ≡ page_from (root_slot root) root.slots 0 names
       from [] = refl
       from (n ∷ q) = refl
 
-      go : (o : Option (List ℕ)) → v.page 0 ≡ o → (onward v t (at_root o) names).arrival ≡ arrival.At next → page_from (root_slot root) root.slots 0 names ≡ (onward v t (at_root o) names).at
-      go none z f = no-absent next (sym (ap (λ (a : Arrived). a.arrival) (onward-absent v t (nowhere arrival.Absent) names refl)) ∙ f)
-      go (some page) z f = onward-page names 0 0 page (root_slot root) root.slots next (root-read v reads root card page z) f
+      go : (o : Maybe (List ℕ)) → v.page 0 ≡ o → onward v t (at_root o) names ≡ Ok last → page_from (root_slot root) root.slots 0 names ≡ last.at
+      go none z f = no-entry (sym (onward-refused v t is.Absent names) ∙ f)
+      go (some page) z f = onward-page names (record { at = 0; first = 0; page = page }) last (root_slot root) root.slots (root-read v reads root card page z) f

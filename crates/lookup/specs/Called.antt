@@ -1,74 +1,54 @@
 -- What the way of a call answers, for the questions that go on from it.
-use Rattle.std.specs.Prelude.{ℕ, ◌≤◌, List, [], ◌≡◌, length, replicate, take}
+use Rattle.std.specs.Prelude.{ℕ, ◌<◌, ◌^◌, List, ◌≡◌, length, Option, Ok, Err}
+use Rattle.std.specs.Prelude.{Result as Returned}
 use Rattle.page.specs.declared.Format.{Format}
-use Rattle.page.specs.declared.Format.TheVariants.{Raw}
-use Rattle.fields.specs.PathBytes.{path_of}
+use Rattle.layout.specs.Mended.{mended_of}
 use Rattle.layout.specs.Refusal.{number_of, page_of}
-use Rattle.layout.specs.See.{on_image, view_by}
-use Rattle.layout.specs.declared.Geometry.{Geometry}
+use Rattle.layout.specs.See.{on_image}
 use Rattle.layout.specs.declared.Refusal.{Refusal}
 use Rattle.layout.specs.declared.Superblock.{Superblock}
 use Rattle.model.specs.Check.{Result, fault, ok}
-use Rattle.model.specs.Entry.{entry_of}
-use Rattle.model.specs.Holds.{HoldsCard}
 use Rattle.model.specs.Needed.{total_over}
-use Rattle.model.specs.Tree.{Root, Slot, Tree}
-use Rattle.model.specs.View.{View, most_clusters}
+use Rattle.model.specs.Tree.{Slot, Tree}
+use Rattle.tree.specs.Card.{view_of}
+use Rattle.tree.specs.Mended.{mended_page}
+use Rattle.tree.specs.declared.card.Card.{Card}
 use Rattle.lookup.specs.Answers.{TellsRead, TellsStep}
-use Rattle.lookup.specs.Descend.{Stands}
+use Rattle.lookup.specs.Descend.{StandsAt}
 use Rattle.lookup.specs.Mended.{ReadAdds, read_pages}
-use Rattle.lookup.specs.Paths.{found_at, standing_of, with_path}
+use Rattle.lookup.specs.Paths.{standing_of}
 use Rattle.lookup.specs.Read.{read_from}
 use Rattle.lookup.specs.Step.{step_from}
-use Rattle.lookup.specs.declared.call.Standing.{Standing}
-use Rattle.lookup.specs.declared.call.Standing.TheVariants as stood
 use Rattle.lookup.specs.declared.call.Stood.{Stood}
-use Rattle.lookup.specs.declared.reading.ReadOutcome.{ReadOutcome}
-use Rattle.lookup.specs.declared.stepping.SteppedEntry.{SteppedEntry}
+use Rattle.lookup.specs.declared.stepping.Stepped.{Stepped}
+use Rattle.lookup.specs.declared.way.EntryAt.{EntryAt}
 
--- the view of a card that stands open, by the words that the lent room has
-abbrev pub view_in : List ℕ → List ℕ → Standing → View
-view_in words image (stood.At end geometry first) = view_by geometry (take end words) image
-view_in words image (stood.Refused f) = view_by (record { format = Raw; offset = 0 }) [] image
+-- the refusal; or where the clusters of the image's card lie, and the entry of what stands at the path, as the card's view holds it
+abbrev pub TellsAs : List ℕ → Result (Superblock × Slot × Tree) → Returned Stood Refusal → Type 0
+TellsAs image (fault n p) (Err f) = (n ≡ number_of f) × (p ≡ page_of f)
+TellsAs image (fault n p) (Ok s) = ⊥
+TellsAs image (ok x) (Err f) = ⊥
+TellsAs image (ok x) (Ok s) = (s.card.image.now ≡ image) × (x.0.geometry ≡ s.card.geometry) × StandsAt (view_of s.card) s.entry x.1 x.2
 
-abbrev pub refused_as : Refusal → Stood
-refused_as f = record { standing = stood.Refused f; page = replicate 512 0 }
+-- of a whole call
+abbrev pub TellsStood : Format → List ℕ → List ℕ → Returned Stood Refusal → Type 0
+TellsStood format image bytes r = TellsAs image (standing_of format image bytes) r
 
--- the refusal; or where the card's clusters lie, and in the page the entry of what stands at the path, as the view holds it
-abbrev pub TellsAs : View → Result (Superblock × Slot × Tree) → Standing → List ℕ → Type 0
-TellsAs v (fault n p) (stood.Refused f) page = (n ≡ number_of f) × (p ≡ page_of f) × (page ≡ replicate 512 0)
-TellsAs v (fault n p) (stood.At end geometry first) page = ⊥
-TellsAs v (ok x) (stood.Refused f) page = ⊥
-TellsAs v (ok x) (stood.At end geometry first) page = (x.0.geometry ≡ geometry) × Stands v first (entry_of page) x.1 x.2
+-- the chunks that the check corrected
+abbrev pub TellsTotal : Format → List ℕ → Returned Stood Refusal → Type 0
+TellsTotal format image (Err f) = Unit {0}
+TellsTotal format image (Ok s) = (s.mended ≡ mended_of format image) × (s.mended < 2 ^ 32)
 
--- the numbers are those of the card given
-abbrev pub Of : Superblock → Standing → Type 0
-Of card (stood.At end geometry first) = (end ≡ card.end) × (geometry ≡ card.geometry)
-Of card (stood.Refused f) = Unit {0}
+-- ---- what is asked of an entry on a card, whatever stands there
 
--- of a way on one card: whatever tree its view holds
-abbrev pub TellsWay : View → Superblock → List ℕ → Stood → Type 0
-TellsWay v card bytes r = ((root : Root) → HoldsCard v root → TellsAs v (with_path (path_of bytes) (found_at card root)) r.standing r.page) × Of card r.standing
+abbrev pub StepsAt : Card → EntryAt → ℕ → Returned (Option Stepped) Refusal → Type 0
+StepsAt card e slot r = (h : Slot) (s : Tree) → StandsAt (view_of card) e h s → TellsStep (step_from slot h s) r
 
--- of a whole call, with the words in the room
-abbrev pub TellsStood : Format → List ℕ → List ℕ → List ℕ → Stood → Type 0
-TellsStood format words image bytes r = TellsAs (view_in words image r.standing) (standing_of format image bytes) r.standing r.page
-
--- the card's words fit the room
-abbrev pub Fits : Standing → Type 0
-Fits (stood.Refused f) = Unit {0}
-Fits (stood.At end geometry first) = end ≤ most_clusters
-
--- ---- what is asked of an entry's page and the cluster in which its chain begins, whatever stands there
-
-abbrev pub StepsAt : View → ℕ → List ℕ → ℕ → SteppedEntry → Type 0
-StepsAt v first page slot r = (h : Slot) (s : Tree) → Stands v first (entry_of page) h s → TellsStep (step_from slot h s) r
-
-abbrev pub ReadsAt : View → Geometry → ℕ → List ℕ → ℕ → ReadOutcome → List ℕ → List ℕ → Type 0
-ReadsAt v geometry first page from r before after =
-    (h : Slot) (s : Tree) → Stands v first (entry_of page) h s → TellsRead (on_image geometry (read_from from (length before) h s)) r before after
+abbrev pub ReadsAt : Card → EntryAt → ℕ → Returned ℕ Refusal → List ℕ → List ℕ → Type 0
+ReadsAt card e from r before after =
+    (h : Slot) (s : Tree) → StandsAt (view_of card) e h s → TellsRead (on_image card.geometry (read_from from (length before) h s)) r before after
 
 -- with the count: of a read that is accepted the chunks of the file's pages are added
-abbrev pub CountsAt : View → (ℕ → ℕ) → ℕ → List ℕ → ℕ → ReadOutcome → ℕ → ℕ → ℕ → Type 0
-CountsAt v mend first page from r room before after =
-    (h : Slot) (s : Tree) → Stands v first (entry_of page) h s → ReadAdds r before (total_over mend (read_pages from room h s)) after
+abbrev pub CountsAt : Card → EntryAt → ℕ → Returned ℕ Refusal → ℕ → ℕ → ℕ → Type 0
+CountsAt card e from r room before after =
+    (h : Slot) (s : Tree) → StandsAt (view_of card) e h s → ReadAdds r before (total_over (mended_page card.geometry card.image.now) (read_pages from room h s)) after

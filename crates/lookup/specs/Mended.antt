@@ -1,16 +1,16 @@
 -- What a call reports of the chunks that were corrected in the pages it needed, each page once (request 11 of document 02).
-use Rattle.std.specs.Prelude.{ℕ, ◌+◌, ◌<◌, ◌^◌, List, [], map, ◌≡◌}
+use Rattle.std.specs.Prelude.{ℕ, ◌+◌, ◌<◌, ◌^◌, List, [], map, ◌≡◌, Ok, Err}
+use Rattle.std.specs.Prelude.{Result as Returned}
 use Rattle.page.specs.declared.Format.{Format}
 use Rattle.page.specs.Mended.{wrapped}
 use Rattle.layout.specs.Mended.{mended_of, mended_over}
 use Rattle.layout.specs.See.{image_page}
+use Rattle.layout.specs.declared.Refusal.{Refusal}
 use Rattle.model.specs.Check.{Result, fault, ok}
 use Rattle.model.specs.Tree.{Slot, Tree}
 use Rattle.model.specs.View.{pages_of}
 use Rattle.lookup.specs.Paths.{at_path, on_card}
 use Rattle.lookup.specs.Read.{bytes_to_copy, pages_with}
-use Rattle.lookup.specs.declared.reading.ReadOutcome.{ReadOutcome}
-use Rattle.lookup.specs.declared.reading.ReadOutcome.TheVariants as reading
 
 module _ {A : Type 0} where
   -- a lent count afterwards: the total of a call that is accepted; a refused one leaves it
@@ -42,6 +42,6 @@ read_mended format image bytes offset count = mended_of format image + or_none (
 -- ---- as the code counts
 
 -- a read that is accepted added the chunks of its pages to the count, and they are few enough for 64 bits
-abbrev pub ReadAdds : ReadOutcome → ℕ → ℕ → ℕ → Type 0
-ReadAdds (reading.Bytes n) before total after = (wrapped after ≡ wrapped (before + total)) × (total < 2 ^ 40)
-ReadAdds (reading.Refused f) before total after = Unit {0}
+abbrev pub ReadAdds : Returned ℕ Refusal → ℕ → ℕ → ℕ → Type 0
+ReadAdds (Ok n) before total after = (wrapped after ≡ wrapped (before + total)) × (total < 2 ^ 40)
+ReadAdds (Err f) before total after = Unit {0}

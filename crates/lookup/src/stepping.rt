@@ -1,113 +1,49 @@
 // The next live entry of a directory.
-ghost use Rattle.std.specs.Prelude.{◌≡◌, ◌+◌, ◌≤◌, length, take};
-ghost use Rattle.layout.specs.See.{view_by};
-ghost use Rattle.lookup.specs.Answers.{TellsStep, told_step};
+ghost use Rattle.std.specs.Prelude.{◌≡◌, ◌+◌};
+ghost use Rattle.lookup.specs.Answers.{TellsStep};
 ghost use Rattle.layout.specs.Mended.{mended_of};
 ghost use Rattle.lookup.specs.Mended.{reported};
 ghost use Rattle.lookup.specs.Step.{step_of};
 ghost use Rattle.lookup.specs.Called.{StepsAt};
 
-use crate::call::{Standing, stand};
-use crate::finding::no_entry;
+use crate::call::stand;
+use crate::way::EntryAt;
 use fields::entries::{Entry, entry_of};
 use fields::kinds::is_directory;
 use fields::numbers::word_at;
-use layout::{Geometry, Refusal};
+use layout::Refusal;
 use model::MOST_CLUSTERS;
 use page::Format;
-use tree::along::{Place, first_live};
-use tree::slots::{next_of, read_slot, slots_of};
+use tree::card::Card;
+use tree::slots::{next_of, slots_of};
 
-// The slot that a directory step leads to.
-#[derive(Clone, Copy)]
-pub enum Stepped {
-    Slot(u32),
-    End,
-    Refused(Refusal),
-}
-
-// The answer of a directory step: the entry in the slot, which is blank at the end and on a refusal.
+// The slot that a directory step leads to, and the entry in it.
 #[derive(Drop)]
-pub struct SteppedEntry {
-    pub place: Stepped,
+pub struct Stepped {
+    pub slot: u32,
     pub entry: Entry,
 }
 
-// A step through the directory whose entry is in a page and whose chain begins with cluster `first`.
-fn step_in(
-    image: &[u8],
-    table: &[u32],
-    geometry: Geometry,
-    first: u32,
-    page: &[u8; 512],
-    slot: u32,
-) -> SteppedEntry
-    ensures { StepsAt (view_by geometry table.now image.now) first page.now slot result }
+// A step through a directory.
+fn step_in(card: &Card, directory: &EntryAt, slot: u32) -> Result<Option<Stepped>, Refusal>
+    ensures { StepsAt card.now directory.now slot result }
 {
-    if !is_directory(page) {
-        return SteppedEntry {
-            place: Stepped::Refused(Refusal::WrongKind),
-            entry: no_entry(),
-        };
+    if !is_directory(&directory.page) {
+        return Err(Refusal::WrongKind);
     }
-    let found = first_live(
-        image,
-        table,
-        geometry,
-        next_of(table, first),
-        slots_of(word_at(page, 0x04)),
-        slots_of(slot),
-    );
-    match found {
-        Place::Nowhere => SteppedEntry {
-            place: Stepped::End,
-            entry: no_entry(),
-        },
-        Place::At { slot: k, page: at } => {
-            let mut d = [0u8; 512];
-            if !read_slot(image, geometry, table.len(), at, &mut d) {
-                return SteppedEntry {
-                    place: Stepped::End,
-                    entry: no_entry(),
-                };
-            }
-            SteppedEntry {
-                place: Stepped::Slot(k + 2),
-                entry: entry_of(&d),
-            }
-        }
+    let start = next_of(card.table, directory.first);
+    let count = slots_of(word_at(&directory.page, 0x04));
+    let Some(place) = card.first_live(start, count, slots_of(slot)) else {
+        return Ok(None);
+    };
+    let mut page = [0u8; 512];
+    if !card.read_slot(place.page, &mut page) {
+        return Ok(None);
     }
-}
-
-// The same by the first `end` words of a table.
-fn step_words(
-    image: &[u8],
-    table: &[u32],
-    end: usize,
-    geometry: Geometry,
-    first: u32,
-    page: &[u8; 512],
-    slot: u32,
-) -> SteppedEntry
-    requires { end ≤ length table.now }
-    ensures { StepsAt (view_by geometry (take end table.now) image.now) first page.now slot result }
-{
-    step_in(image, &table[..end], geometry, first, page, slot)
-}
-
-// The lent count becomes the total where the step is no refusal.
-fn report_step(place: Stepped, total: usize, mended: &mut usize)
-    ensures { mended.new ≡ reported (told_step place) total mended.old }
-{
-    match place {
-        Stepped::Slot(_) => {
-            *mended = total;
-        }
-        Stepped::End => {
-            *mended = total;
-        }
-        Stepped::Refused(_) => {}
-    }
+    Ok(Some(Stepped {
+        slot: place.slot + 2,
+        entry: entry_of(&page),
+    }))
 }
 
 // The first live entry of the directory at a path from a slot on, never before slot 2, or the end. The lent count becomes that
@@ -118,29 +54,13 @@ pub fn step(
     path: &[u8],
     slot: u32,
     mended: &mut usize,
-) -> SteppedEntry
+) -> Result<Option<Stepped>, Refusal>
     ensures told { TellsStep (step_of format image.now path.now slot) result }
     ensures counted { mended.new ≡ reported (step_of format image.now path.now slot) (mended_of format image.now) mended.old }
 {
     let mut room = [0u32; MOST_CLUSTERS];
-    let mut total: usize = 0;
-    let stood = stand(format, image, path, &mut room, &mut total);
-    let standing = stood.standing;
-    match standing {
-        Standing::Refused(refusal) => SteppedEntry {
-            place: Stepped::Refused(refusal),
-            entry: no_entry(),
-        },
-        Standing::At {
-            end,
-            geometry,
-            first,
-        } => {
-            let page = stood.page;
-            let stepped = step_words(image, &room, end as usize, geometry, first, &page, slot);
-            let place = stepped.place;
-            report_step(place, total, mended);
-            stepped
-        }
-    }
+    let stood = stand(format, image, path, &mut room)?;
+    let stepped = step_in(&stood.card, &stood.entry, slot)?;
+    *mended = stood.mended;
+    Ok(stepped)
 }

@@ -1,126 +1,60 @@
 // From the root along the names of a path, from the left.
 ghost use Rattle.std.specs.Prelude.{◌≡◌};
-ghost use Rattle.layout.specs.See.{view_by};
+ghost use Rattle.tree.specs.Card.{view_of};
 ghost use Rattle.lookup.specs.Descend.{descended, entered, names_from};
 
 use fields::kinds::is_directory;
 use fields::numbers::word_at;
 use fields::paths::name_at;
-use layout::Geometry;
-use tree::along::{Place, find_name};
-use tree::slots::{next_of, read_slot, slots_of};
+use layout::Refusal;
+use tree::card::Card;
+use tree::slots::{next_of, slots_of};
 
-// Where a path leads: to an entry whose chain begins with a cluster, or the refusal.
-#[derive(Clone, Copy)]
-pub enum Arrival {
-    At(u32),
-    Absent,
-    WrongKind,
-}
-
-// An arrival with the entry there: its page's number, counted from the first allocatable cluster, and the page's data.
-// Both are zeros where the path leads nowhere.
+// An entry that was found: its page's number, counted from the first allocatable cluster, the cluster in which its chain
+// begins, and the page's data.
 #[derive(Drop)]
-pub struct Arrived {
-    pub arrival: Arrival,
+pub struct EntryAt {
     pub at: usize,
+    pub first: u32,
     pub page: [u8; 512],
 }
 
-// One name further: from the entry in a page, whose chain begins with cluster `first`, to the entry with this name in it.
-pub fn enter(
-    image: &[u8],
-    table: &[u32],
-    geometry: Geometry,
-    first: u32,
-    page: &[u8; 512],
-    name: &[u8],
-) -> Arrived
-    ensures { result ≡ entered (view_by geometry table.now image.now) table.now first page.now name.now }
+// One name further: from a directory to the entry with this name in it.
+pub fn enter(card: &Card, directory: &EntryAt, name: &[u8]) -> Result<EntryAt, Refusal>
+    ensures { result ≡ entered (view_of card.now) card.now.table.now directory.now.first directory.now.page name.now }
 {
-    let mut d = [0u8; 512];
-    if !is_directory(page) {
-        return Arrived {
-            arrival: Arrival::WrongKind,
-            at: 0,
-            page: d,
-        };
+    if !is_directory(&directory.page) {
+        return Err(Refusal::WrongKind);
     }
-    let place = find_name(
-        image,
-        table,
-        geometry,
-        next_of(table, first),
-        slots_of(word_at(page, 0x04)),
-        name,
-    );
-    match place {
-        Place::Nowhere => Arrived {
-            arrival: Arrival::Absent,
-            at: 0,
-            page: d,
-        },
-        Place::At { slot: _, page: at } => {
-            if !read_slot(image, geometry, table.len(), at, &mut d) {
-                return Arrived {
-                    arrival: Arrival::Absent,
-                    at: 0,
-                    page: d,
-                };
-            }
-            let next = word_at(&d, 0x10);
-            Arrived {
-                arrival: Arrival::At(next),
-                at: at,
-                page: d,
-            }
-        }
+    let start = next_of(card.table, directory.first);
+    let count = slots_of(word_at(&directory.page, 0x04));
+    let place = card.find_name(start, count, name).ok_or(Refusal::Absent)?;
+    let mut page = [0u8; 512];
+    if !card.read_slot(place.page, &mut page) {
+        return Err(Refusal::Absent);
     }
+    Ok(EntryAt {
+        at: place.page,
+        first: word_at(&page, 0x10),
+        page,
+    })
 }
 
 // Where the first `count` names of a path lead from the root.
-pub fn descend(
-    image: &[u8],
-    table: &[u32],
-    geometry: Geometry,
-    path: &[u8],
-    count: usize,
-) -> Arrived
-    ensures { result ≡ descended (view_by geometry table.now image.now) table.now (names_from path.now 0 count) }
+pub fn descend(card: &Card, path: &[u8], count: usize) -> Result<EntryAt, Refusal>
+    ensures { result ≡ descended (view_of card.now) card.now.table.now (names_from path.now 0 count) }
 {
     let mut page = [0u8; 512];
-    if !read_slot(image, geometry, table.len(), 0, &mut page) {
-        return Arrived {
-            arrival: Arrival::Absent,
-            at: 0,
-            page: page,
-        };
+    if !card.read_slot(0, &mut page) {
+        return Err(Refusal::Absent);
     }
-    let mut first: u32 = 0;
-    let mut at: usize = 0;
-    let mut i: usize = 0;
-    while i < count {
-        let a = enter(image, table, geometry, first, &page, name_at(path, i));
-        let arrival = a.arrival;
-        match arrival {
-            Arrival::Absent => {
-                return a;
-            }
-            Arrival::WrongKind => {
-                return a;
-            }
-            Arrival::At(next) => {
-                first = next;
-                at = a.at;
-                let d = a.page;
-                page = d;
-            }
-        }
-        i += 1;
+    let mut here = EntryAt {
+        at: 0,
+        first: 0,
+        page,
+    };
+    for i in 0..count {
+        here = enter(card, &here, name_at(path, i))?;
     }
-    Arrived {
-        arrival: Arrival::At(first),
-        at: at,
-        page: page,
-    }
+    Ok(here)
 }

@@ -25,6 +25,9 @@ pub const LIST_WORDS: usize = 32;
 
 pub const NO_BLOCK: u32 = 0xFFFF_FFFF;
 
+// A word that names no cluster: the first cluster of an empty file, and the end of a chain.
+pub const END_MARK: u32 = 0xFFFF_FFFF;
+
 // A day of the calendar, and a time as a calendar and a clock show it.
 #[derive(Clone, Copy)]
 pub struct Date {
@@ -33,7 +36,7 @@ pub struct Date {
     pub day: u32,
 }
 
-#[derive(Drop)]
+#[derive(Clone, Copy)]
 pub struct Moment {
     pub date: Date,
     pub hour: u32,

@@ -4,27 +4,21 @@ use Rattle.std.proofs.Common.{◌≡◌, ℕ, ◌+◌, ◌-◌, ◌*◌, ◌^◌
 use native.Mathlib.Nat.{pow-le-pow_right}
 use lib.Bits.{bit_xor, xor_lt}
 use Rattle.ecc.specs.declared.Code.{Code}
-use Rattle.ecc.specs.declared.FourVerdicts.{FourVerdicts}
+use Rattle.ecc.specs.declared.Four.{Four}
 use Rattle.ecc.specs.declared.Verdict.{Verdict}
 use Rattle.ecc.specs.declared.Verdict.TheVariants.{Good, DataBit, CodeBit, Unreadable}
 use Rattle.ecc.specs.Code.{code_of}
 use Rattle.ecc.specs.Four.{code_at, judge_four}
-use Rattle.ecc.specs.Judge.{judge, judge_slice, corrected}
+use Rattle.ecc.specs.Judge.{judge_slice, corrected, Placed}
 use Rattle.ecc.proofs.Codes.{code-path}
-use Rattle.ecc.proofs.Laws.{Placed as PlacedIn, judge-placed, slice_chunk}
-use Rattle.page.specs.Page.{part, chunk_of, stored_code, verdict_of, verdicts_of, Placed, fresh_code, code_bytes}
+use Rattle.ecc.proofs.Laws.{judge-placed, slice_chunk}
+use Rattle.page.specs.Page.{part, chunk_of, stored_code, verdict_of, verdicts_of, fresh_code, code_bytes}
 use Rattle.page.proofs.Lists.{length_part, lent-part, get_d_part, set-bytes}
 
 -- ---- laws of judging
 pub placed : (page : List ℕ) (k : ℕ) → Placed (verdict_of page k)
 unfolding verdict_of
-placed page k = go (judge (chunk_of page k) (stored_code page k)) (judge-placed (chunk_of page k) (stored_code page k))
-  where
-    go : (v : Verdict) → PlacedIn v → Placed v
-    go Good p = p
-    go (DataBit byte bit) p = p
-    go CodeBit p = p
-    go Unreadable p = p
+placed page k = judge-placed (chunk_of page k) (stored_code page k)
 
 -- correcting leaves bytes
 pub bit_byte : (j : ℕ) → j < 8 → 2 ^ j < 2 ^ 8
@@ -52,7 +46,7 @@ judged page k h b =
     ap (judge_slice (chunk_of page k)) (stored-code page k b)
     ∙ slice_chunk (chunk_of page k) (stored_code page k) (length_part page (128 * k) 128 (omega arith))
 
-pub judged-four : (page : List ℕ) {v : FourVerdicts} → length page ≡ 528
+pub judged-four : (page : List ℕ) {v : Four Verdict} → length page ≡ 528
     → v ≡ judge_four (part page 0 128) (part page 128 128) (part page 256 128) (part page 384 128) (part page 512 12) → v ≡ verdicts_of page
 judged-four page h e = e ∙ λ i. record {
   chunk0 = judged page 0 h (omega arith) i;

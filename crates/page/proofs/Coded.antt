@@ -5,14 +5,14 @@ use lib.Seq.{take-append-le, drop-append-le}
 use Rattle.ecc.specs.declared.Verdict.{Verdict}
 use Rattle.ecc.specs.declared.Verdict.TheVariants.{Good}
 use Rattle.ecc.specs.Code.{code_of}
-use Rattle.ecc.specs.Judge.{judge, corrected}
+use Rattle.ecc.specs.Judge.{judge, corrected, Placed}
 use Rattle.ecc.proofs.Laws.{fresh-good, length-corrected}
-use Rattle.page.specs.Page.{part, chunk_of, stored_code, verdict_of, Placed, corrected_data, is_readable, read_raw, fresh_code, coded_page}
+use Rattle.page.specs.Page.{part, put_at, chunk_of, stored_code, verdict_of, corrected_data, is_readable, read_raw, fresh_code, coded_page}
 use Rattle.page.proofs.Lists.{length_part, part_bytes, append-bytes}
 use Rattle.page.proofs.Chunks.{placed, corrected-bytes}
 
 -- ---- a raw page that is read
-pub length-chunk : (page : List ℕ) (v : Verdict) (k : ℕ) → length page ≡ 528 → k < 4 → length (corrected v (chunk_of page k)) ≡ 128
+length-chunk : (page : List ℕ) (v : Verdict) (k : ℕ) → length page ≡ 528 → k < 4 → length (corrected v (chunk_of page k)) ≡ 128
 length-chunk page v k h b = length-corrected v (chunk_of page k) ∙ length_part page (128 * k) 128 (omega arith)
 
 length-joined : (page : List ℕ) (v0 v1 v2 v3 : Verdict) → length page ≡ 528 → length (corrected_data page v0 v1 v2 v3) ≡ 512
@@ -51,6 +51,11 @@ read-bytes page d h e i =
     (joined_bytes page (verdict_of page 0) (verdict_of page 1) (verdict_of page 2) (verdict_of page 3) (placed page 0) (placed page 1) (placed page 2) (placed page 3) h i)
 
 -- ---- a raw page that is freshly coded
+-- a page after the codes of the first n chunks were stored in it
+abbrev pub with-codes : List ℕ → ℕ → List ℕ → List ℕ
+with-codes bytes zero page = page
+with-codes bytes (suc n) page = put_at (with-codes bytes n page) (512 + 3 * n) (fresh_code bytes n)
+
 -- the data and its codes, without the spare bytes that are kept
 abbrev pub front : List ℕ → List ℕ
 front bytes = bytes ++ (fresh_code bytes 0 ++ (fresh_code bytes 1 ++ (fresh_code bytes 2 ++ fresh_code bytes 3)))

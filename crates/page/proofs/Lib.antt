@@ -3,6 +3,7 @@ pub mod Chunks
 pub mod Coded
 pub mod Formats
 pub mod Puts
+pub mod Judging
 pub mod Laws
 pub mod Twins
 pub mod Mending

@@ -2,11 +2,12 @@
 use Rattle.std.proofs.Common.{◌≡◌, ℕ, ◌+◌, ◌^◌, ◌<◌, ◌≤◌, Bool, true, false, cond, List, length, sym, refl, ap, ◌∙◌, add_assoc, arith, ltb-true, le-ltb, lt-ltb}
 use mathlib.Core.Option.{none}
 use native.Mathlib.Nat.{mod-add-mod}
+use Rattle.ecc.specs.declared.Four.{Four}
 use Rattle.ecc.specs.declared.Verdict.TheVariants.{Good}
 use Rattle.page.specs.declared.Format.{Format}
 use Rattle.page.specs.declared.Format.TheVariants.{Plain, Raw}
-use Rattle.page.specs.declared.Mended.{Mended}
-use Rattle.page.specs.Mended.{chunks_in, mended_at, mended_by, mended_chunks, mended_raw, mended_stored, none_mended, one, wrapped}
+use Rattle.ecc.specs.Four.{one}
+use Rattle.page.specs.Mended.{chunks_in, mended_at, mended_by, mended_chunks, mended_raw, mended_stored, none_mended, wrapped}
 use Rattle.page.specs.Page.{is_inside, is_some, page_at, pages_in, read_raw, read_stored, stored_page, verdict_of}
 use Rattle.page.specs.Twins.{CodesMatch}
 use Rattle.page.proofs.Formats.{whole-inside}
@@ -36,7 +37,7 @@ pub count-on : (m x y : ℕ) {n : ℕ} → n ≡ wrapped (m + x) → wrapped (n 
 count-on m x y e = rw e (mod-add-mod (m + x) (2 ^ 64) y ∙ ap wrapped (add_assoc m x y))
 
 -- what is added is the count of the chunks told of the page
-pub chunks-added : (format : Format) (image : List ℕ) (p before : ℕ) {m : Mended} {n : ℕ} → m ≡ mended_at format image p → n ≡ wrapped (before + chunks_in m)
+pub chunks-added : (format : Format) (image : List ℕ) (p before : ℕ) {m : Four Bool} {n : ℕ} → m ≡ mended_at format image p → n ≡ wrapped (before + chunks_in m)
     → n ≡ wrapped (before + mended_chunks format image p)
 unfolding mended_chunks
 chunks-added format image p before e f = rw e at f

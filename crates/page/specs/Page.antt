@@ -1,13 +1,13 @@
 -- Pages of a card image and their code (RULES, "Pages and their code"). Each rule speaks of one page; only `pages_in`,
 -- `page_at` and `put` know how an image of each format keeps it. No crate above opens them: it goes by PageLaws.
-use Rattle.std.specs.Prelude.{◌≡◌, ℕ, ◌+◌, ◌*◌, ◌/◌, ◌<◌, Bool, true, false, cond, not, ◌&&◌, ◌||◌, List, [], ◌∷◌, ◌++◌, length, take, drop, ◌==◌, nat_lt, slice_index}
+use Rattle.std.specs.Prelude.{◌≡◌, ℕ, ◌+◌, ◌*◌, ◌/◌, Bool, true, false, cond, not, ◌&&◌, ◌||◌, List, [], ◌∷◌, ◌++◌, length, take, drop, ◌==◌, nat_lt, slice_index}
 use Rattle.std.proofs.Math.Option.{Option, none, some}
 use Rattle.ecc.specs.declared.Code.{Code}
-use Rattle.ecc.specs.declared.FourVerdicts.{FourVerdicts}
+use Rattle.ecc.specs.declared.Four.{Four}
 use Rattle.ecc.specs.declared.Verdict.{Verdict}
 use Rattle.ecc.specs.declared.Verdict.TheVariants.{Good, DataBit, CodeBit, Unreadable}
 use Rattle.ecc.specs.Code.{code_of}
-use Rattle.ecc.specs.Judge.{judge, corrected}
+use Rattle.ecc.specs.Judge.{judge, corrected, Placed}
 use Rattle.page.specs.declared.Format.{Format}
 use Rattle.page.specs.declared.Format.TheVariants.{Plain, Raw}
 
@@ -61,7 +61,7 @@ stored_code page k =
 unfoldable pub verdict_of : List ℕ → ℕ → Verdict
 verdict_of page k = judge (chunk_of page k) (stored_code page k)
 
-abbrev pub verdicts_of : List ℕ → FourVerdicts
+abbrev pub verdicts_of : List ℕ → Four Verdict
 verdicts_of page = record { chunk0 = verdict_of page 0; chunk1 = verdict_of page 1; chunk2 = verdict_of page 2; chunk3 = verdict_of page 3 }
 
 -- A chunk is good, corrected, or unreadable.
@@ -71,14 +71,12 @@ is_readable (DataBit byte bit) = true
 is_readable CodeBit = true
 is_readable Unreadable = false
 
--- the place that a verdict names lies in a chunk, as the functions that correct one ask
-abbrev pub Placed : Verdict → Type 0
-Placed Good = Unit {0}
-Placed (DataBit byte bit) = (byte < 128) × (bit < 8)
-Placed CodeBit = Unit {0}
-Placed Unreadable = Unit {0}
+-- All four chunks are.
+abbrev pub all_readable : Verdict → Verdict → Verdict → Verdict → Bool
+all_readable v0 v1 v2 v3 = is_readable v0 && (is_readable v1 && (is_readable v2 && is_readable v3))
 
-abbrev pub AllPlaced : FourVerdicts → Type 0
+-- the place that each verdict names lies in its chunk
+abbrev pub AllPlaced : Four Verdict → Type 0
 AllPlaced verdicts = Placed verdicts.chunk0 × Placed verdicts.chunk1 × Placed verdicts.chunk2 × Placed verdicts.chunk3
 
 -- the data of a raw page, each chunk as its verdict corrects it
@@ -88,8 +86,7 @@ corrected_data page v0 v1 v2 v3 =
 
 -- A page with an unreadable chunk is unreadable. Spare bytes 12 to 15 are ignored.
 abbrev pub data_by : List ℕ → Verdict → Verdict → Verdict → Verdict → Option (List ℕ)
-data_by page v0 v1 v2 v3 =
-    cond (is_readable v0 && (is_readable v1 && (is_readable v2 && is_readable v3))) (some (corrected_data page v0 v1 v2 v3)) none
+data_by page v0 v1 v2 v3 = cond (all_readable v0 v1 v2 v3) (some (corrected_data page v0 v1 v2 v3)) none
 
 unfoldable pub read_raw : List ℕ → Option (List ℕ)
 read_raw page = data_by page (verdict_of page 0) (verdict_of page 1) (verdict_of page 2) (verdict_of page 3)

@@ -3,16 +3,18 @@
 
 mod raw;
 
-ghost use Rattle.std.specs.Prelude.{◌≡◌, ◌+◌, ◌^◌, ◌<◌, ◌≤◌, length};
-ghost use Rattle.page.specs.Mended.{chunks_in, mended_at, mended_chunks, mended_stored, none_mended, one, wrapped};
-ghost use Rattle.page.specs.Page.{page_bytes, cluster_bytes, pages_in, page_start, stored_page, read_stored, is_some, Read, page_at, stored_as, same_bytes, holds, written, rewritten};
+ghost use Rattle.std.specs.Prelude.{◌≡◌, ◌+◌, ◌^◌, ◌<◌, is_some, length};
+ghost use Rattle.page.specs.Mended.{chunks_in, mended_at, mended_chunks, mended_in, mended_stored, wrapped};
+ghost use Rattle.page.specs.Page.{page_bytes, cluster_bytes, pages_in, page_start, stored_page, read_stored, is_some as has_data, Read, page_at, stored_as, holds, written, rewritten};
 ghost use Rattle.page.specs.PageLaws.{LawsOfPages};
 ghost use Rattle.page.specs.Twins.{TwinLaws};
 
-use raw::{judge_raw, read_raw, write_raw};
+use ecc::Four;
+use raw::{judge_raw, mended_by, read_raw, write_raw};
 
-// How an image keeps its pages: raw with their spare bytes, as a card does, or plain without them, as emulators do.
-#[derive(Clone, Copy)]
+// How an image keeps its pages: raw with their spare bytes, as a card does, or plain without them, as emulators do. Format and
+// image stay two parameters: C hands in two, a change is lent the image to write, and a clause would name the two parts.
+#[derive(Clone, Copy, PartialEq, Eq)]
 pub enum Format {
     Raw,
     Plain,
@@ -38,6 +40,7 @@ pub fn cluster_bytes(format: Format) -> usize
 }
 
 // How many pages an image holds whole. They are few enough to be added to without a carry.
+#[tactic(auto, unfolding(crate::specs::Page::pages_in))]
 pub fn page_count(format: Format, image: &[u8]) -> usize
     ensures { (result ≡ pages_in format (length image.now)) × (result < 2 ^ 63) }
 {
@@ -48,6 +51,7 @@ pub fn page_count(format: Format, image: &[u8]) -> usize
 }
 
 // The place of a page's first byte in an image that holds the page.
+#[tactic(auto, unfolding(crate::specs::Page::page_start))]
 fn page_start(format: Format, page: usize) -> usize
     requires { page_start format page < 2 ^ 64 }
     ensures { result ≡ page_start format page }
@@ -68,116 +72,80 @@ fn stored_page(format: Format, image: &[u8], page: usize) -> &[u8]
     &image[from..to]
 }
 
-// Which of a page's four chunks were corrected as it was read.
-#[derive(Drop)]
-pub struct Mended {
-    pub chunk0: bool,
-    pub chunk1: bool,
-    pub chunk2: bool,
-    pub chunk3: bool,
-}
+// What is told of a page in which no chunk was corrected.
+const NONE_MENDED: Four<bool> = Four {
+    chunk0: false,
+    chunk1: false,
+    chunk2: false,
+    chunk3: false,
+};
 
-// Whether a page has data, and which chunks of it were corrected.
-#[derive(Drop)]
-pub struct PageRead {
-    pub readable: bool,
-    pub mended: Mended,
-}
-
-// A page of which no chunk was corrected.
-fn unmended(readable: bool) -> PageRead
-    ensures { (result.readable ≡ readable) × (result.mended ≡ none_mended) }
-{
-    PageRead {
-        readable: readable,
-        mended: Mended {
-            chunk0: false,
-            chunk1: false,
-            chunk2: false,
-            chunk3: false,
-        },
-    }
-}
-
-// 1 for a chunk that was corrected.
-fn one(mended: bool) -> usize
-    ensures { (result ≡ one mended) × (result ≤ 1) }
-{
-    if mended {
-        return 1;
-    }
-    0
-}
-
-impl Mended {
-    // How many chunks were corrected.
-    pub fn count(self) -> usize
-        ensures { (result ≡ chunks_in self) × (result ≤ 4) }
-    {
-        one(self.chunk0) + one(self.chunk1) + one(self.chunk2) + one(self.chunk3)
-    }
-}
-
-// The data of a page by its bytes in the image is written to `out`; else `out` stays.
-fn read_stored(format: Format, page: &[u8], out: &mut [u8]) -> PageRead
-    requires { (length page.now ≡ page_bytes format) × (length out.old ≡ 512) }
-    ensures read { Read (read_stored format page.now) out.old result.readable out.new }
-    ensures mended { result.mended ≡ mended_stored format page.now }
+// The data of a page by its bytes in the image is written to `out`, and which chunks were corrected is told; else `out` stays.
+fn read_stored(format: Format, page: &[u8], out: &mut [u8; 512]) -> Option<Four<bool>>
+    requires { length page.now ≡ page_bytes format }
+    ensures read { Read (read_stored format page.now) out.old (is_some result) out.new }
+    ensures mended { mended_in result ≡ mended_stored format page.now }
 {
     match format {
-        Format::Raw => read_raw(page, out),
+        Format::Raw => read_raw(page.as_array()?, out),
         Format::Plain => {
             out.copy_from_slice(page);
-            unmended(true)
+            Some(NONE_MENDED)
         }
     }
 }
 
-// Reads page `page` into `out`, and tells which of its chunks were corrected. Not readable, and `out` as it was, where the
+// Reads page `page` into `out`, and tells which of its chunks were corrected. None, and `out` as it was, where the
 // page is unreadable or not in the image.
-pub fn read_page(format: Format, image: &[u8], page: usize, out: &mut [u8; 512]) -> PageRead
-    ensures read { Read (page_at format image.now page) out.old result.readable out.new }
-    ensures mended { result.mended ≡ mended_at format image.now page }
+pub fn read_page(
+    format: Format,
+    image: &[u8],
+    page: usize,
+    out: &mut [u8; 512],
+) -> Option<Four<bool>>
+    ensures read { Read (page_at format image.now page) out.old (is_some result) out.new }
+    ensures mended { mended_in result ≡ mended_at format image.now page }
 {
-    if page < page_count(format, image) {
-        return read_stored(format, stored_page(format, image, page), out);
+    if page >= page_count(format, image) {
+        return None;
     }
-    unmended(false)
+    read_stored(format, stored_page(format, image, page), out)
 }
 
 // What `read_stored` tells, without the data.
-fn judge_stored(format: Format, page: &[u8]) -> PageRead
+fn judge_stored(format: Format, page: &[u8]) -> Option<Four<bool>>
     requires { length page.now ≡ page_bytes format }
-    ensures readable { result.readable ≡ is_some (read_stored format page.now) }
-    ensures mended { result.mended ≡ mended_stored format page.now }
+    ensures readable { is_some result ≡ has_data (read_stored format page.now) }
+    ensures mended { mended_in result ≡ mended_stored format page.now }
 {
     match format {
-        Format::Raw => judge_raw(page).told,
-        Format::Plain => unmended(true),
+        Format::Raw => mended_by(judge_raw(page.as_array()?)),
+        Format::Plain => Some(NONE_MENDED),
     }
 }
 
 // What `read_page` tells, for a page whose data is not wanted.
-pub fn judge_page(format: Format, image: &[u8], page: usize) -> PageRead
-    ensures readable { result.readable ≡ is_some (page_at format image.now page) }
-    ensures mended { result.mended ≡ mended_at format image.now page }
+pub fn judge_page(format: Format, image: &[u8], page: usize) -> Option<Four<bool>>
+    ensures readable { is_some result ≡ has_data (page_at format image.now page) }
+    ensures mended { mended_in result ≡ mended_at format image.now page }
 {
-    if page < page_count(format, image) {
-        return judge_stored(format, stored_page(format, image, page));
+    if page >= page_count(format, image) {
+        return None;
     }
-    unmended(false)
+    judge_stored(format, stored_page(format, image, page))
 }
 
 // Adds the corrected chunks to a count, which wraps past 64 bits. Whether there is data is the answer.
-fn counted(read: PageRead, mended: &mut usize) -> bool
-    ensures readable { result ≡ read.readable }
-    ensures counted { mended.new ≡ wrapped (mended.old + chunks_in read.mended) }
+fn counted(read: Option<Four<bool>>, mended: &mut usize) -> bool
+    ensures readable { result ≡ is_some read }
+    ensures counted { mended.new ≡ wrapped (mended.old + chunks_in (mended_in read)) }
 {
-    *mended = std::num::wrapping_add_usize(*mended, read.mended.count());
-    read.readable
+    *mended = mended.wrapping_add(read.map_or(0, Four::count));
+    read.is_some()
 }
 
-// `read_page`, with the corrected chunks added to a count.
+// `read_page`, with the corrected chunks added to a count. Page and count are lent, so whether there is data is all that is
+// left to tell: a bool, since an Option would hold nothing.
 pub fn read_counted(
     format: Format,
     image: &[u8],
@@ -193,7 +161,7 @@ pub fn read_counted(
 
 // `judge_page`, in the same way.
 pub fn judge_counted(format: Format, image: &[u8], page: usize, mended: &mut usize) -> bool
-    ensures readable { result ≡ is_some (page_at format image.now page) }
+    ensures readable { result ≡ has_data (page_at format image.now page) }
     ensures counted { mended.new ≡ wrapped (mended.old + mended_chunks format image.now page) }
 {
     counted(judge_page(format, image, page), mended)
@@ -207,8 +175,8 @@ pub fn settled(count: usize) -> usize
 }
 
 // The data is stored in a page's bytes in the image, in a raw one with fresh codes.
-fn write_stored(format: Format, page: &mut [u8], bytes: &[u8])
-    requires { (length page.old ≡ page_bytes format) × (length bytes.now ≡ 512) }
+fn write_stored(format: Format, page: &mut [u8], bytes: &[u8; 512])
+    requires { length page.old ≡ page_bytes format }
     ensures { page.new ≡ stored_as format page.old bytes.now }
 {
     match format {
@@ -230,21 +198,12 @@ pub fn write_page(format: Format, image: &mut [u8], page: usize, bytes: &[u8; 51
     }
 }
 
-fn same_data(a: &[u8; 512], b: &[u8; 512]) -> bool
-    ensures { result ≡ same_bytes a.now b.now }
-{
-    check::same(a, b)
-}
-
 // Whether the page's data, as read, is `bytes`.
 fn holds_data(format: Format, image: &[u8], page: usize, bytes: &[u8; 512]) -> bool
     ensures { result ≡ holds (page_at format image.now page) bytes.now }
 {
     let mut old = [0u8; 512];
-    if read_page(format, image, page, &mut old).readable {
-        return same_data(&old, bytes);
-    }
-    false
+    read_page(format, image, page, &mut old).is_some() && old == *bytes
 }
 
 // Writes the data to page `page` where that changes its data as read; else the page stays as it is.

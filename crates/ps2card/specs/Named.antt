@@ -1,8 +1,7 @@
 -- A number's format as the code tells it.
-use Rattle.std.specs.Prelude.{ℕ}
+use Rattle.std.specs.Prelude.{ℕ, None, Option, Some}
+use Rattle.page.specs.declared.Format.{Format}
 use Rattle.ps2card.specs.Formats.{by_format}
-use Rattle.ps2card.specs.declared.formats.Named.{Named}
-use Rattle.ps2card.specs.declared.formats.Named.TheVariants.{Known, Unknown}
 
-abbrev pub named_by : ℕ → Named
-named_by number = by_format number Unknown Known
+abbrev pub named_by : ℕ → Option Format
+named_by number = by_format number None Some

@@ -1,23 +1,23 @@
 // The five changes, as C and Rust call them.
 ghost use Rattle.std.specs.Prelude.{◌≡◌};
-ghost use Rattle.change.specs.Answers.{told_answer};
 ghost use Rattle.change.specs.Changed.{path_in};
+ghost use Rattle.layout.specs.Refusal.{told};
 ghost use Rattle.model.specs.Change as is;
 ghost use Rattle.ps2card.specs.Answer.{number_in, page_after};
 ghost use Rattle.ps2card.specs.Formats.{change_by};
 
-use crate::formats::{Named, format_of};
+use crate::formats::format_of;
 use crate::tell_refusal;
-use change::{Answer, create, delete, make_dir, remove_dir, replace};
+use change::{create, delete, make_dir, remove_dir, replace};
 use layout::Refusal;
 
 // 0 where the change is made, or what its refusal tells.
-fn tell_answer(answer: Answer, page: &mut usize) -> u32
-    ensures { (result ≡ number_in (told_answer answer)) × (page.new ≡ page_after (told_answer answer) page.old) }
+fn tell_answer(answer: Result<(), Refusal>, page: &mut usize) -> u32
+    ensures { (result ≡ number_in (told answer)) × (page.new ≡ page_after (told answer) page.old) }
 {
     match answer {
-        Answer::Done => 0,
-        Answer::Refused(refusal) => tell_refusal(refusal, page),
+        Ok(()) => 0,
+        Err(refusal) => tell_refusal(refusal, page),
     }
 }
 
@@ -35,11 +35,10 @@ pub extern "C" fn ps2card_create(
     ensures page_after { page.new ≡ page_after (change_by format (is.create (path_in path.now) time.now bytes.now) image.old).answer page.old }
     ensures image_after { image.new ≡ (change_by format (is.create (path_in path.now) time.now bytes.now) image.old).image }
 {
-    let named = format_of(format);
-    match named {
-        Named::Unknown => tell_refusal(Refusal::BadLength, page),
-        Named::Known(known) => tell_answer(create(known, image, path, time, bytes), page),
-    }
+    let Some(known) = format_of(format) else {
+        return tell_refusal(Refusal::BadLength, page);
+    };
+    tell_answer(create(known, image, path, time, bytes), page)
 }
 
 // Replaces the bytes of the file at a path; its time of change becomes this time.
@@ -56,11 +55,10 @@ pub extern "C" fn ps2card_replace(
     ensures page_after { page.new ≡ page_after (change_by format (is.replace (path_in path.now) time.now bytes.now) image.old).answer page.old }
     ensures image_after { image.new ≡ (change_by format (is.replace (path_in path.now) time.now bytes.now) image.old).image }
 {
-    let named = format_of(format);
-    match named {
-        Named::Unknown => tell_refusal(Refusal::BadLength, page),
-        Named::Known(known) => tell_answer(replace(known, image, path, time, bytes), page),
-    }
+    let Some(known) = format_of(format) else {
+        return tell_refusal(Refusal::BadLength, page);
+    };
+    tell_answer(replace(known, image, path, time, bytes), page)
 }
 
 // Deletes the file at a path.
@@ -75,11 +73,10 @@ pub extern "C" fn ps2card_delete(
     ensures page_after { page.new ≡ page_after (change_by format (is.delete (path_in path.now)) image.old).answer page.old }
     ensures image_after { image.new ≡ (change_by format (is.delete (path_in path.now)) image.old).image }
 {
-    let named = format_of(format);
-    match named {
-        Named::Unknown => tell_refusal(Refusal::BadLength, page),
-        Named::Known(known) => tell_answer(delete(known, image, path), page),
-    }
+    let Some(known) = format_of(format) else {
+        return tell_refusal(Refusal::BadLength, page);
+    };
+    tell_answer(delete(known, image, path), page)
 }
 
 // Makes a directory at a path, with this time.
@@ -95,11 +92,10 @@ pub extern "C" fn ps2card_make_dir(
     ensures page_after { page.new ≡ page_after (change_by format (is.make_directory (path_in path.now) time.now) image.old).answer page.old }
     ensures image_after { image.new ≡ (change_by format (is.make_directory (path_in path.now) time.now) image.old).image }
 {
-    let named = format_of(format);
-    match named {
-        Named::Unknown => tell_refusal(Refusal::BadLength, page),
-        Named::Known(known) => tell_answer(make_dir(known, image, path, time), page),
-    }
+    let Some(known) = format_of(format) else {
+        return tell_refusal(Refusal::BadLength, page);
+    };
+    tell_answer(make_dir(known, image, path, time), page)
 }
 
 // Removes the empty directory at a path.
@@ -114,9 +110,8 @@ pub extern "C" fn ps2card_remove_dir(
     ensures page_after { page.new ≡ page_after (change_by format (is.remove_directory (path_in path.now)) image.old).answer page.old }
     ensures image_after { image.new ≡ (change_by format (is.remove_directory (path_in path.now)) image.old).image }
 {
-    let named = format_of(format);
-    match named {
-        Named::Unknown => tell_refusal(Refusal::BadLength, page),
-        Named::Known(known) => tell_answer(remove_dir(known, image, path), page),
-    }
+    let Some(known) = format_of(format) else {
+        return tell_refusal(Refusal::BadLength, page);
+    };
+    tell_answer(remove_dir(known, image, path), page)
 }

@@ -5,7 +5,7 @@ ghost use Rattle.convert.specs.Converted.{converted, output_after};
 ghost use Rattle.ps2card.specs.Answer.{number_in, page_after};
 
 use crate::tell_refusal;
-use convert::{Conversion, to_plain, to_raw};
+use convert::{to_plain, to_raw};
 
 // A raw image without its spare bytes; a refusal leaves the whole output.
 #[unsafe(no_mangle)]
@@ -15,8 +15,8 @@ pub extern "C" fn ps2card_to_plain(image: &[u8], out: &mut [u8], page: &mut usiz
     ensures out_after { out.new ≡ output_after (converted Raw Plain image.now (length out.old)) out.old }
 {
     match to_plain(image, out) {
-        Conversion::Refused(refusal) => tell_refusal(refusal, page),
-        Conversion::Done => 0,
+        Err(refusal) => tell_refusal(refusal, page),
+        Ok(()) => 0,
     }
 }
 
@@ -27,7 +27,7 @@ pub extern "C" fn ps2card_to_raw(image: &[u8], out: &mut [u8]) -> u32
     ensures out_after { out.new ≡ output_after (converted Plain Raw image.now (length out.old)) out.old }
 {
     match to_raw(image, out) {
-        Conversion::Refused(refusal) => refusal.number(),
-        Conversion::Done => 0,
+        Err(refusal) => refusal.number(),
+        Ok(()) => 0,
     }
 }

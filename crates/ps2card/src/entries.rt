@@ -4,14 +4,14 @@ ghost use Rattle.lookup.specs.Mended.{reported};
 ghost use Rattle.ps2card.specs.Answer.{entry_after, found_in, number_in, page_after, value_after};
 ghost use Rattle.ps2card.specs.Formats.{find_by, mended_by, step_by};
 
-use crate::formats::{Named, format_of};
+use crate::formats::format_of;
 use crate::tell_refusal;
 use fields::entries::Entry;
 use layout::Refusal;
-use lookup::finding::{Outcome, find};
-use lookup::stepping::{Stepped, step};
+use lookup::finding::find;
+use lookup::stepping::step;
 
-// Hands out every field of an entry.
+// Hands out every field of an entry, each to a place of its own: C's interface.
 fn hand_out(
     entry: Entry,
     mode: &mut u16,
@@ -74,22 +74,16 @@ pub extern "C" fn ps2card_find(
     ensures attribute_after { attribute.new ≡ value_after (λ e. e.attribute) (find_by format image.now path.now) attribute.old }
     ensures name_after { name.new ≡ value_after (λ e. e.name_field) (find_by format image.now path.now) name.old }
 {
-    let named = format_of(format);
-    match named {
-        Named::Unknown => tell_refusal(Refusal::BadLength, page),
-        Named::Known(known) => {
-            let found = find(known, image, path, mended);
-            let outcome = found.outcome;
-            match outcome {
-                Outcome::Refused(refusal) => tell_refusal(refusal, page),
-                Outcome::Found => {
-                    let entry = found.entry;
-                    hand_out(
-                        entry, mode, length, created, first, dir_entry, modified, attribute, name,
-                    );
-                    0
-                }
-            }
+    let Some(known) = format_of(format) else {
+        return tell_refusal(Refusal::BadLength, page);
+    };
+    match find(known, image, path, mended) {
+        Err(refusal) => tell_refusal(refusal, page),
+        Ok(entry) => {
+            hand_out(
+                entry, mode, length, created, first, dir_entry, modified, attribute, name,
+            );
+            0
         }
     }
 }
@@ -129,28 +123,30 @@ pub extern "C" fn ps2card_step(
     ensures attribute_after { attribute.new ≡ entry_after (λ x. x.1.attribute) (step_by format image.now path.now slot) attribute.old }
     ensures name_after { name.new ≡ entry_after (λ x. x.1.name_field) (step_by format image.now path.now slot) name.old }
 {
-    let named = format_of(format);
-    match named {
-        Named::Unknown => tell_refusal(Refusal::BadLength, page),
-        Named::Known(known) => {
-            let stepped = step(known, image, path, slot, mended);
-            let place = stepped.place;
-            match place {
-                Stepped::Refused(refusal) => tell_refusal(refusal, page),
-                Stepped::End => {
-                    *found = 0;
-                    0
-                }
-                Stepped::Slot(k) => {
-                    *found = 1;
-                    *at = k;
-                    let entry = stepped.entry;
-                    hand_out(
-                        entry, mode, length, created, first, dir_entry, modified, attribute, name,
-                    );
-                    0
-                }
-            }
+    let Some(known) = format_of(format) else {
+        return tell_refusal(Refusal::BadLength, page);
+    };
+    match step(known, image, path, slot, mended) {
+        Err(refusal) => tell_refusal(refusal, page),
+        Ok(None) => {
+            *found = 0;
+            0
+        }
+        Ok(Some(stepped)) => {
+            *found = 1;
+            *at = stepped.slot;
+            hand_out(
+                stepped.entry,
+                mode,
+                length,
+                created,
+                first,
+                dir_entry,
+                modified,
+                attribute,
+                name,
+            );
+            0
         }
     }
 }

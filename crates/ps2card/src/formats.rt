@@ -4,20 +4,13 @@ ghost use Rattle.ps2card.specs.Named.{named_by};
 
 use page::Format;
 
-#[derive(Drop)]
-pub(crate) enum Named {
-    Known(Format),
-    Unknown,
-}
-
-pub(crate) fn format_of(number: u32) -> Named
+// 0 and 1 are C's interface; every other number names no format. Each call tells so itself: a Result here would be as long there.
+pub(crate) fn format_of(number: u32) -> Option<Format>
     ensures { result ≡ named_by number }
 {
-    if number == 0 {
-        return Named::Known(Format::Raw);
+    match number {
+        0 => Some(Format::Raw),
+        1 => Some(Format::Plain),
+        _ => None,
     }
-    if number == 1 {
-        return Named::Known(Format::Plain);
-    }
-    Named::Unknown
 }

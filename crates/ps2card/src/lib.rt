@@ -13,9 +13,9 @@ ghost use Rattle.layout.specs.Refusal.{number_of, page_of};
 ghost use Rattle.ps2card.specs.Answer.{number_in, page_after, page_left, value_after};
 ghost use Rattle.ps2card.specs.Formats.{check_by};
 
-use formats::{Named, format_of};
+use formats::format_of;
 use layout::Refusal;
-use tree::{Checked, check};
+use tree::check;
 
 // The paper's number of a refusal; the page of an unreadable one goes to `page`.
 pub(crate) fn tell_refusal(refusal: Refusal, page: &mut usize) -> u32
@@ -50,20 +50,19 @@ pub extern "C" fn ps2card_check(
     ensures held_after { held.new ≡ value_after (λ c. c.held) (check_by format image.now) held.old }
     ensures mended_after { mended.new ≡ value_after (λ c. c.mended) (check_by format image.now) mended.old }
 {
-    let named = format_of(format);
-    match named {
-        Named::Unknown => tell_refusal(Refusal::BadLength, page),
-        Named::Known(known) => match check(known, image) {
-            Checked::Refused(refusal) => tell_refusal(refusal, page),
-            Checked::Card(counts) => {
-                *clusters = counts.clusters;
-                *free = counts.free;
-                *reached = counts.reached;
-                *orphaned = counts.orphaned;
-                *held = counts.held;
-                *mended = counts.mended;
-                0
-            }
-        },
+    let Some(known) = format_of(format) else {
+        return tell_refusal(Refusal::BadLength, page);
+    };
+    match check(known, image) {
+        Err(refusal) => tell_refusal(refusal, page),
+        Ok(counts) => {
+            *clusters = counts.clusters;
+            *free = counts.free;
+            *reached = counts.reached;
+            *orphaned = counts.orphaned;
+            *held = counts.held;
+            *mended = counts.mended;
+            0
+        }
     }
 }

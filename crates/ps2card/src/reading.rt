@@ -5,10 +5,10 @@ ghost use Rattle.lookup.specs.Mended.{reported};
 ghost use Rattle.ps2card.specs.Answer.{number_in, page_after, value_after};
 ghost use Rattle.ps2card.specs.Formats.{read_by, read_mended_by};
 
-use crate::formats::{Named, format_of};
+use crate::formats::format_of;
 use crate::tell_refusal;
 use layout::Refusal;
-use lookup::reading::{ReadOutcome, read};
+use lookup::reading::read;
 
 // Bytes of a file from an offset on, and how many, with the corrected chunks; a refusal leaves both numbers and the whole buffer,
 // an acceptance the rest of it.
@@ -29,15 +29,14 @@ pub extern "C" fn ps2card_read(
     ensures mended_after { mended.new ≡ reported (read_by format image.now path.now offset (length out.old)) (read_mended_by format image.now path.now offset (length out.old)) mended.old }
     ensures out_after { out.new ≡ buffer_after (read_by format image.now path.now offset (length out.old)) out.old }
 {
-    let named = format_of(format);
-    match named {
-        Named::Unknown => tell_refusal(Refusal::BadLength, page),
-        Named::Known(known) => match read(known, image, path, offset, out, mended) {
-            ReadOutcome::Refused(refusal) => tell_refusal(refusal, page),
-            ReadOutcome::Bytes(copied) => {
-                *count = copied;
-                0
-            }
-        },
+    let Some(known) = format_of(format) else {
+        return tell_refusal(Refusal::BadLength, page);
+    };
+    match read(known, image, path, offset, out, mended) {
+        Err(refusal) => tell_refusal(refusal, page),
+        Ok(copied) => {
+            *count = copied;
+            0
+        }
     }
 }

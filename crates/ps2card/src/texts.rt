@@ -3,7 +3,7 @@ ghost use Rattle.std.specs.Prelude.{◌≡◌, length};
 ghost use Rattle.listing.specs.Text.{fitted};
 ghost use Rattle.ps2card.specs.Formats.{list_by};
 
-use crate::formats::{Named, format_of};
+use crate::formats::format_of;
 use page::Format;
 
 // Writes as much of the listing as fits, or of a refusal's line, with times so many minutes ahead of Japan's, and answers how long the
@@ -13,10 +13,9 @@ pub extern "C" fn ps2card_list(format: u32, image: &[u8], minutes: i32, out: &mu
     ensures value { result ≡ length (list_by format image.now minutes) }
     ensures out_after { out.new ≡ fitted out.old (list_by format image.now minutes) }
 {
-    let named = format_of(format);
-    match named {
+    match format_of(format) {
+        Some(known) => listing::list(known, image, minutes, out),
         // An image of no bytes is the shortest that is refused with 1.
-        Named::Unknown => listing::list(Format::Raw, b"", minutes, out),
-        Named::Known(known) => listing::list(known, image, minutes, out),
+        None => listing::list(Format::Raw, b"", minutes, out),
     }
 }

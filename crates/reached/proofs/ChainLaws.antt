@@ -13,9 +13,9 @@ use lib.ListN.{get_or, length}
 use Rattle.model.proofs.Equality.{tf}
 use Rattle.model.proofs.Frame.{hit-0}
 use Rattle.model.specs.Check.{Marks, follow_chain, mark, marks, prepend}
-use Rattle.model.specs.Entry.{Entry, end_mark}
+use Rattle.model.specs.Entry.{end_mark}
 use Rattle.model.specs.Tree.{times}
-use Rattle.model.specs.View.{Link, View, first_link, most_clusters, top_bit}
+use Rattle.model.specs.View.{Link, View, most_clusters, top_bit}
 use Rattle.reached.specs.Chain.{broken, chain_from, chain_behind}
 use Rattle.reached.specs.Marks.{Keeps, marked, reach, turned}
 use Rattle.reached.specs.Table.{first_link_of, table_links}
@@ -55,13 +55,6 @@ module _ (t : List ℕ) (c : ℕ) where
 
       link-next : (get_or t c 0 ≡ end_mark → ⊥) → table_links t c ≡ Link.next (get_or t c 0 - top_bit)
       link-next n = rw (lt-ltb c (length t) inside, le-ltb (get_or t c 0) top_bit used, ne_eqb (get_or t c 0) end_mark n)
-
--- an entry's first link, and the root's
-pub link-entry : (e : Entry) → first_link e ≡ first_link_of e.first_cluster
-link-entry e = refl
-
-pub link-root : Link.next 0 ≡ first_link_of 0
-link-root = refl
 
 -- ---- one cluster more in front
 
@@ -161,21 +154,8 @@ module _ (t : List ℕ) (small : length t ≤ most_clusters) (v : View) (links :
       go (suc k) false e =
           rw (chain-some t r first (suc k) (λ z. omega arith)) (from-follows (suc k) r m first h)
 
-  -- By cases on the model's answer.
+  -- By cases on the code's answer.
   module _ (k first : ℕ) (r : Reached) (m : Marks) (h : Keeps r m) where
-    pub follow-some : (cs : List ℕ) → follow_chain v k (first_link_of first) m ≡ some cs → ChainGood t r m cs (chain_behind t r first k)
-    follow-some cs e = go (follow_chain v k (first_link_of first) m) e (follows k first r m h)
-      where
-        go : (o : Option (List ℕ)) → o ≡ some cs → Follows t r m o (chain_behind t r first k) → ChainGood t r m cs (chain_behind t r first k)
-        go o e f = rw e at f
-
-    pub follow-none : follow_chain v k (first_link_of first) m ≡ none → (chain_behind t r first k).sound ≡ false
-    follow-none e = go (follow_chain v k (first_link_of first) m) e (follows k first r m h)
-      where
-        go : (o : Option (List ℕ)) → o ≡ none → Follows t r m o (chain_behind t r first k) → (chain_behind t r first k).sound ≡ false
-        go o e f = rw e at f
-
-    -- by cases on the code's answer
     pub sound-some : (chain_behind t r first k).sound ≡ true → (cs : List ℕ) × (follow_chain v k (first_link_of first) m ≡ some cs) × ChainGood t r m cs (chain_behind t r first k)
     sound-some e = go (follow_chain v k (first_link_of first) m) refl (follows k first r m h)
       where

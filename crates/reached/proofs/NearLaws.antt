@@ -8,7 +8,8 @@ use mathlib.Core.Path.{◌∙◌, ◌≡◌, ap, refl, sym}
 use native.Mathlib.Decide.{ℕ_discrete}
 use native.Mathlib.Numerals.{sub-one}
 use native.Mathlib.Omega.{arith}
-use borrow.Author.Tests.{eq-eqb, lt-ltb, ne_eqb}
+use borrow.Author.Tests.{eq-eqb, eqb-true, lt-ltb, ltb-true, ne_eqb}
+use Rattle.model.proofs.Equality.{and_l, and_r}
 use lib.Dec.{eqb, eqb-suc-zero, ltb}
 use lib.ListN.{get_or, length}
 use Rattle.model.specs.Entry.{end_mark}
@@ -72,6 +73,12 @@ near_step t r sound c zero more near = absurd (omega arith)
 near_step t r sound c (suc k) more near =
     rw (eq-eqb (c / 64) r.at near)
     (step_by t r c k (ltb c (length t)) (ltb (get_or t c 0) top_bit) (current_mark r.current c) (eqb (get_or t c 0) end_mark))
+
+-- the same, by the loop's own test
+pub near-on : (t : List ℕ) (r : Reached) (sound : Bool) (c k : ℕ) → (ltb 0 k && eqb (c / 64) r.at) ≡ true
+    → near_from t r sound c k
+    ≡ near_from t (marked_by (step_at t r.current c k).marks r c) (step_at t r.current c k).sound (step_at t r.current c k).next (step_at t r.current c k).left
+near-on t r sound c k test = near_step t r sound c k (ltb-true 0 k (and_l _ _ test)) (eqb-true _ _ (and_r (ltb 0 k) _ test))
 
 -- ---- how far it comes
 

@@ -1,5 +1,5 @@
 // Which clusters may be taken, by the limit and the bad block list, and how many free table words there are of each kind.
-ghost use Rattle.std.specs.Prelude.{◌≡◌, eqb, length};
+ghost use Rattle.std.specs.Prelude.{◌≡◌, length};
 ghost use Rattle.model.specs.Counts.{block_of, is_listed, may_take_on, take_limit};
 ghost use Rattle.reached.specs.Blocks.{Knows};
 ghost use Rattle.reached.specs.Totals.{free_words, held_words};
@@ -18,23 +18,10 @@ pub fn take_limit(clusters: u32, end: usize) -> usize
 }
 
 // Whether a word of the list names the erase block.
-fn names_block(word: u32, block: usize) -> bool
-    ensures { result ≡ eqb word block }
-{
-    word as usize == block
-}
-
-// Whether any word of the list does.
 pub fn is_listed(bad: &[u32], block: usize) -> bool
     ensures { result ≡ is_listed bad.now block }
 {
-    let mut listed = false;
-    let mut i: usize = 0;
-    while i < bad.len() {
-        listed = listed | names_block(bad[i], block);
-        i += 1;
-    }
-    listed
+    bad.iter().any(|word| *word as usize == block)
 }
 
 // The erase block that was looked up last, and whether it is listed: the passes over the table go over the list once for
@@ -87,17 +74,15 @@ pub fn count_unused(table: &[u32], clusters: u32, offset: u32, bad: &[u32]) -> U
     let mut last = Looked::new(bad);
     let mut free: usize = 0;
     let mut held: usize = 0;
-    let mut i: usize = 0;
-    while i < table.len() {
+    for (i, word) in table.iter().enumerate() {
         last = last.at(bad, offset as usize + i);
         let takeable = (i < limit) & !last.listed;
-        if takeable & (table[i] < TOP_BIT) {
+        if takeable & (*word < TOP_BIT) {
             free += 1;
         }
-        if !takeable & (table[i] < TOP_BIT) {
+        if !takeable & (*word < TOP_BIT) {
             held += 1;
         }
-        i += 1;
     }
     Unused { free, held }
 }

@@ -2,10 +2,14 @@
 use Rattle.layout.specs.See.{image_page, page_in}
 use Rattle.layout.specs.declared.Geometry.{Geometry}
 use Rattle.std.proofs.Common.{◌≡◌, ℕ, ◌+◌, ◌*◌, ◌%◌, ◌^◌, ◌<◌, ◌≤◌, Bool, true, false, cond, eqb, ltb, List, sym, refl, ap, ◌∙◌, add-one, arith, ltb-false, ltb-true, eq-eqb, ne_eqb}
+use Rattle.std.specs.Prelude.{Result as Returned, Ok, Err}
 use mathlib.Core.Option.{Option, none, some}
 use native.Mathlib.Nat.{mod-mod}
 use Rattle.fields.specs.Kinds.{kind_of}
+use Rattle.fields.specs.declared.kinds.Kind.{Kind}
 use Rattle.fields.specs.declared.kinds.Kind.TheVariants as kind
+use Rattle.layout.specs.declared.Refusal.{Refusal}
+use Rattle.layout.specs.declared.Refusal.TheVariants as is
 use Rattle.model.proofs.Equality.{tf}
 use Rattle.model.specs.Entry.{Entry, entry_of, is_file, is_live, is_subdirectory}
 use Rattle.model.specs.Names.{Name}
@@ -13,12 +17,10 @@ use Rattle.model.specs.Pages.{decoded}
 use Rattle.model.specs.View.{View}
 use Rattle.page.specs.Mended.{wrapped}
 use Rattle.page.specs.Page.{Read, is_some, or_kept, page_at}
-use Rattle.tree.specs.declared.tasks.Look.{Look}
-use Rattle.tree.specs.declared.tasks.Look.TheVariants as look
 use Rattle.tree.specs.Mended.{count_after}
 use Rattle.tree.specs.Met.{Grows, Knows, hash_of, is_met, mark_of, most_pages, with_name}
 use Rattle.tree.specs.Slots.{cluster_at, live_before, live_hit, next_of, slot_page, cluster_after}
-use Rattle.tree.specs.Walk.{LookAdds, look_by, looked_at, pick_look}
+use Rattle.tree.specs.Walk.{looked_at}
 use Rattle.tree.proofs.MetLaws.{grows_self, knows-learnt, knows-new, knows-skip, learnt-grows}
 
 -- ---- a page that was read
@@ -46,13 +48,6 @@ read-adds {o} chunks n {count} k e = go o (sym k.readable ∙ e)
     go none h c = tf h refl
     go (some d) h c = rw c (mod-mod (n + chunks) (2 ^ 64))
 
-pub look-adds : (seen : Look) (n chunks count : ℕ) → wrapped count ≡ wrapped (n + chunks) → LookAdds seen n chunks count
-look-adds (look.Unreadable page) n chunks count h = tt
-look-adds look.Bad n chunks count h = h
-look-adds look.Dead n chunks count h = h
-look-adds (look.File len first) n chunks count h = h
-look-adds (look.Directory len first) n chunks count h = h
-
 -- a page that was read is one of the allocatable clusters
 pub read_low : (geometry : Geometry) (count : ℕ) (image : List ℕ) (page : ℕ) {before after : List ℕ} {r : Bool} → Read (page_in geometry count image page) before r after → r ≡ true → page < 2 * count
 unfolding page_in
@@ -71,24 +66,16 @@ step-even t c k x o e = rw (ne_eqb (k % 2) 1 o) e
 
 -- ---- the look
 
--- the entry's kind is what the look tells of a new name
+-- a live entry's kind is what the look tells of a new name
 look-kind : (e : Entry) → is_live e ≡ true
-    → pick_look (is_file e) (look.File e.length e.first_cluster) (pick_look (is_subdirectory e) (look.Directory e.length e.first_cluster) look.Bad) ≡ look_by (kind_of e)
+    → cond (is_file e) (kind.File e.length e.first_cluster) (cond (is_subdirectory e) (kind.Directory e.length e.first_cluster) kind.Bad) ≡ kind_of e
 unfolding kind_of
-look-kind e l =
-    go (is_file e) (is_subdirectory e)
-    ∙ ap (λ (b : Bool). look_by (cond b (cond (is_file e) (kind.File e.length e.first_cluster) (cond (is_subdirectory e) (kind.Directory e.length e.first_cluster) kind.Bad)) kind.Dead)) (sym l)
-  where
-    go : (a b : Bool) → pick_look a (look.File e.length e.first_cluster) (pick_look b (look.Directory e.length e.first_cluster) look.Bad)
-        ≡ look_by (cond a (kind.File e.length e.first_cluster) (cond b (kind.Directory e.length e.first_cluster) kind.Bad))
-    go true b = refl
-    go false true = refl
-    go false false = refl
+look-kind e l = rw l
 
 module _ (v : View) (t : List ℕ) (first start k : ℕ) (cells : List ℕ) (kn : Knows v t first start k cells) (c page : ℕ) (here : c ≡ cluster_at t start k) (at : page ≡ slot_page c k)
     (geometry : Geometry) where
   -- what a look answers, and what the cells then know
-  abbrev pub Looked : Look → List ℕ → Type 0
+  abbrev pub Looked : Returned Kind Refusal → List ℕ → Type 0
   Looked x after =
       (x ≡ looked_at (live_before v t start k) (image_page geometry (slot_page c k)) (v.entry (slot_page c k))) × (Knows v t first start (k + 1) after × Grows cells after)
 
@@ -98,11 +85,11 @@ module _ (v : View) (t : List ℕ) (first start k : ℕ) (cells : List ℕ) (kn 
   skip : ((n : Name) → live_hit (v.entry page) n ≡ 0) → Knows v t first start (k + 1) cells × Grows cells cells
   skip z = (rw (add-one k) (knows-skip v t first start k cells kn (λ n. rw (at, here) at (z n))), grows_self cells)
 
-  pub look-unread : (p : ℕ) → v.entry page ≡ none → p ≡ image_page geometry page → Looked (look.Unreadable p) cells
+  pub look-unread : (p : ℕ) → v.entry page ≡ none → p ≡ image_page geometry page → Looked (Err (is.UnreadablePage p)) cells
   look-unread p e q = (rw (← at, e, q), skip (λ n. rw e))
 
   module _ (e : Entry) (i : v.entry page ≡ some e) where
-    pub look-dead : is_live e ≡ false → Looked look.Dead cells
+    pub look-dead : is_live e ≡ false → Looked (Ok kind.Dead) cells
     look-dead l = (rw (← at, i, l), skip (λ n. rw (i, l)))
 
     module _ (l : is_live e ≡ true) (low : page < most_pages) (after : List ℕ)
@@ -115,27 +102,28 @@ module _ (v : View) (t : List ℕ) (first start k : ℕ) (cells : List ℕ) (kn 
           )
 
       -- the look at a live entry, by whether its name is taken
-      abbrev by_name : Bool → Look
+      abbrev by_name : Bool → Kind
       by_name new =
-          pick_look new (pick_look (is_file e) (look.File e.length e.first_cluster) (pick_look (is_subdirectory e) (look.Directory e.length e.first_cluster) look.Bad)) look.Bad
+          cond new (cond (is_file e) (kind.File e.length e.first_cluster) (cond (is_subdirectory e) (kind.Directory e.length e.first_cluster) kind.Bad)) kind.Bad
 
-      shown_by : (new : Bool) → eqb (live_before v t start k e.name) 0 ≡ new → looked_at (live_before v t start k) (image_page geometry (slot_page c k)) (v.entry (slot_page c k)) ≡ by_name new
+      shown_by : (new : Bool) → eqb (live_before v t start k e.name) 0 ≡ new
+          → looked_at (live_before v t start k) (image_page geometry (slot_page c k)) (v.entry (slot_page c k)) ≡ Ok (by_name new)
       shown_by new f =
           ap (looked_at (live_before v t start k) (image_page geometry (slot_page c k))) (ap v.entry (sym at) ∙ i)
-          ∙ ap (λ (b : Bool). pick_look b (by_name (eqb (live_before v t start k e.name) 0)) look.Dead) l
-          ∙ ap by_name f
+          ∙ ap (λ (b : Bool). Ok (cond b (by_name (eqb (live_before v t start k e.name) 0)) kind.Dead)) l
+          ∙ ap (λ (b : Bool). Ok (by_name b)) f
 
-      pub look-new : (x : Look) → x ≡ look_by (kind_of e) → live_before v t start k e.name ≡ 0 → Looked x after
-      look-new x q z = (q ∙ sym (look-kind e l) ∙ sym (shown_by true (eq-eqb _ 0 z)), met)
+      pub look-new : (x : Kind) → x ≡ kind_of e → live_before v t start k e.name ≡ 0 → Looked (Ok x) after
+      look-new x q z = (ap Ok (q ∙ sym (look-kind e l)) ∙ sym (shown_by true (eq-eqb _ 0 z)), met)
 
-      pub look-met : (x : Look) → x ≡ look_by (kind_of e) → (b : Bool) → b ≡ is_met v t first start k e.name cells → b ≡ false
-          → Looked x after
+      pub look-met : (x : Kind) → x ≡ kind_of e → (b : Bool) → b ≡ is_met v t first start k e.name cells → b ≡ false
+          → Looked (Ok x) after
       look-met x q b f g = look-new x q (knows-new v t first start k cells kn e.name (sym f ∙ g))
 
-      pub look-taken : (b : Bool) → b ≡ ltb 0 (live_before v t start k e.name) → b ≡ true → Looked look.Bad after
+      pub look-taken : (b : Bool) → b ≡ ltb 0 (live_before v t start k e.name) → b ≡ true → Looked (Ok kind.Bad) after
       look-taken b f g =
           let z : 0 < live_before v t start k e.name = ltb-true _ _ (sym f ∙ g) in
           (sym (shown_by false (ne_eqb (live_before v t start k e.name) 0 (λ w. omega arith))), met)
 
-      pub look-free : (x : Look) → x ≡ look_by (kind_of e) → (b : Bool) → b ≡ ltb 0 (live_before v t start k e.name) → b ≡ false → Looked x after
+      pub look-free : (x : Kind) → x ≡ kind_of e → (b : Bool) → b ≡ ltb 0 (live_before v t start k e.name) → b ≡ false → Looked (Ok x) after
       look-free x q b f g = let z : live_before v t start k e.name ≤ 0 = ltb-false _ _ (sym f ∙ g) in look-new x q (omega arith)

@@ -1,6 +1,6 @@
 -- The cells forget no name: a filled cell stays, so a search that found a name finds it again, and one that ended in an
 -- empty cell finds there what was put into it.
-use Rattle.std.proofs.Common.{◌≡◌, ℕ, zero, suc, ◌+◌, ◌-◌, ◌/◌, ◌%◌, ◌<◌, ◌≤◌, Bool, true, false, cond, ◌&&◌, ◌||◌, eqb, ◌⊎◌, List, length, get_or, set, sym, refl, ap, ◌∙◌, inl, inr, mod-lt, sub-one, arith, length-set, get_or-set_other, get_or-set_same, eq-eqb, ne_eqb, eqb-true}
+use Rattle.std.proofs.Common.{◌≡◌, ℕ, zero, suc, ◌+◌, ◌/◌, ◌%◌, ◌<◌, ◌≤◌, Bool, true, false, cond, ◌&&◌, ◌||◌, eqb, ◌⊎◌, List, length, get_or, set, sym, refl, ap, ◌∙◌, inl, inr, mod-lt, arith, length-set, get_or-set_other, get_or-set_same, eq-eqb, ne_eqb, eqb-true}
 use mathlib.Core.Option.{Option, some}
 use native.Mathlib.Decide.{ℕ_discrete}
 use borrow.Author.Tests.{eqb-false}
@@ -169,37 +169,21 @@ module _ (v : View) (t : List ℕ) (start k : ℕ) (n : Name) (mark page : ℕ) 
   unfolding known learnt
   search-over left e = rw e (refl, refl)
 
-  module _ (left : ℕ) (more : 0 < left) where
-    pub search-empty : get_or cells (cell_of h) 0 ≡ 0 → Ends left false (set cells (cell_of h) (word_of mark page))
-    search-empty e = go left more
-      where
-        go : (left : ℕ) → 0 < left → Ends left false (set cells (cell_of h) (word_of mark page))
-        go zero m = absurd (omega arith)
-        go (suc left) m =
-            (sym (known-one v t start n mark k cells h left ∙ rw (eq-eqb _ 0 e)), sym (learnt-one v t start n mark k page cells h left ∙ rw (eq-eqb _ 0 e)))
+  pub search-empty : (left : ℕ) → 0 < left → get_or cells (cell_of h) 0 ≡ 0 → Ends left false (set cells (cell_of h) (word_of mark page))
+  unfolding known learnt
+  search-empty zero more e = absurd (omega arith)
+  search-empty (suc left) more e = rw (eq-eqb _ 0 e) (refl, refl)
 
-    module _ (full : get_or cells (cell_of h) 0 ≡ 0 → ⊥) where
-      pub search-found : is_same v t start k n mark (get_or cells (cell_of h) 0) ≡ true → Ends left true cells
-      search-found e = go left more
-        where
-          go : (left : ℕ) → 0 < left → Ends left true cells
-          go zero m = absurd (omega arith)
-          go (suc left) m =
-              (sym (known-one v t start n mark k cells h left ∙ rw (ne_eqb _ 0 full, e)), sym (learnt-one v t start n mark k page cells h left ∙ rw (ne_eqb _ 0 full, e)))
+  pub search-found : (left : ℕ) → 0 < left → (get_or cells (cell_of h) 0 ≡ 0 → ⊥) → is_same v t start k n mark (get_or cells (cell_of h) 0) ≡ true → Ends left true cells
+  unfolding known learnt
+  search-found zero more full e = absurd (omega arith)
+  search-found (suc left) more full e = rw (ne_eqb _ 0 full, e) (refl, refl)
 
-      pub search-next : is_same v t start k n mark (get_or cells (cell_of h) 0) ≡ false
-          → (known v t start k n mark cells h left ≡ known v t start k n mark cells (mixed h 0) (left - 1))
-          × (learnt v t start k n mark page cells h left ≡ learnt v t start k n mark page cells (mixed h 0) (left - 1))
-      search-next e = go left more
-        where
-          go : (left : ℕ) → 0 < left
-              → (known v t start k n mark cells h left ≡ known v t start k n mark cells (mixed h 0) (left - 1))
-              × (learnt v t start k n mark page cells h left ≡ learnt v t start k n mark page cells (mixed h 0) (left - 1))
-          go zero m = absurd (omega arith)
-          go (suc left) m = (
-            known-one v t start n mark k cells h left ∙ rw (ne_eqb _ 0 full, e, sub-one (suc left)),
-            learnt-one v t start n mark k page cells h left ∙ rw (ne_eqb _ 0 full, e, sub-one (suc left)),
-          )
+  pub search-next : (left after : ℕ) → left ≡ suc after → (get_or cells (cell_of h) 0 ≡ 0 → ⊥) → is_same v t start k n mark (get_or cells (cell_of h) 0) ≡ false → (g : Hash) → g ≡ mixed h 0
+      → (known v t start k n mark cells h left ≡ known v t start k n mark cells g after)
+      × (learnt v t start k n mark page cells h left ≡ learnt v t start k n mark page cells g after)
+  unfolding known learnt
+  search-next left after l full e g f = rw (l, f, ne_eqb _ 0 full, e) (refl, refl)
 
 -- ---- what the cells know of a directory
 

@@ -1,9 +1,11 @@
 -- The root, and what the whole walk tells of the check.
 use Rattle.layout.specs.declared.Geometry.{Geometry}
 use Rattle.std.proofs.Common.{◌≡◌, ℕ, ◌+◌, ◌-◌, ◌≤◌, true, false, ◌&&◌, leb, List, [], ◌∷◌, ◌++◌, length, sym, refl, ap, ◌∙◌, arith, leb→le}
+use Rattle.std.specs.Prelude.{Result as Returned, Err}
 use mathlib.Core.Option.{Option, none, some}
 use mathlib.Core.Path.{fun_ext}
 use Rattle.page.specs.Mended.{wrapped}
+use Rattle.layout.specs.declared.Refusal.{Refusal}
 use Rattle.layout.specs.declared.Refusal.TheVariants as is
 use Rattle.layout.specs.See.{image_page, on_image}
 use Rattle.model.proofs.Equality.{and_r, to-T}
@@ -13,7 +15,7 @@ use Rattle.model.specs.Holds.{deepest}
 use Rattle.model.specs.Names.{dot_name, same_name}
 use Rattle.model.specs.Needed.{directory_pages, pages_below}
 use Rattle.model.proofs.NeededPages.{total-append}
-use Rattle.model.specs.Tree.{Root, Slot, Tree, entry_pages, times}
+use Rattle.model.specs.Tree.{Slot, Tree, entry_pages, times}
 use Rattle.model.specs.View.{Link, View, most_clusters}
 use Rattle.reached.proofs.ChainLaws.{broken-none, sound-some}
 use Rattle.reached.proofs.MarkLaws.{keeps-none}
@@ -22,10 +24,8 @@ use Rattle.reached.specs.Marks.{Sound, marks_of, no_marks}
 use Rattle.reached.specs.Table.{table_links}
 use Rattle.reached.specs.declared.Chain.{Chain}
 use Rattle.reached.specs.declared.Reached.{Reached}
-use Rattle.layout.specs.declared.Verdict.{Verdict}
-use Rattle.layout.specs.declared.Verdict.TheVariants as verdict
 use Rattle.tree.specs.Slots.{next_of, slot_pages}
-use Rattle.tree.specs.Walk.{Passes, Tells, dot_pages, inside_of, root_tallied, tallied}
+use Rattle.tree.specs.Walk.{Tells, dot_pages, inside_of, root_tallied, tallied}
 use Rattle.tree.proofs.ChainPages.{directory-pages, follow-chain}
 use Rattle.tree.proofs.SlotSteps.{entries-all}
 
@@ -45,14 +45,14 @@ unfolding and_then
 chain-step o cs f e = rw e
 
 module _ (v : View) (mend : ℕ → ℕ) (geometry : Geometry) (n : ℕ) where
-  pub root-unread : (p : ℕ) (r : Reached) (count : ℕ) → v.entry 0 ≡ none → p ≡ image_page geometry 0 → Tells (on_image geometry (root_tallied mend n (check_tree v))) (verdict.Refused (is.UnreadablePage p)) r count
+  pub root-unread : (p : ℕ) (count : ℕ) → v.entry 0 ≡ none → p ≡ image_page geometry 0 → Tells (on_image geometry (root_tallied mend n (check_tree v))) (Err (is.UnreadablePage p)) count
   unfolding check_tree and_then
-  root-unread p r count e q = rw e (refl, omega arith)
+  root-unread p count e q = rw e (refl, omega arith)
 
   module _ (e : Entry) (i : v.entry 0 ≡ some e) where
-    pub root-bad : (r : Reached) (count : ℕ) → is_root e ≡ false → Tells (on_image geometry (root_tallied mend n (check_tree v))) (verdict.Refused is.BadEntry) r count
+    pub root-bad : (count : ℕ) → is_root e ≡ false → Tells (on_image geometry (root_tallied mend n (check_tree v))) (Err is.BadEntry) count
     unfolding check_tree and_then
-    root-bad r count b = rw (i, b) (refl, refl)
+    root-bad count b = rw (i, b) (refl, refl)
 
     module _ (good : is_root e ≡ true) where
       opened : check_tree v
@@ -70,7 +70,7 @@ module _ (v : View) (mend : ℕ → ℕ) (geometry : Geometry) (n : ℕ) where
         walked-so : x ≡ chain_behind t no_marks 0 k
         walked-so = walked ∙ ap (λ r. chain_behind t r 0 k) fresh
 
-        pub root-broken : (count : ℕ) → x.sound ≡ false → Tells (on_image geometry (root_tallied mend n (check_tree v))) (verdict.Refused is.BadChain) x.reached count
+        pub root-broken : (count : ℕ) → x.sound ≡ false → Tells (on_image geometry (root_tallied mend n (check_tree v))) (Err is.BadChain) count
         unfolding and_then
         root-broken count b =
             let f : follow_chain v k (Link.next 0) (λ c. 0) ≡ none = broken-none t small v links k 0 no_marks (λ c. 0) keeps-none (rw walked-so at b) in
@@ -79,10 +79,10 @@ module _ (v : View) (mend : ℕ → ℕ) (geometry : Geometry) (n : ℕ) where
         pub root-sound : x.sound ≡ true → Sound x.reached
         root-sound b = let g = sound-some t small v links k 0 no_marks (λ c. 0) keeps-none (rw walked-so at b) in rw walked-so g.2.keeps.sound
 
-        pub root-good : x.sound ≡ true → (w : Verdict) (z : Reached) (count : ℕ) → Tells (on_image geometry (inside_of v mend deepest t 0 e.length (marks_of x.reached) n)) w z count
-            → Tells (on_image geometry (root_tallied mend n (check_tree v))) w z count
+        pub root-good : x.sound ≡ true → (w : Returned Reached Refusal) (count : ℕ) → Tells (on_image geometry (inside_of v mend deepest t 0 e.length (marks_of x.reached) n)) w count
+            → Tells (on_image geometry (root_tallied mend n (check_tree v))) w count
         unfolding inside_of
-        root-good b w z count h =
+        root-good b w count h =
             let g = sound-some t small v links k 0 no_marks (λ c. 0) keeps-none (rw walked-so at b) in
             let cs = g.0 in
             let f : follow_chain v (directory_clusters e) (Link.next 0) (λ c. 0) ≡ some cs = rw (← size) g.1 in
@@ -98,10 +98,3 @@ module _ (v : View) (mend : ℕ → ℕ) (geometry : Geometry) (n : ℕ) where
             ∙ ap (λ (xs : List ℕ). on_image geometry (tallied mend (dot_pages 0 ++ slots) n (and_then (judge_dots v xs) (λ y. walk_directory v deepest slots (λ n. 0) (times cs))))) d.1
             ∙ ap (λ (s : Marks). on_image geometry (tallied mend (dot_pages 0 ++ slots) n (and_then (judge_dots v (0 ∷ [])) (λ y. walk_directory v deepest slots (λ n. 0) s)))) (sym m) in
             rw same h
-
--- the verdict of the whole tree, and its count
-pub tells-passes : (mend : ℕ → ℕ) (geometry : Geometry) (n : ℕ) (r : Result (Root × Marks)) (x : Verdict) (q : Reached) (count : ℕ) → Tells (on_image geometry (root_tallied mend n r)) x q count → Passes mend n (on_image geometry r) x count
-tells-passes mend geometry n (fault k p) verdict.Sound q count h = absurd h
-tells-passes mend geometry n (fault k p) (verdict.Refused f) q count h = h
-tells-passes mend geometry n (ok m) verdict.Sound q count h = h.1
-tells-passes mend geometry n (ok m) (verdict.Refused f) q count h = absurd h

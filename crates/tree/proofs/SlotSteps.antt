@@ -6,6 +6,7 @@ use native.Mathlib.Nat.{mod-add-mod}
 use Rattle.page.specs.Mended.{wrapped}
 use Rattle.layout.specs.declared.Geometry.{Geometry}
 use Rattle.layout.specs.See.{image_page, on_image}
+use Rattle.fields.specs.declared.kinds.Kind.TheVariants as kind
 use Rattle.model.proofs.Equality.{and_r, of_T, to-T}
 use Rattle.model.specs.Check.{Deeper, Marks, Result, and_then, dots, fault, follow_chain, judge_dots, judge_entry, marks, ok, sound, walk_directory, walk_slots}
 use Rattle.model.specs.Entry.{Entry, directory_clusters, file_clusters, is_directory, is_file, is_live, is_subdirectory}
@@ -15,9 +16,8 @@ use Rattle.model.specs.Needed.{directory_pages, pages_below, total_over}
 use Rattle.model.specs.Tree.{Slot, Tree, chain_of, end, entry_pages, hit_name, name_hit, node}
 use Rattle.model.specs.View.{View, first_link, pages_of}
 use Rattle.reached.specs.Table.{table_links}
-use Rattle.tree.specs.declared.tasks.Look.TheVariants as look
 use Rattle.tree.specs.Slots.{live_hit, next_of, slot_pages}
-use Rattle.tree.specs.Walk.{dot_pages, entered_look, inside_of, looked_at, on_chain, pick_look, tallied}
+use Rattle.tree.specs.Walk.{dot_pages, entered_look, entered_read, inside_of, looked_at, on_chain, tallied}
 use Rattle.tree.proofs.ChainPages.{directory-pages, follow-chain}
 
 pub fault-ok : {A B : Type 0} (n p : ℕ) (a : A) → ◌≡◌ {A = Result A} (fault n p) (ok a) → B
@@ -215,7 +215,7 @@ module _ (v : View) (mend : ℕ → ℕ) (t : List ℕ) (links : (c : ℕ) → v
   live_in : (b : ℕ) (e : Entry) (file sub new : Bool) → is_subdirectory e ≡ sub
       → on_image geometry (and_then (cond (file && new) (sound (follow_chain v (file_clusters e) (first_link e) m) (λ cs. Slot.file e cs (map v.page (pages_of cs))))
       (cond (sub && ltb 0 b && new) (sound (follow_chain v (directory_clusters e) (first_link e) m) (λ cs. Slot.directory e cs)) (fault 7 0))) (λ h. after_entry v mend b m n h))
-      ≡ entered_look v mend geometry b t m n (pick_look new (pick_look file (look.File e.length e.first_cluster) (pick_look sub (look.Directory e.length e.first_cluster) look.Bad)) look.Bad)
+      ≡ entered_look v mend geometry b t m n (cond new (cond file (kind.File e.length e.first_cluster) (cond sub (kind.Directory e.length e.first_cluster) kind.Bad)) kind.Bad)
   unfolding and_then
   live_in b e true sub true s = file-in b e (follow_chain v (file_clusters e) (first_link e) m)
   live_in zero e false true true s = refl
@@ -232,17 +232,17 @@ module _ (v : View) (mend : ℕ → ℕ) (t : List ℕ) (links : (c : ℕ) → v
   live_in b e false false false s = refl
 
   -- The slot in page p gives what its look leads to.
-  pub enters : (b : ℕ) (seen : Name → ℕ) (p : ℕ) → on_image geometry (and_then (judge_entry v b seen m p (v.entry p)) (λ h. after_entry v mend b m n h)) ≡ entered_look v mend geometry b t m n (looked_at seen (image_page geometry p) (v.entry p))
+  pub enters : (b : ℕ) (seen : Name → ℕ) (p : ℕ) → on_image geometry (and_then (judge_entry v b seen m p (v.entry p)) (λ h. after_entry v mend b m n h)) ≡ entered_read v mend geometry b t m n (looked_at seen (image_page geometry p) (v.entry p))
   unfolding and_then
   enters b seen p = go (v.entry p)
     where
-      kind : (e : Entry) (l : Bool) → is_live e ≡ l
+      live : (e : Entry) (l : Bool) → is_live e ≡ l
           → on_image geometry (and_then (cond l (cond (is_file e && eqb (seen e.name) 0) (sound (follow_chain v (file_clusters e) (first_link e) m) (λ cs. Slot.file e cs (map v.page (pages_of cs))))
           (cond (is_subdirectory e && ltb 0 b && eqb (seen e.name) 0) (sound (follow_chain v (directory_clusters e) (first_link e) m) (λ cs. Slot.directory e cs)) (fault 7 0))) (ok Slot.dead)) (λ h. after_entry v mend b m n h))
-          ≡ entered_look v mend geometry b t m n (pick_look l (pick_look (eqb (seen e.name) 0) (pick_look (is_file e) (look.File e.length e.first_cluster) (pick_look (is_subdirectory e) (look.Directory e.length e.first_cluster) look.Bad)) look.Bad) look.Dead)
-      kind e true i = live_in b e (is_file e) (is_subdirectory e) (eqb (seen e.name) 0) refl
-      kind e false i = dead-in b
+          ≡ entered_look v mend geometry b t m n (cond l (cond (eqb (seen e.name) 0) (cond (is_file e) (kind.File e.length e.first_cluster) (cond (is_subdirectory e) (kind.Directory e.length e.first_cluster) kind.Bad)) kind.Bad) kind.Dead)
+      live e true i = live_in b e (is_file e) (is_subdirectory e) (eqb (seen e.name) 0) refl
+      live e false i = dead-in b
 
-      go : (o : Option Entry) → on_image geometry (and_then (judge_entry v b seen m p o) (λ h. after_entry v mend b m n h)) ≡ entered_look v mend geometry b t m n (looked_at seen (image_page geometry p) o)
+      go : (o : Option Entry) → on_image geometry (and_then (judge_entry v b seen m p o) (λ h. after_entry v mend b m n h)) ≡ entered_read v mend geometry b t m n (looked_at seen (image_page geometry p) o)
       go none = refl
-      go (some e) = kind e (is_live e) refl
+      go (some e) = live e (is_live e) refl

@@ -1,5 +1,6 @@
 -- The counts of an image that passes the check add up, as the model's do.
 use Rattle.std.proofs.Common.{◌≡◌, ℕ, ◌+◌, List, refl}
+use Rattle.layout.proofs.Stages.{not-ok}
 use Rattle.layout.specs.declared.Superblock.{Superblock}
 use Rattle.layout.specs.See.{check_image, checked_by, on_image, see}
 use Rattle.layout.specs.Superblock.{may_take_by}
@@ -8,7 +9,6 @@ use Rattle.model.proofs.CheckHolds.{ok-inj}
 use Rattle.model.proofs.ClaimsHold.{counts-add-up}
 use Rattle.model.specs.Check.{Marks, Result, and_then, check_tree, fault, ok}
 use Rattle.model.specs.Tree.{Root}
-use Rattle.tree.proofs.SlotSteps.{fault-ok}
 use Rattle.tree.specs.Counted.{CountsAddUp, check_of, counts_in, superblock_in}
 use Rattle.tree.specs.declared.Counts.{Counts}
 
@@ -23,13 +23,13 @@ module _ (image : List ℕ) (s : Superblock) (c : Counts) where
       → superblock_in (and_then (on_image t.geometry r) (λ x. ok (t, x.0, x.1))) ≡ ok s
       → and_then (and_then (on_image t.geometry r) (λ x. ok (t, x.0, x.1))) told-all ≡ ok c → Total
   unfolding and_then told-all
-  opened-adds t (fault n p) h e f = fault-ok _ _ _ e
+  opened-adds t (fault n p) h e f = not-ok _ _ _ e
   opened-adds t (ok x) h e f =
       rw (← ok-inj t s e, ← ok-inj (counts_in image t x.0) c f) (counts-add-up (may_take_by t) t.end (see t image) x.0 x.1 h)
 
   adds : (r : Result Superblock) → superblock_in (and_then r (checked_by image)) ≡ ok s → and_then (and_then r (checked_by image)) told-all ≡ ok c → Total
   unfolding and_then
-  adds (fault n p) e f = fault-ok n p s e
+  adds (fault n p) e f = not-ok n p s e
   adds (ok t) e f = opened-adds t (check_tree (see t image)) refl e f
 
 pub sums : CountsAddUp

@@ -1,6 +1,6 @@
 -- A scan along the slots of a directory, counted from slot 2, or the pages of a file: the first one that is looked for.
-use Rattle.std.specs.Prelude.{◌≡◌, ℕ, suc, ◌-◌, ◌<◌, Bool, true, false, not, ◌&&◌, List, [], ◌∷◌, nat_le}
-use Rattle.std.proofs.Math.Option.{Option, none, some}
+use Rattle.std.specs.Prelude.{◌≡◌, ℕ, suc, ◌-◌, ◌<◌, Bool, false, cond, not, ◌&&◌, List, [], ◌∷◌, Option, None, Some, nat_le}
+use Rattle.std.proofs.Math.Option.{Option as Maybe, none, some}
 use Rattle.model.specs.Bytes.{page_limit}
 use Rattle.model.specs.Entry.{Entry, is_live}
 use Rattle.model.specs.Names.{Name, same_name}
@@ -8,33 +8,30 @@ use Rattle.model.specs.View.{View}
 use Rattle.page.specs.Page.{is_some}
 use Rattle.tree.specs.Slots.{slot_pages}
 use Rattle.tree.specs.declared.along.Place.{Place}
-use Rattle.tree.specs.declared.along.Place.TheVariants as place
-use Rattle.tree.specs.declared.along.Sought.{Sought}
-use Rattle.tree.specs.declared.along.Sought.TheVariants as sought
-
-abbrev pub pick_place : Bool → Place → Place → Place
-pick_place true a b = a
-pick_place false a b = b
 
 -- the first slot that a test of slot and page takes
-unfoldable pub scan : (ℕ → ℕ → Bool) → List ℕ → ℕ → Place
-scan test [] k = place.Nowhere
-scan test (p ∷ ps) k = pick_place (test k p) (place.At k p) (scan test ps (suc k))
+unfoldable pub scan : (ℕ → ℕ → Bool) → List ℕ → ℕ → Option Place
+scan test [] k = None
+scan test (p ∷ ps) k = cond (test k p) (Some (record { slot = k; page = p })) (scan test ps (suc k))
 
 -- a slot is one of the `count` that were scanned, and its page one that two words can name
-abbrev pub Within : ℕ → Place → Type 0
-Within count place.Nowhere = Unit {0}
-Within count (place.At k p) = (p < page_limit) × (k < count)
+abbrev pub Within : ℕ → Option Place → Type 0
+Within count None = Unit {0}
+Within count (Some place) = (place.page < page_limit) × (place.slot < count)
 
 -- the answer of a scan: of the slots `low` to `high` - 1, and of the first `count`
-abbrev pub FirstFrom : (ℕ → ℕ → Bool) → List ℕ → ℕ → ℕ → ℕ → Place → Type 0
+abbrev pub FirstFrom : (ℕ → ℕ → Bool) → List ℕ → ℕ → ℕ → ℕ → Option Place → Type 0
 FirstFrom test table start low high r = (r ≡ scan test (slot_pages table start low (high - low)) low) × Within high r
 
-abbrev pub FirstOf : (ℕ → ℕ → Bool) → List ℕ → ℕ → ℕ → Place → Type 0
+abbrev pub FirstOf : (ℕ → ℕ → Bool) → List ℕ → ℕ → ℕ → Option Place → Type 0
 FirstOf test table start count r = (r ≡ scan test (slot_pages table start 0 count) 0) × Within count r
 
+-- what a call tells, true or false, is the test's answer
+abbrev pub Computes : (ℕ → ℕ → Bool → Type 0) → (ℕ → ℕ → Bool) → Type 0
+Computes post tests = (k p : ℕ) (r : Bool) → post k p r → r ≡ tests k p
+
 -- a live entry that bears the name
-abbrev pub bears : Name → Option Entry → Bool
+abbrev pub bears : Name → Maybe Entry → Bool
 bears n none = false
 bears n (some e) = is_live e && same_name e.name n
 
@@ -42,7 +39,7 @@ abbrev pub bearing : View → Name → ℕ → ℕ → Bool
 bearing v n k p = bears n (v.entry p)
 
 -- a live entry in slot `from` or a later one
-abbrev pub lives : Option Entry → Bool
+abbrev pub lives : Maybe Entry → Bool
 lives none = false
 lives (some e) = is_live e
 
@@ -50,7 +47,7 @@ abbrev pub living_from : View → ℕ → ℕ → ℕ → Bool
 living_from v from k p = nat_le from k && lives (v.entry p)
 
 -- a dead entry
-abbrev pub dies : Option Entry → Bool
+abbrev pub dies : Maybe Entry → Bool
 dies none = false
 dies (some e) = not (is_live e)
 
@@ -60,10 +57,3 @@ dying v k p = dies (v.entry p)
 -- a page that is unreadable
 abbrev pub unread : View → ℕ → ℕ → Bool
 unread v k p = not (is_some (v.page p))
-
--- what a scan looks for, as a test of slot and page
-abbrev pub seeks : View → Sought → Name → ℕ → ℕ → Bool
-seeks v sought.Named n = bearing v n
-seeks v (sought.LiveFrom from) n = living_from v from
-seeks v sought.Dead n = dying v
-seeks v sought.Unreadable n = unread v

@@ -6,15 +6,11 @@ use Rattle.page.proofs.read_page.Goals as goal
 pub returns-then-page-page_count : goal.returns-then-page-page_count
 returns-then-page-page_count c =
     let a = c.args in
-    let told = told-inside a.format a.image.now a.page c.page_count.ensures.0 (search rules) c.stored_page.ensures.0 in record {
-      read = rw told.0 c.read_stored.ensures.read;
-      mended = rw told.1 c.read_stored.ensures.mended;
-    }
+    let told = told-outside a.format a.image.now a.page c.page_count.ensures.0 (search rules) in
+    record { read = rw told.0 (record { readable = refl; buffer = refl }); mended = rw told.1 refl }
 
 pub returns : goal.returns
 returns c =
     let a = c.args in
-    let told = told-outside a.format a.image.now a.page c.page_count.ensures.0 (search rules) in record {
-      read = rw told.0 (record { readable = c.unmended.ensures.0; buffer = refl });
-      mended = rw told.1 c.unmended.ensures.1;
-    }
+    let told = told-inside a.format a.image.now a.page c.page_count.ensures.0 (search rules) c.stored_page.ensures.0 in
+    record { read = rw told.0 c.read_stored.ensures.read; mended = rw told.1 c.read_stored.ensures.mended }

@@ -2,7 +2,7 @@
 use Prim.Native.Nat.{◌<◌, ◌≤◌, ℕ}
 use mathlib.Core.Bool.{Bool, ◌&&◌, false}
 use mathlib.Core.List.{List}
-use mathlib.Core.Path.{◌∙◌, ◌≡◌, refl, sym}
+use mathlib.Core.Path.{◌∙◌, ◌≡◌, sym}
 use native.Mathlib.Decide.{ℕ_discrete}
 use native.Mathlib.Omega.{arith}
 use borrow.Author.Tests.{lt-ltb, ltb-false, ltb-true, ne_eqb}
@@ -29,21 +29,6 @@ over t r sound c left untold h = go (ℕ_discrete left 0)
         let past : most_clusters ≤ c = ltb-false _ _ (rw (lt-ltb 0 left more) at h) in
         rw (untold more, ne_eqb left 0 z, chain-past t r c left more past)
 
-pub loop-left-init : goal.loop-left-init
-loop-left-init c = (refl, (λ more. rw (ne_eqb c.args.clusters 0 (omega arith))), omega arith)
-
-pub overflow_cast-c : goal.overflow_cast-c
-overflow_cast-c c = omega arith
-
-pub overflow_cast-k : goal.overflow_cast-k
-overflow_cast-k c = omega arith
-
-pub turn-next-requires : goal.turn-next-requires
-turn-next-requires c =
-    let l = c.loop-left in
-    let small : l.c < most_clusters = ltb-true _ _ (and_r (ltb 0 l.left) _ c.loop-left-test.true) in
-    omega arith
-
 pub loop-left-smaller : goal.loop-left-smaller
 loop-left-smaller c =
     let l = c.loop-left in
@@ -69,7 +54,7 @@ loop-left-preserved c =
       | then-k-at w ↦ w.r-is ∙ turned-far l.r l.c w.if-k-at.true w.turn-next.new.words w.turn-next.result w.turn-next.ensures.0 w.turn-next.ensures.1
       | else-k-at w ↦ w.r-is ∙ sym (turned-near l.r l.c w.if-k-at.false)
     ] in
-    (l.invariant.0 ∙ near_again t l.r l.c l.left more near.result small (rw there at near.ensures) l.sound, near-untold-left t c.if-k-at.r l.c l.left more near.result near.ensures, omega arith)
+    (l.invariant.0 ∙ near_again t l.r l.c l.left more near.result small (rw there at near.ensures) l.sound, near-untold-left t c.if-k-at.r l.c l.left more near.result near.ensures)
 
 pub returns : goal.returns
 returns c =

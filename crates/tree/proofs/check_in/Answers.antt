@@ -1,28 +1,27 @@
 -- `tree::check_in` meets its contract: the card that was opened is walked and counted.
-use Rattle.std.proofs.Common.{◌∙◌}
-use Rattle.layout.proofs.Stages.{as-told}
-use Rattle.tree.proofs.CheckLaws.{check-bad, end_fits, table-loaded, table-room}
-use Rattle.tree.proofs.MendedLaws.{check-card, opening-fits}
+use Rattle.std.proofs.Common.{◌≡◌, Err, arith}
+use Rattle.tree.proofs.CheckLaws.{end_fits, refused, table-loaded, told-counts, unopened, walk-refused}
 use Rattle.tree.proofs.check_in.Goals as goal
 
-pub count_card-requires : goal.count_card-requires
-count_card-requires c =
+pub returns-in_err-opened : goal.returns-in_err-opened
+returns-in_err-opened c =
     let a = c.args in
-    let s = c.open_card-opened.result.superblock in
-    let e = as-told s c.in-Sound.is c.open_card-opened.ensures.opened in (
-      table-room a.format a.image.now s e _ _ c.open_card-opened.ensures.loaded,
-      end_fits a.format a.image.now s e,
-      opening-fits a.format a.image.now s e _ c.open_card-opened.ensures.mended,
-    )
+    let same : c.from_residual.result ≡ Err c.in_err-opened.field-0.0 = grind arith in
+    rw same (refused a.format a.image.now _ _ (unopened a.format a.image.now _ _ c.in_err-opened.ensures.opened)).counts
 
-pub returns-in-Refused : goal.returns-in-Refused
-returns-in-Refused c =
-    let a = c.args in
-    check-bad a.format a.image.now _ _ (as-told c.open_card-opened.result.superblock c.in-Refused.is c.open_card-opened.ensures.opened)
+pub shared_ref_as_front-words : goal.shared_ref_as_front-words
+shared_ref_as_front-words c = end_fits c.args.format c.args.image.now _ c.in_ok-opened.ensures.opened
 
-pub returns-in-Sound : goal.returns-in-Sound
-returns-in-Sound c =
+pub returns-in_err-r : goal.returns-in_err-r
+returns-in_err-r c =
     let a = c.args in
-    let s = c.open_card-opened.result.superblock in
-    let e = as-told s c.in-Sound.is c.open_card-opened.ensures.opened in
-    c.count_card.ensures ∙ check-card a.format a.image.now s e _ c.open_card-opened.ensures.mended _ (table-loaded a.format a.image.now s e _ _ c.open_card-opened.ensures.loaded)
+    let o = c.in_ok-opened.ensures in
+    let same : c.from_residual-in_err-r.result ≡ Err c.in_err-r.field-0.0 = grind arith in
+    rw same (refused a.format a.image.now _ _ (walk-refused a.format a.image.now _ o.opened _ o.mended _ (table-loaded a.format a.image.now _ o.opened _ _ o.loaded) _ _ c.in_err-r.ensures)).counts
+
+pub returns : goal.returns
+returns c =
+    let a = c.args in
+    let o = c.in_ok-opened.ensures in
+    told-counts a.format a.image.now _ o.opened _ o.mended _ (table-loaded a.format a.image.now _ o.opened _ _ o.loaded) _ c.in_ok-r.r c.in_ok-r.ensures _ c.settled.ensures.0 c.settled.ensures.1 _ _ _
+    c.count_unused-unused.ensures.0 c.count_orphans.ensures c.count_unused-unused.ensures.1

@@ -31,10 +31,6 @@ pub slice_bounds-list-end : goal.slice_bounds-list-end
 slice_bounds-list-end c =
     collected-inside c.collect_free-free.new.list c.collect_free-free.ensures.0 c.collect_free-free.ensures.1
 
-pub slice_bounds-add_listed-end : goal.slice_bounds-add_listed-end
-slice_bounds-add_listed-end c =
-    c.collect_free-free.ensures.0 ∙ ap length (sym c.collect_free-free.ensures.1)
-
 pub add_listed-requires : goal.add_listed-requires
 add_listed-requires c =
     let a = c.args in

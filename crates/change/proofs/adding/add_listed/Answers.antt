@@ -2,30 +2,9 @@
 use Prim.Native.Nat.{◌+◌, ◌-◌}
 use native.Mathlib.Omega.{arith}
 use Rattle.change.proofs.DeedSteps.{image-as}
-use Rattle.change.proofs.AddSteps.{Counted, both-fit, growth-long, lands-so, last-by, one-cluster, own-long, room-so, words-so, writes-so}
+use Rattle.change.proofs.AddSteps.{Counted, lands-so, last-by, one-cluster, own-long, room-so, words-so, writes-so}
 use Rattle.change.proofs.FreeLaws.{taken-low}
 use Rattle.change.proofs.adding.add_listed.Goals as goal
-
-pub overflow_add-end : goal.overflow_add-end
-overflow_add-end c =
-    let a = c.args in
-    let k : Counted a.s a.table.now a.list.now a.bytes.now a.directory a.new.dead c.word_at-entries.result c.growth_by-growing.result c.clusters_for.result =
-    record { entries-are = c.word_at-entries.ensures; growing-is = c.growth_by-growing.ensures; own_is = c.clusters_for.ensures; free = c.requires.0 } in
-    omega (arith, both-fit k)
-
-pub slice_bounds-growth-end : goal.slice_bounds-growth-end
-slice_bounds-growth-end c =
-    let a = c.args in
-    let k : Counted a.s a.table.now a.list.now a.bytes.now a.directory a.new.dead c.word_at-entries.result c.growth_by-growing.result c.clusters_for.result =
-    record { entries-are = c.word_at-entries.ensures; growing-is = c.growth_by-growing.ensures; own_is = c.clusters_for.ensures; free = c.requires.0 } in
-    growth-long k
-
-pub offset_bounds-list-growing : goal.offset_bounds-list-growing
-offset_bounds-list-growing c =
-    let a = c.args in
-    let k : Counted a.s a.table.now a.list.now a.bytes.now a.directory a.new.dead c.word_at-entries.result c.growth_by-growing.result c.clusters_for.result =
-    record { entries-are = c.word_at-entries.ensures; growing-is = c.growth_by-growing.ensures; own_is = c.clusters_for.ensures; free = c.requires.0 } in
-    omega (arith, both-fit k)
 
 pub overflow_cast-new : goal.overflow_cast-new
 overflow_cast-new c =

@@ -1,55 +1,58 @@
--- Each kind is its own function's outcome.
-use mathlib.Core.Path.{ap, subst}
+-- Each change is its own function's outcome; one that is of an entry is refused where there is none.
+use mathlib.Core.Path.{◌∙◌, ap, refl, subst}
+use native.Mathlib.Omega.{arith}
+use Rattle.change.specs.Calls.{DeleteLands, RemoveLands, ReplaceLands, deleted_entry, removed_entry, replaced_entry}
 use Rattle.change.specs.Kinds.{CanChange, changed_in}
-use Rattle.change.proofs.CallLaws.{leaves-as}
+use Rattle.change.proofs.CallLaws.{leaves-as, leaves-refused}
+use Rattle.change.proofs.EditAnswers.{can-there, edited-refused, edited-there}
 use Rattle.change.proofs.calls.change_in.Goals as goal
 
-pub add_in-requires : goal.add_in-requires
-add_in-requires c =
+pub create_in-requires : goal.create_in-requires
+create_in-requires c =
     let a = c.args in
-    subst (CanChange a.s a.image.now a.table.now a.directory a.name.now a.time.now a.bytes.now) c.in-Create.is c.requires
+    subst (CanChange a.s a.image.now a.table.now a.directory a.name.now) c.in-Create.is c.requires
 
-pub add_in-requires-in-Make : goal.add_in-requires-in-Make
-add_in-requires-in-Make c =
+pub replace_entry-requires : goal.replace_entry-requires
+replace_entry-requires c =
     let a = c.args in
-    subst (CanChange a.s a.image.now a.table.now a.directory a.name.now a.time.now a.bytes.now) c.in-Make.is c.requires
+    can-there a.s a.image.now a.table.now a.directory a.name.now c.in_ok-entry-in-Replace.ensures (ReplaceLands a.s a.image.now a.table.now a.directory c.in-Replace.time.now c.in-Replace.bytes.now) refl (subst (CanChange a.s a.image.now a.table.now a.directory a.name.now) c.in-Replace.is c.requires)
 
-pub edit_in-requires : goal.edit_in-requires
-edit_in-requires c =
+pub returns-in_err-entry-in-Replace : goal.returns-in_err-entry-in-Replace
+returns-in_err-entry-in-Replace c =
     let a = c.args in
-    subst (CanChange a.s a.image.now a.table.now a.directory a.name.now a.time.now a.bytes.now) c.in-Replace.is c.requires
+    leaves-refused (ap (changed_in a.s a.image.now a.table.now a.directory a.name.now) c.in-Replace.is ∙ edited-refused a.s a.image.now a.table.now a.directory a.name.now c.in_err-entry-in-Replace.ensures (λ entry. replaced_entry a.s a.image.now a.table.now a.directory entry c.in-Replace.time.now c.in-Replace.bytes.now) refl) (grind arith)
 
-pub edit_in-requires-in-Delete : goal.edit_in-requires-in-Delete
-edit_in-requires-in-Delete c =
+pub returns-in_ok-entry-in-Replace : goal.returns-in_ok-entry-in-Replace
+returns-in_ok-entry-in-Replace c =
     let a = c.args in
-    subst (CanChange a.s a.image.now a.table.now a.directory a.name.now a.time.now a.bytes.now) c.in-Delete.is c.requires
+    leaves-as (ap (changed_in a.s a.image.now a.table.now a.directory a.name.now) c.in-Replace.is ∙ edited-there a.s a.image.now a.table.now a.directory a.name.now c.in_ok-entry-in-Replace.ensures (λ entry. replaced_entry a.s a.image.now a.table.now a.directory entry c.in-Replace.time.now c.in-Replace.bytes.now) refl) c.replace_entry.ensures
 
-pub edit_in-requires-in-Remove : goal.edit_in-requires-in-Remove
-edit_in-requires-in-Remove c =
+pub delete_entry-requires : goal.delete_entry-requires
+delete_entry-requires c =
     let a = c.args in
-    subst (CanChange a.s a.image.now a.table.now a.directory a.name.now a.time.now a.bytes.now) c.in-Remove.is c.requires
+    can-there a.s a.image.now a.table.now a.directory a.name.now c.in_ok-entry-in-Delete.ensures (DeleteLands a.s a.image.now a.table.now a.directory) refl (subst (CanChange a.s a.image.now a.table.now a.directory a.name.now) c.in-Delete.is c.requires)
 
-pub returns-in-Create : goal.returns-in-Create
-returns-in-Create c =
+pub returns-in_err-entry-in-Delete : goal.returns-in_err-entry-in-Delete
+returns-in_err-entry-in-Delete c =
     let a = c.args in
-    leaves-as (ap (changed_in a.s a.image.now a.table.now a.directory a.name.now a.time.now a.bytes.now) c.in-Create.is) c.add_in.ensures
+    leaves-refused (ap (changed_in a.s a.image.now a.table.now a.directory a.name.now) c.in-Delete.is ∙ edited-refused a.s a.image.now a.table.now a.directory a.name.now c.in_err-entry-in-Delete.ensures (deleted_entry a.s a.image.now a.table.now a.directory) refl) (grind arith)
 
-pub returns-in-Make : goal.returns-in-Make
-returns-in-Make c =
+pub returns-in_ok-entry-in-Delete : goal.returns-in_ok-entry-in-Delete
+returns-in_ok-entry-in-Delete c =
     let a = c.args in
-    leaves-as (ap (changed_in a.s a.image.now a.table.now a.directory a.name.now a.time.now a.bytes.now) c.in-Make.is) c.add_in-in-Make.ensures
+    leaves-as (ap (changed_in a.s a.image.now a.table.now a.directory a.name.now) c.in-Delete.is ∙ edited-there a.s a.image.now a.table.now a.directory a.name.now c.in_ok-entry-in-Delete.ensures (deleted_entry a.s a.image.now a.table.now a.directory) refl) c.delete_entry.ensures
 
-pub returns-in-Replace : goal.returns-in-Replace
-returns-in-Replace c =
+pub remove_entry-requires : goal.remove_entry-requires
+remove_entry-requires c =
     let a = c.args in
-    leaves-as (ap (changed_in a.s a.image.now a.table.now a.directory a.name.now a.time.now a.bytes.now) c.in-Replace.is) c.edit_in.ensures
+    can-there a.s a.image.now a.table.now a.directory a.name.now c.in_ok-entry-in-Remove.ensures (RemoveLands a.s a.image.now a.table.now a.directory) refl (subst (CanChange a.s a.image.now a.table.now a.directory a.name.now) c.in-Remove.is c.requires)
 
-pub returns-in-Delete : goal.returns-in-Delete
-returns-in-Delete c =
+pub returns-in_err-entry-in-Remove : goal.returns-in_err-entry-in-Remove
+returns-in_err-entry-in-Remove c =
     let a = c.args in
-    leaves-as (ap (changed_in a.s a.image.now a.table.now a.directory a.name.now a.time.now a.bytes.now) c.in-Delete.is) c.edit_in-in-Delete.ensures
+    leaves-refused (ap (changed_in a.s a.image.now a.table.now a.directory a.name.now) c.in-Remove.is ∙ edited-refused a.s a.image.now a.table.now a.directory a.name.now c.in_err-entry-in-Remove.ensures (removed_entry a.s a.image.now a.table.now a.directory) refl) (grind arith)
 
-pub returns-in-Remove : goal.returns-in-Remove
-returns-in-Remove c =
+pub returns-in_ok-entry-in-Remove : goal.returns-in_ok-entry-in-Remove
+returns-in_ok-entry-in-Remove c =
     let a = c.args in
-    leaves-as (ap (changed_in a.s a.image.now a.table.now a.directory a.name.now a.time.now a.bytes.now) c.in-Remove.is) c.edit_in-in-Remove.ensures
+    leaves-as (ap (changed_in a.s a.image.now a.table.now a.directory a.name.now) c.in-Remove.is ∙ edited-there a.s a.image.now a.table.now a.directory a.name.now c.in_ok-entry-in-Remove.ensures (removed_entry a.s a.image.now a.table.now a.directory) refl) c.remove_entry.ensures

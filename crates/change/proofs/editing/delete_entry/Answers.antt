@@ -14,11 +14,7 @@ returns-then-either_locked c =
     let a = c.args in
     leaves (deleted-locked a.s a.image.now a.table.now a.directory a.entry (sym c.is_directory.ensures ∙ c.if-is_directory.false) (sym c.either_locked.ensures ∙ c.if-either_locked.true))
 
-pub take_away-requires : goal.take_away-requires
-take_away-requires c =
-    (c.requires.card, c.requires.lands (sym c.is_directory.ensures ∙ c.if-is_directory.false) (sym c.either_locked.ensures ∙ c.if-either_locked.false))
-
 pub returns : goal.returns
 returns c =
     let a = c.args in
-    leaves (deleted-done a.s a.image.now a.table.now a.directory a.entry c.word_at.ensures (sym c.is_directory.ensures ∙ c.if-is_directory.false) (sym c.either_locked.ensures ∙ c.if-either_locked.false) c.file_clusters-count.ensures c.take_away.ensures)
+    leaves (deleted-done a.s a.image.now a.table.now a.directory a.entry c.word_at.ensures (sym c.is_directory.ensures ∙ c.if-is_directory.false) (sym c.either_locked.ensures ∙ c.if-either_locked.false) c.clusters_for-count.ensures c.take_away.ensures)

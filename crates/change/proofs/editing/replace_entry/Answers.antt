@@ -19,7 +19,7 @@ returns-then-either_locked c =
 
 pub collect_free-free-requires : goal.collect_free-free-requires
 collect_free-free-requires c =
-    let small = table-small c.args.s.geometry.format c.args.image.now c.args.table.now c.args.s c.requires.card.opened c.requires.card.long in
+    let small = table-small c.args.s.geometry.format c.args.image.now c.args.table.now c.args.s c.requires.0.opened c.requires.0.long in
     (omega (arith, small), small)
 
 pub returns-then-free-clusters_for : goal.returns-then-free-clusters_for
@@ -32,17 +32,13 @@ pub slice_bounds-list-end : goal.slice_bounds-list-end
 slice_bounds-list-end c =
     collected-inside c.collect_free-free.new.list c.collect_free-free.ensures.0 c.collect_free-free.ensures.1
 
-pub slice_bounds-replace_listed-end : goal.slice_bounds-replace_listed-end
-slice_bounds-replace_listed-end c =
-    c.collect_free-free.ensures.0 ∙ ap length (sym c.collect_free-free.ensures.1)
-
 pub replace_listed-requires : goal.replace_listed-requires
 replace_listed-requires c =
     let a = c.args in (
-      c.requires.card,
+      c.requires.0,
       record { listed = c.collect_free-free.ensures.1; room = omega (arith, c.collect_free-free.ensures.0, ap length c.collect_free-free.ensures.1, c.clusters_for.ensures, c.if-free-clusters_for.false) },
       can-land a.s a.image.now a.table.now a.directory a.entry a.time.now a.bytes.now (sym c.is_directory.ensures ∙ c.if-is_directory.false) (sym c.either_locked.ensures ∙ c.if-either_locked.false)
-          (omega (arith, c.collect_free-free.ensures.0, c.clusters_for.ensures, c.if-free-clusters_for.false)) c.requires,
+          (omega (arith, c.collect_free-free.ensures.0, c.clusters_for.ensures, c.if-free-clusters_for.false)) c.requires.1,
     )
 
 pub returns : goal.returns

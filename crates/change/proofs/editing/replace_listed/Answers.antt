@@ -1,15 +1,8 @@
 -- The clusters taken are the first of those listed; pages and words are those that the change names.
-use mathlib.Core.Path.{sym}
 use native.Mathlib.Omega.{arith}
-use lib.Seq.{length-take-le}
 use Rattle.change.proofs.DeedSteps.{image-as}
-use Rattle.change.proofs.EditSteps.{few_bytes, own-inside, own-low, own-taken, replaced-lands, replaced-words, replaced-writes}
+use Rattle.change.proofs.EditSteps.{few_bytes, own-low, own-taken, replaced-lands, replaced-words, replaced-writes}
 use Rattle.change.proofs.editing.replace_listed.Goals as goal
-
-pub slice_bounds-taken-end : goal.slice_bounds-taken-end
-slice_bounds-taken-end c =
-    let a = c.args in
-    sym (length-take-le c.clusters_for-own.result a.list.now (own-inside a.s a.table.now a.list.now a.bytes.now c.requires.1.listed c.requires.1.room c.clusters_for-own.ensures))
 
 pub overflow_cast-bytes : goal.overflow_cast-bytes
 overflow_cast-bytes c =
@@ -39,4 +32,4 @@ returns c =
     image-as a.s a.image.now c.put_down.ensures
     (replaced-writes a.s a.table.now a.list.now a.bytes.now c.requires.1.listed c.requires.1.room c.clusters_for-own.ensures a.directory a.entry a.time.now
     c.word_at.ensures c.with_length-kept.ensures c.first_of.ensures c.replaced_page-contents.ensures)
-    (replaced-words a.s a.table.now a.list.now a.bytes.now c.requires.1.listed c.requires.1.room c.clusters_for-own.ensures a.entry c.file_clusters-back.ensures c.word_at-2.ensures c.relink.ensures)
+    (replaced-words a.s a.table.now a.list.now a.bytes.now c.requires.1.listed c.requires.1.room c.clusters_for-own.ensures a.entry c.clusters_for-back.ensures c.word_at-2.ensures c.relink.ensures)

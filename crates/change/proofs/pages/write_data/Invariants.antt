@@ -1,5 +1,4 @@
 -- The loop's invariant: what is left to write, written from here on, gives the whole.
-use Prim.Native.Nat.{◌*◌, ◌-◌, ◌≤◌}
 use mathlib.Core.Path.{◌≡◌}
 use lib.ListN.{length}
 use Rattle.change.proofs.PageSteps.{left_from}
@@ -7,7 +6,4 @@ use Rattle.change.proofs.pages.write_data.Given as goal
 
 abbrev pub invariant-loop-k : goal.invariant-loop-k
 invariant-loop-k l =
-    (l.k ≤ 2 * length l.clusters) × (length l.image ≡ length l.initial.image) × (left_from l.geometry l.clusters l.bytes l.k l.image ≡ left_from l.geometry l.clusters l.bytes 0 l.initial.image)
-
-abbrev pub decreases-loop-k : goal.decreases-loop-k
-decreases-loop-k l = 2 * length l.clusters - l.k
+    (length l.image ≡ length l.initial.image) × (left_from l.geometry l.clusters l.bytes l.k l.image ≡ left_from l.geometry l.clusters l.bytes 0 l.initial.image)

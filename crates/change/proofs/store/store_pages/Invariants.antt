@@ -1,5 +1,4 @@
 -- The loop's invariant: the first t pages are stored.
-use Prim.Native.Nat.{◌*◌, ◌-◌, ◌≤◌}
 use mathlib.Core.List.{◌++◌}
 use mathlib.Core.Path.{◌≡◌}
 use lib.ListN.{get_or, length}
@@ -9,7 +8,4 @@ use Rattle.change.proofs.store.store_pages.Given as goal
 
 abbrev pub invariant-loop-t : goal.invariant-loop-t
 invariant-loop-t l =
-    (l.t ≤ 2 * l.count) × (length l.image ≡ length l.initial.image) × (l.image ≡ store_table l.format (table_names (l.first ++ l.second) l.count) (length l.table) (λ c. get_or l.table c 0) l.t l.initial.image)
-
-abbrev pub decreases-loop-t : goal.decreases-loop-t
-decreases-loop-t l = 2 * l.count - l.t
+    l.image ≡ store_table l.format (table_names (l.indirect.first ++ l.indirect.second) l.count) (length l.table) (λ c. get_or l.table c 0) l.t l.initial.image

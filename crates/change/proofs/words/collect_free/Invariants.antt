@@ -1,6 +1,6 @@
 -- The loop's invariant: the first `count` of the list are the free clusters below c that may be taken, and of the block
 -- looked up last it is known whether it is listed.
-use Prim.Native.Nat.{◌+◌, ◌-◌, ◌≤◌, ℕ}
+use Prim.Native.Nat.{◌+◌, ◌≤◌, ℕ}
 use mathlib.Core.Bool.{Bool, ◌&&◌, not}
 use mathlib.Core.List.{List}
 use mathlib.Core.Path.{◌≡◌}
@@ -16,7 +16,4 @@ may_take limit offset bad c = ltb c limit && not (is_listed bad (block_of (offse
 
 abbrev pub invariant-loop-c : goal.invariant-loop-c
 invariant-loop-c l =
-    (l.c ≤ length l.table) × (l.count ≤ l.c) × (length l.list ≡ length l.initial.list) × (take l.count l.list ≡ free_up_to (may_take l.limit l.offset l.bad) l.table l.c) × Knows l.bad l.last
-
-abbrev pub decreases-loop-c : goal.decreases-loop-c
-decreases-loop-c l = length l.table - l.c
+    (l.count ≤ l.c) × (length l.list ≡ length l.initial.list) × (take l.count l.list ≡ free_up_to (may_take l.limit l.offset l.bad) l.table l.c) × Knows l.bad l.last

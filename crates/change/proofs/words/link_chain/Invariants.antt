@@ -1,14 +1,9 @@
--- The loop's invariant: the clusters from `left` on are linked, and `word` leads to the first of them.
-use Prim.Native.Nat.{◌≤◌}
+-- The loop's invariant: the clusters behind those that are left are linked, and `word` leads to the first of them.
 use mathlib.Core.Path.{◌≡◌}
-use lib.ListN.{drop, length}
-use Rattle.model.specs.Writes.{word_to}
-use Rattle.change.specs.Words.{chained}
+use lib.ListN.{length}
+use Rattle.change.proofs.WordSteps.{Linked}
 use Rattle.change.proofs.words.link_chain.Given as goal
 
-abbrev pub invariant-loop-left : goal.invariant-loop-left
-invariant-loop-left l =
-    (l.left ≤ length l.clusters) × (length l.table ≡ length l.initial.table) × (l.word ≡ word_to (drop l.left l.clusters)) × (l.table ≡ chained (drop l.left l.clusters) l.initial.table)
-
-abbrev pub decreases-loop-left : goal.decreases-loop-left
-decreases-loop-left l = l.left
+abbrev pub invariant-loop-cluster : goal.invariant-loop-cluster
+invariant-loop-cluster l =
+    (length l.table ≡ length l.initial.table) × Linked l.clusters l.initial.table l.cluster-iterator.iter.rest.now l.word l.table

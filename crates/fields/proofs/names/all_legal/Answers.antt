@@ -1,20 +1,11 @@
--- The bytes from the turn's place on are all legal exactly when all are.
-use mathlib.Core.Path.{◌∙◌, refl, sym}
-use native.Mathlib.Omega.{arith}
-use Rattle.fields.proofs.NameLaws.{legal-done, legal-more, legal-stop}
+-- The test of each byte is the model's.
+use Rattle.std.proofs.Common.{◌∷◌, ◌∙◌, [], rules, tests}
+use Rattle.std.proofs.lemmas.Iterator.{YieldsList-from_slice}
+use Rattle.std.proofs.lemmas.Iterator.Search.{all_from_yields_List}
+use Rattle.model.specs.Names.{legal_bytes}
+use Rattle.fields.proofs.NameLaws.{all-legal}
 use Rattle.fields.proofs.names.all_legal.Goals as goal
-
-pub loop-i-init : goal.loop-i-init
-loop-i-init c = (omega arith, refl)
-
-pub returns-then-not-is_legal : goal.returns-then-not-is_legal
-returns-then-not-is_legal c =
-    sym (c.loop-i.invariant.1 ∙ legal-stop _ _ c.loop-i-test.true (sym c.is_legal.ensures ∙ c.if-not-is_legal.true))
-
-pub loop-i-preserved : goal.loop-i-preserved
-loop-i-preserved c =
-    (omega arith, c.loop-i.invariant.1 ∙ legal-more _ _ c.loop-i-test.true (sym c.is_legal.ensures ∙ c.if-not-is_legal.false))
 
 pub returns : goal.returns
 returns c =
-    sym (c.loop-i.invariant.1 ∙ legal-done c.args.name.now c.loop-i.i (omega arith))
+    all_from_yields_List (λ b. legal_bytes (b ∷ [])) _ _ _ c.all.ensures.ran (YieldsList-from_slice c.args.name.now cc) (λ x b q k. search (rules, tests)) ∙ all-legal c.args.name.now

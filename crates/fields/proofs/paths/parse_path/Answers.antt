@@ -1,47 +1,17 @@
--- The names passed are good, and those from the turn's place on are the rest.
-use Prim.Native.Nat.{◌+◌}
-use mathlib.Core.Path.{◌∙◌, ap, sym}
-use native.Mathlib.Omega.{arith}
-use lib.ListN.{drop, length}
-use Rattle.fields.proofs.PathLaws.{bad-first, end-inside, names-last, names_more, names-some, parse-bad, parse-good, parse-many, parse-nothing, parse-relative, parse-root}
-use Rattle.model.specs.Names.{Path, good_names}
+-- The parts behind the first slash are the path's names: they are counted and judged one by one.
+use Rattle.std.proofs.Common.{◌≡◌, ◌∙◌, eqb, length, rules, tests}
+use Rattle.std.specs.List.{list_all}
+use Rattle.std.proofs.lemmas.Iterator.Consumers.{count_from_yields_List}
+use Rattle.std.proofs.lemmas.Iterator.Search.{all_from_yields_List}
+use Rattle.std.proofs.lemmas.Iterator.Splits.{YieldsList-from_slice_split}
+use Rattle.fields.proofs.PathLaws.{parse-names, parts}
+use Rattle.model.specs.Names.{good_name}
 use Rattle.fields.proofs.paths.parse_path.Goals as goal
-
-pub returns-then-path-eq0 : goal.returns-then-path-eq0
-returns-then-path-eq0 c = parse-nothing c.args.path.now c.if-path-eq0.true
-
-pub returns-then-path-ne47 : goal.returns-then-path-ne47
-returns-then-path-ne47 c = parse-relative c.args.path.now c.if-path-ne47.true
-
-pub returns-then-path-eq1 : goal.returns-then-path-eq1
-returns-then-path-eq1 c =
-    parse-root c.args.path.now c.if-path-ne47.false c.if-path-eq1.true
-
-pub returns-then-not-is_good_name : goal.returns-then-not-is_good_name
-returns-then-not-is_good_name c =
-    let loop = c.loop-count in
-    parse-bad c.args.path.now c.if-path-ne47.false (omega arith) (loop.invariant.2 ∙ bad-first _ _ _ loop.invariant.0 c.name_end-end.ensures (sym c.is_good_name.ensures ∙ c.if-not-is_good_name.true))
-
-pub returns-then-end-path : goal.returns-then-end-path
-returns-then-end-path c =
-    let loop = c.loop-count in
-    let only = names-last _ _ _ loop.invariant.0 c.name_end-end.ensures c.if-end-path.true in
-    parse-good c.args.path.now c.if-path-ne47.false (omega arith) _ (loop.invariant.1 ∙ ap (λ (p : Path). loop.count + length p) only) (omega arith) (omega arith) (loop.invariant.2 ∙ ap good_names only ∙ rw (← c.is_good_name.ensures, c.if-not-is_good_name.false))
-
--- a name ends inside the bytes
-pub overflow_add-from : goal.overflow_add-from
-overflow_add-from c = omega (arith, end-inside c.args.path.now c.loop-count.from c.name_end-end.result c.loop-count.invariant.0 c.name_end-end.ensures)
-
-pub loop-count-preserved : goal.loop-count-preserved
-loop-count-preserved c =
-    let loop = c.loop-count in
-    let more = names_more _ _ _ loop.invariant.0 c.name_end-end.ensures c.if-end-path.false in
-    (omega (arith, end-inside c.args.path.now c.loop-count.from c.name_end-end.result c.loop-count.invariant.0 c.name_end-end.ensures), omega (arith, loop.invariant.1 ∙ ap (λ (p : Path). loop.count + length p) more), loop.invariant.2 ∙ ap good_names more ∙ rw (← c.is_good_name.ensures, c.if-not-is_good_name.false))
 
 pub returns : goal.returns
 returns c =
-    parse-many c.args.path.now c.if-path-ne47.false (omega arith) (omega (arith, names-some (drop c.loop-count.from c.args.path.now)))
-
-pub slice_bounds-is_good_name-end : goal.slice_bounds-is_good_name-end
-slice_bounds-is_good_name-end c =
-    omega (arith, end-inside c.args.path.now c.loop-count.from c.name_end-end.result c.loop-count.invariant.0 c.name_end-end.ensures)
+    let names = c.in_ok-names.names.now in
+    let found = c.in_ok-names.ensures.cases in
+    let count : c.count-count.result ≡ length (parts names) = count_from_yields_List _ _ c.count-count.ensures.ran (YieldsList-from_slice_split _ (λ b. eqb b 0x2F) names c.split.ensures.rest c.split.ensures.done c.split.ensures.closure (λ x b q k. search (rules, tests))) in
+    let good : c.all-good.result ≡ list_all good_name (parts names) = all_from_yields_List good_name _ _ _ c.all-good.ensures.ran (YieldsList-from_slice_split _ (λ b. eqb b 0x2F) names c.split-2.ensures.rest c.split-2.ensures.done c.split-2.ensures.closure (λ x b q k. search (rules, tests))) (λ x b q k. search (rules, tests)) in
+    c.then_some.ensures ∙ parse-names c.args.path.now names found.0 found.1 (search rules) c.count-count.result count c.all-good.result good

@@ -1,25 +1,13 @@
 -- The loop's invariant: the first c words are the table's, the others as they were; the buffer has the page of word c, but where word c starts a page.
-use Rattle.std.proofs.Common.{◌≡◌, ◌/◌, ◌++◌, sym, refl, ◌∙◌, arith, length-set}
+use Rattle.std.proofs.Common.{◌/◌, ◌++◌, sym, refl, ◌∙◌, arith}
 use Rattle.layout.specs.Table.{table_clusters, table_names}
 use Rattle.layout.proofs.UpTo.{filled_none}
-use Rattle.layout.proofs.TableLaws.{Holding, just-read, word_more, still-held}
+use Rattle.layout.proofs.TableLaws.{Holding, div_ceil-clusters, just-read, word_more, still-held}
 use Rattle.layout.proofs.table.load_words.Goals as goal
 use Rattle.layout.proofs.table.load_words.Goals.{then-c-eq0, else-c-eq0}
 
 pub loop-c-init : goal.loop-c-init
-loop-c-init c = (omega arith, sym (filled_none _ _), refl, λ n. absurd (n refl))
-
-pub overflow_mul-c : goal.overflow_mul-c
-overflow_mul-c c = omega arith
-
-pub bounds-table-c : goal.bounds-table-c
-bounds-table-c c = omega arith
-
-pub overflow_add-c : goal.overflow_add-c
-overflow_add-c c = omega arith
-
-pub loop-c-smaller : goal.loop-c-smaller
-loop-c-smaller c = omega arith
+loop-c-init c = (sym (filled_none _ _), λ n. absurd (n refl))
 
 pub loop-c-preserved : goal.loop-c-preserved
 loop-c-preserved c =
@@ -28,21 +16,13 @@ loop-c-preserved c =
     let joined = c.if-c-eq0 in
     let format = a.format in
     let image = a.image.now in
-    let names = table_names (a.first.now ++ a.second.now) (table_clusters a.end) in
+    let names = table_names (a.indirect.now.first ++ a.indirect.now.second) (table_clusters a.end) in
+    let count = c.div_ceil-count.ensures ∙ div_ceil-clusters a.end in
     let here : Holding format image names l.c joined.page =
     elim joined.branch [
-      | then-c-eq0 w ↦ just-read format image names l.c w.table_page.ensures (c.requires.2 (l.c / 128) (omega arith)) w.read_page.ensures.read w.page-is
-      | else-c-eq0 w ↦ w.page-is ∙ l.invariant.3 w.if-c-eq0.false
+      | then-c-eq0 w ↦ just-read format image names l.c (rw count at w.table_page.ensures) (c.requires.2 (l.c / 128) (omega arith)) w.read_page.ensures.read w.page-is
+      | else-c-eq0 w ↦ w.page-is ∙ l.invariant.1 w.if-c-eq0.false
     ] in (
-      omega arith,
-      word_more format image names a.table.now l.table joined.page l.c (omega arith) here c.word_at.result c.word_at.ensures l.invariant.1,
-      simp length-set l.invariant.2,
+      word_more format image names a.table.now l.table joined.page l.c (omega arith) here c.word_at.result c.word_at.ensures l.invariant.0,
       still-held format image names a.table.now l.table joined.page l.c here,
     )
-
-pub shape_of-table : goal.shape_of-table
-shape_of-table c = c.loop-c.invariant.2
-
-pub returns : goal.returns
-returns c =
-    let e : c.loop-c.c ≡ c.args.end = omega arith in rw e at c.loop-c.invariant.1

@@ -1,54 +1,35 @@
-use Rattle.std.proofs.Common.{◌≡◌, ◌≤◌, ◌∙◌, length, ap, refl, sym, arith, of_z, to_z}
+-- A turn writes the line of a slot and, where there is room further down, what is inside it.
+use Rattle.std.proofs.Common.{ap, arith, of_z, sym, to_z}
 use mir.Syntax.{w32}
 use mir.ValLaws.{to_z-of_z}
-use Rattle.layout.specs.See.{view_by}
-use Rattle.tree.proofs.LookLaws.{step-even, step-odd}
-use Rattle.tree.specs.Slots.{slot_pages, cluster_after}
-use Rattle.listing.specs.Emit.{most}
+use Rattle.tree.specs.Card.{view_of}
+use Rattle.tree.specs.Slots.{slot_pages}
 use Rattle.listing.specs.Paths.{path_bytes}
 use Rattle.listing.specs.Render.{slots_text}
-use Rattle.listing.proofs.EmitLaws.{wrote_as, wrote-length, wrote_none}
-use Rattle.listing.proofs.RenderLaws.{left-all, left-none, remains-as, turn-deep, turn-flat}
-use Rattle.listing.proofs.entries.+list_slots.Goals.{then-below-gt0, else-below-gt0, then-k-eq1, else-k-eq1}
+use Rattle.listing.proofs.EmitLaws.{writes_as, writes_none}
+use Rattle.listing.proofs.RenderLaws.{left-none, turn-deep, turn-flat, turn-none}
+use Rattle.listing.proofs.entries.+list_slots.Goals.{in-Some+then-below-gt0, in-Some+else-below-gt0, in_default}
 use Rattle.listing.proofs.entries.+list_slots.Goals as goal
-
-pub loop-k-init : goal.loop-k-init
-loop-k-init t c =
-    let a = c.args in
-    let v = view_by a.geometry a.table.now a.image.now in
-    (omega arith, omega arith, omega arith, refl, λ after end w. wrote_as (left-all (to_z w32 (of_z w32 a.minutes)) v a.table.now a.below (path_bytes a.path) a.start a.count) w)
 
 pub loop-k-preserved : goal.loop-k-preserved
 loop-k-preserved t c =
     let a = c.args in
-    let t = a.table.now in
-    let v = view_by a.geometry t a.image.now in
-    let w = c.loop-k in
-    let line = c.list_entry-entry.ensures.line in
-    let leads = c.list_entry-entry.ensures.leads in
-    let fits : length w.out ≤ most = omega arith in
-    let x : c.if-k-eq1.c ≡ cluster_after t w.c w.k =
-    elim c.if-k-eq1.branch [ then-k-eq1 z ↦ step-odd t w.c w.k _ z.if-k-eq1.true (z.c-is ∙ z.next_of-c.ensures) | else-k-eq1 z ↦ step-even t w.c w.k _ z.if-k-eq1.false z.c-is ] in (
-      omega arith,
-      elim c.if-k-eq1.branch [ then-k-eq1 z ↦ omega (arith, z.c-is, z.next_of-c.ensures, c.type_inv.table w.c) | else-k-eq1 z ↦ omega arith ],
-      elim c.if-below-gt0.branch [ then-below-gt0 z ↦ omega (arith, z.next-is, z.list_slots-next.ensures.place) | else-below-gt0 z ↦ omega (arith, z.next-is, line.place) ],
-      elim c.if-below-gt0.branch [
-        | then-below-gt0 z ↦ ap length z.out-is ∙ wrote-length z.list_slots-next.ensures ∙ wrote-length line ∙ w.invariant.3
-        | else-below-gt0 z ↦ ap length z.out-is ∙ wrote-length line ∙ w.invariant.3
-      ],
-      elim c.if-below-gt0.branch [
-        | then-below-gt0 z ↦
-            remains-as z.out-is z.next-is (turn-deep (to_z w32 (of_z w32 a.minutes)) v t a.below (path_bytes a.path) w.c w.k a.count _ _ c.loop-k-test.true c.slot_page.ensures.0 x fits w.invariant.4 line z.if-below-gt0.true leads z.list_slots-next.ensures)
-        | else-below-gt0 z ↦
-            remains-as z.out-is z.next-is (turn-flat (to_z w32 (of_z w32 a.minutes)) v t a.below (path_bytes a.path) w.c w.k a.count _ _ c.loop-k-test.true c.slot_page.ensures.0 x fits w.invariant.4 line (omega arith))
-      ],
-    )
+    let i = c.list_entry-inside.ensures in
+    λ last w. elim c.match-inside.branch [
+      | in-Some+then-below-gt0 z ↦
+          turn-deep _ _ _ _ _ _ _ _ _ _ c.loop-k-test.true c.slot_page.ensures.0 c.cluster_after-c.ensures c.loop-k.invariant i.line z.if-below-gt0.true (rw z.in-Some.is at i.leads) z.list_slots.ensures last (rw z.text-is at w)
+      | in-Some+else-below-gt0 z ↦
+          turn-flat _ _ _ _ _ _ _ _ _ _ c.loop-k-test.true c.slot_page.ensures.0 c.cluster_after-c.ensures c.loop-k.invariant i.line (omega arith) last (rw z.text-is at w)
+      | in_default z ↦
+          turn-none _ _ _ _ _ _ _ _ _ _ c.loop-k-test.true c.slot_page.ensures.0 c.cluster_after-c.ensures c.loop-k.invariant i.line (rw z.in_default.is at i.leads) last (rw z.text-is at w)
+    ]
 
 pub returns : goal.returns
 returns t c =
     let a = c.args in
-    let w = c.loop-k in
-    let v = view_by a.geometry a.table.now a.image.now in
+    let v = view_of a.card.now in
+    let table = a.card.now.table.now in
+    let path = path_bytes a.directory.now.path in
     let same = to_z-of_z w32 a.minutes c.ranges.minutes in
-    let whole = w.invariant.4 w.out w.next (wrote_as (sym (left-none (to_z w32 (of_z w32 a.minutes)) v a.table.now a.below (path_bytes a.path) w.c w.k a.count (omega arith))) (wrote_none _ _ w.invariant.2)) in
-    wrote_as (ap (λ s. slots_text s v a.table.now a.below (path_bytes a.path) (slot_pages a.table.now a.start 0 a.count)) same) whole
+    let whole = c.loop-k.invariant c.loop-k.text (writes_as (sym (left-none (to_z w32 (of_z w32 a.minutes)) v table a.below path c.loop-k.c c.loop-k.k a.directory.now.count (omega arith))) (writes_none _)) in
+    writes_as (ap (λ s. slots_text s v table a.below path (slot_pages table a.directory.now.start 0 a.directory.now.count)) same) whole

@@ -1,33 +1,29 @@
--- What the check refuses is refused; on any other card the way goes on.
-use Rattle.layout.proofs.Stages.{as-told}
-use Rattle.lookup.proofs.AskLaws.{stand-accepted, stand-refused}
-use Rattle.lookup.proofs.CardLaws.{words-fit}
+-- What the check refuses is refused; on any other card the path says what stands there.
+use mathlib.Core.Path.{refl}
+use native.Mathlib.Omega.{arith}
+use Rattle.lookup.proofs.AskLaws.{fits-room, stand-at, stand-malformed, stand-nowhere, stand-refused}
 use Rattle.lookup.proofs.call.stand.Goals as goal
 
-pub stand_words-requires : goal.stand_words-requires
-stand_words-requires c =
+pub returns-in_err-opened-clause-told : goal.returns-in_err-opened-clause-told
+returns-in_err-opened-clause-told c =
     let a = c.args in
-    let s = c.open_checked-opened.result.superblock in
-    words-fit a.format a.image.now s (as-told s c.in-Sound.is c.open_checked-opened.ensures.checked) _ _ c.open_checked-opened.ensures.working_room
+    stand-refused a.format a.image.now a.path.now _ c.in_err-opened.field-0.0 (grind arith) c.in_err-opened.ensures.checked
 
-pub returns-in-Refused : goal.returns-in-Refused
-returns-in-Refused c =
+pub returns-in_err-count-clause-told : goal.returns-in_err-count-clause-told
+returns-in_err-count-clause-told c =
     let a = c.args in
-    let s = c.open_checked-opened.result.superblock in
-    let x = stand-refused a.format a.image.now a.path.now _ _ c.open_checked-opened.ensures.working_room c.refused.result c.in-Refused.refusal c.refused.ensures (as-told s c.in-Refused.is c.open_checked-opened.ensures.checked) in record {
-      told = x.0;
-      working_room = x.1.0;
-      fits = x.1.1;
-      counted = c.open_checked-opened.ensures.mended;
-    }
+    stand-malformed a.format a.image.now a.path.now _ c.in_ok-opened.opened.superblock c.in_ok-opened.ensures.checked _ c.parse_path.ensures (grind arith) (grind arith)
 
-pub returns-in-Sound : goal.returns-in-Sound
-returns-in-Sound c =
+pub shared_ref_as_front-card : goal.shared_ref_as_front-card
+shared_ref_as_front-card c =
+    fits-room c.args.format c.args.image.now c.in_ok-opened.opened.superblock c.in_ok-opened.ensures.checked
+
+pub returns-in_err-entry-clause-told : goal.returns-in_err-entry-clause-told
+returns-in_err-entry-clause-told c =
     let a = c.args in
-    let s = c.open_checked-opened.result.superblock in
-    let x = stand-accepted a.format a.image.now a.path.now _ _ c.open_checked-opened.ensures.working_room c.stand_words.result s (as-told s c.in-Sound.is c.open_checked-opened.ensures.checked) c.stand_words.ensures in record {
-      told = x.0;
-      working_room = x.1.0;
-      fits = x.1.1;
-      counted = c.open_checked-opened.ensures.mended;
-    }
+    stand-nowhere a.format a.image.now a.path.now _ c.in_ok-opened.opened.superblock c.in_ok-opened.ensures.checked _ c.parse_path.ensures _ _ c.in_ok-opened.ensures.working_room c.in_ok-count.count (grind arith) _ c.descend.ensures c.in_err-entry.field-0.0 (grind arith) c.in_err-entry.was
+
+pub returns-clause-told : goal.returns-clause-told
+returns-clause-told c =
+    let a = c.args in
+    stand-at a.format a.image.now a.path.now _ c.in_ok-opened.opened.superblock c.in_ok-opened.ensures.checked _ c.parse_path.ensures _ _ c.in_ok-opened.ensures.working_room c.in_ok-count.count (grind arith) _ c.descend.ensures _ refl refl refl refl c.in_ok-entry.was

@@ -1,44 +1,47 @@
 -- The answer of `stand`, asked for bytes.
-use mathlib.Core.Path.{◌∙◌, sym}
-use Prim.Native.Nat.{ℕ}
+use Rattle.std.specs.Prelude.{Ok, Err}
+use mathlib.Core.Path.{◌∙◌, ◌≡◌}
 use native.Mathlib.Omega.{arith}
-use Rattle.model.specs.View.{most_clusters}
-use lib.ListN.{length, length-replicate}
+use lib.ListN.{length}
 use Rattle.layout.specs.See.{on_image}
 use Rattle.lookup.specs.Mended.{read_mended}
 use Rattle.lookup.specs.Read.{read_from}
 use Rattle.lookup.proofs.CardLaws.{read-unopened}
-use Rattle.lookup.proofs.AskLaws.{ask-refused, fits-at, read-so, room-length, stood-at}
+use Rattle.lookup.proofs.AskLaws.{ask-refused, read-so, stood-at}
 use Rattle.lookup.proofs.ReadCounts.{read-reports, read-there}
-use Rattle.lookup.proofs.MendedLaws.{reports}
+use Rattle.lookup.proofs.MendedLaws.{kept, reports}
 use Rattle.lookup.proofs.reading.read.Goals as goal
 
-pub slice_bounds-read_words-end : goal.slice_bounds-read_words-end
-slice_bounds-read_words-end c =
-    sym (room-length c.args.format c.args.image.now _ _ c.stand-stood.ensures.working_room (length-replicate {A = ℕ} most_clusters 0))
-
-pub read_words-outcome-requires : goal.read_words-outcome-requires
-read_words-outcome-requires c =
-    omega (arith, room-length c.args.format c.args.image.now _ _ c.stand-stood.ensures.working_room (length-replicate {A = ℕ} most_clusters 0), fits-at c.stand-stood.result.standing c.in-At.end c.in-At.geometry c.in-At.first c.stand-stood.ensures.fits c.in-At.is)
-
-pub returns-in-Refused : goal.returns-in-Refused
-returns-in-Refused c =
+pub returns-in_err-stood : goal.returns-in_err-stood
+returns-in_err-stood c =
     let a = c.args in
-    let refusal = c.in-Refused.refusal in
+    let refused = read-so a.format a.image.now a.path.now a.from (length a.out.now) ∙ ask-refused (λ geometry h t. on_image geometry (read_from a.from (length a.out.now) h t)) a.format a.image.now a.path.now c.in_err-stood.field-0.0 c.in_err-stood.ensures.told in
+    let same : c.from_residual.result ≡ Err c.in_err-stood.field-0.0 = grind arith in record {
+      told = rw same (read-unopened _ c.in_err-stood.field-0.0 a.out.now refused);
+      counted = kept _ _ _ _ _ refused;
+    }
+
+pub returns-in_err-count : goal.returns-in_err-count
+returns-in_err-count c =
+    let a = c.args in
     let room = length a.out.now in
-    let answer = read-unopened _ refusal a.out.now (read-so a.format a.image.now a.path.now a.from room ∙ ask-refused (λ geometry h t. on_image geometry (read_from a.from room h t)) a.format _ a.image.now a.path.now c.stand-stood.result c.stand-stood.ensures.told refusal c.in-Refused.is) in record {
-      told = answer;
+    let stood = c.in_ok-stood.stood in
+    let there = stood-at a.format a.image.now a.path.now stood c.in_ok-stood.ensures.told in
+    let answer = read-there a.format a.image.now a.path.now a.from room there.0 there.1 there.2 there.3 stood.card there.4 there.5 (Err c.in_err-count.field-0.0) a.out.now c.read_in.new.out (c.in_err-count.ensures.told there.1 there.2 there.6) in
+    let same : c.from_residual-in_err-count.result ≡ Err c.in_err-count.field-0.0 = grind arith in record {
+      told = rw same answer;
       counted = reports _ length (read_mended a.format a.image.now a.path.now a.from room) a.mended.now answer.count;
     }
 
-pub returns-in-At : goal.returns-in-At
-returns-in-At c =
+pub returns : goal.returns
+returns c =
     let a = c.args in
     let room = length a.out.now in
-    let there = stood-at a.format _ a.image.now a.path.now c.stand-stood.result c.stand-stood.ensures.told c.in-At.end c.in-At.geometry c.in-At.first c.in-At.is in
-    let counted = c.stand-stood.ensures.counted in
-    let answer = read-there a.format a.image.now a.path.now a.from room there.0 there.1 there.2 there.3 c.in-At.geometry there.4 _ _ _ (c.read_words-outcome.ensures.told there.1 there.2 there.5) in record {
+    let stood = c.in_ok-stood.stood in
+    let there = stood-at a.format a.image.now a.path.now stood c.in_ok-stood.ensures.told in
+    let counted = c.in_ok-stood.ensures.counted in
+    let answer = read-there a.format a.image.now a.path.now a.from room there.0 there.1 there.2 there.3 stood.card there.4 there.5 (Ok c.in_ok-count.count) a.out.now c.read_in.new.out (c.in_ok-count.ensures.told there.1 there.2 there.6) in record {
       told = answer;
-      counted = read-reports a.format a.image.now a.path.now a.from room there.0 there.1 there.2 there.3 c.in-At.geometry there.4 c.read_words-outcome.result _ _ c.settled.result a.mended.now counted.0 counted.1
-          (c.read_words-outcome.ensures.counted there.1 there.2 there.5) c.settled.ensures.0 c.settled.ensures.1 answer.count c.report_read.ensures;
+      counted = read-reports a.format a.image.now a.path.now a.from room there.0 there.1 there.2 there.3 stood.card there.4 there.5 c.in_ok-count.count stood.mended c.read_in.new.mended c.settled.result a.mended.now counted.0 counted.1
+          (c.in_ok-count.ensures.counted there.1 there.2 there.6) c.settled.ensures.0 c.settled.ensures.1 answer.count;
     }

@@ -1,80 +1,54 @@
 -- `read_in` judges the pages with a byte to copy and then copies; the laws say that the tree's file has these bytes.
+use Rattle.std.specs.Prelude.{None}
 use mathlib.Core.Path.{◌∙◌, ◌≡◌, refl, sym}
-use Prim.Native.Nat.{◌%◌, ◌-◌, ◌<◌, ℕ}
+use Prim.Native.Nat.{◌%◌, ◌<◌}
 use native.Mathlib.Omega.{arith}
-use lib.ListN.{length}
-use Rattle.page.proofs.Mending.{mended-most}
-use Rattle.layout.specs.See.{view_by}
+use lib.ListN.{length, length-take, take}
 use Rattle.layout.specs.declared.Refusal.TheVariants.{BadOffset, WrongKind}
 use Rattle.model.specs.Entry.{entry_of}
-use Rattle.tree.specs.Mended.{mended_page}
+use Rattle.tree.specs.Card.{view_of}
 use Rattle.tree.proofs.ScanLaws.{within}
 use Rattle.lookup.specs.Descend.{pages_for}
-use Rattle.tree.proofs.PageReads.{view-sized}
 use Rattle.lookup.proofs.ReadLaws.{read-beyond, read-directory, read-refused}
-use Rattle.lookup.proofs.ReadSteps.{copy-ready, counted-bytes, counted_none, least-within, tells-bytes, tells_none, tells-unreadable}
+use Rattle.lookup.proofs.ReadSteps.{counted-bytes, counted_none, tells-bytes, tells_none, tells-unreadable}
 use Rattle.lookup.proofs.reading.read_in.Goals as goal
 
-positive : (n : ℕ) → (n ≡ 0 → ⊥) → 0 < n
-positive n h = omega arith
+pub returns-then-is_directory-clause-told : goal.returns-then-is_directory-clause-told
+returns-then-is_directory-clause-told c =
+    let a = c.args in
+    let card = a.card.now in
+    λ h s x. read-refused card.geometry _ 10 0 WrongKind _ (read-directory (view_of card) card.table.now (λ z. refl) a.file.now.first a.from (length a.out.now) (entry_of a.file.now.page) h s x (sym c.is_directory.ensures ∙ c.if-is_directory.true)) refl
 
-pub returns-then-is_directory : goal.returns-then-is_directory
-returns-then-is_directory c = record {
-  told = λ h s x. read-refused c.args.geometry _ 10 0 WrongKind _ _ (read-directory (view_by c.args.geometry c.args.table.now c.args.image.now) c.args.table.now (λ a. refl) c.args.first c.args.from (length c.args.out.now) (entry_of c.args.page.now) h s x (sym c.is_directory.ensures ∙ c.if-is_directory.true)) refl refl;
-  counted = λ h s x. tt;
-}
-
-pub returns-then-size-from : goal.returns-then-size-from
-returns-then-size-from c = record {
-  told = λ h s x. read-refused c.args.geometry _ 15 0 BadOffset _ _ (read-beyond (view_by c.args.geometry c.args.table.now c.args.image.now) c.args.table.now (λ a. refl) c.args.first c.args.from (length c.args.out.now) (entry_of c.args.page.now) h s x (sym c.is_directory.ensures ∙ c.if-is_directory.false) (omega (arith, c.word_at-size.ensures, c.if-size-from.true))) refl refl;
-  counted = λ h s x. tt;
-}
+pub returns-then-size-from-clause-told : goal.returns-then-size-from-clause-told
+returns-then-size-from-clause-told c =
+    let a = c.args in
+    let card = a.card.now in
+    λ h s x. read-refused card.geometry _ 15 0 BadOffset _ (read-beyond (view_of card) card.table.now (λ z. refl) a.file.now.first a.from (length a.out.now) (entry_of a.file.now.page) h s x (sym c.is_directory.ensures ∙ c.if-is_directory.false) (omega (arith, c.word_at-size.ensures, c.if-size-from.true))) refl
 
 pub returns-then-count-eq0 : goal.returns-then-count-eq0
 returns-then-count-eq0 c =
     let a = c.args in
+    let card = a.card.now in
     let file = sym c.is_directory.ensures ∙ c.if-is_directory.false in record {
-      told = λ h s x. tells_none (view_by a.geometry a.table.now a.image.now) a.table.now (λ z. refl) (view-sized _ _ _) a.geometry a.first a.from (length a.out.now) c.word_at-size.result c.least-count.result (entry_of a.page.now) c.word_at-size.ensures c.least-count.ensures h s x file (omega (arith, c.if-size-from.false)) c.if-count-eq0.true _;
-      counted = λ h s x. counted_none (view_by a.geometry a.table.now a.image.now) a.table.now (λ z. refl) (view-sized _ _ _) a.geometry a.first a.from (length a.out.now) c.word_at-size.result c.least-count.result (entry_of a.page.now) c.word_at-size.ensures c.least-count.ensures (mended_page a.geometry a.image.now) h s x file (omega (arith, c.if-size-from.false)) c.if-count-eq0.true _;
+      told = λ h s x. tells_none card a.file.now a.from (length a.out.now) c.word_at-size.result c.min-count.result c.word_at-size.ensures c.min-count.ensures h s x file c.if-size-from.false c.if-count-eq0.true _;
+      counted = λ h s x. counted_none card a.file.now a.from (length a.out.now) c.word_at-size.result c.min-count.result c.word_at-size.ensures c.min-count.ensures h s x file c.if-size-from.false c.if-count-eq0.true _;
     }
 
-pub overflow_add-high : goal.overflow_add-high
-overflow_add-high c =
-    omega (arith, (least-within c.least-count.result (length c.args.out.now) (c.word_at-size.result - c.args.from) c.least-count.ensures).1, c.if-size-from.false)
-
-pub overflow_add-high-2 : goal.overflow_add-high-2
-overflow_add-high-2 c =
-    omega (arith, (least-within c.least-count.result (length c.args.out.now) (c.word_at-size.result - c.args.from) c.least-count.ensures).1, c.if-size-from.false)
-
-pub overflow_cast-high : goal.overflow_cast-high
-overflow_cast-high c =
-    omega (arith, (least-within c.least-count.result (length c.args.out.now) (c.word_at-size.result - c.args.from) c.least-count.ensures).1, c.if-size-from.false)
-
-pub copy_pages-requires : goal.copy_pages-requires
-copy_pages-requires c =
+pub returns-in-Some-clause-told : goal.returns-in-Some-clause-told
+returns-in-Some-clause-told c =
     let a = c.args in
-    let within-file = least-within c.least-count.result (length a.out.now) (c.word_at-size.result - a.from) c.least-count.ensures in (
-      omega arith,
-      within-file.0,
-      omega (arith, within-file.1, c.if-size-from.false),
-      copy-ready (view_by a.geometry a.table.now a.image.now) a.table.now (λ z. refl) (view-sized _ _ _) a.geometry a.first a.from (length a.out.now) c.word_at-size.result c.least-count.result (entry_of a.page.now) c.word_at-size.ensures c.least-count.ensures _ c.cluster_at-start.ensures _ c.first_unreadable-bad.ensures.0 c.in-Nowhere.is,
-      positive _ c.if-count-eq0.false,
-    )
+    let card = a.card.now in
+    let scanned = c.first_unreadable.ensures in
+    λ h s x. tells-unreadable card a.file.now a.from (length a.out.now) c.word_at-size.result c.min-count.result c.word_at-size.ensures c.min-count.ensures _ _ c.cluster_at-start.ensures c.div_ceil-high.ensures _ scanned.0 h s x (sym c.is_directory.ensures ∙ c.if-is_directory.false) c.if-size-from.false c.if-count-eq0.false c.in-Some.bad _ (c.unreadable.ensures.whole (within _ _ _ scanned.1 c.in-Some.is).0) c.in-Some.is _
 
-pub returns-in-At : goal.returns-in-At
-returns-in-At c =
-    let known = c.well_formed in
-    let a = c.args in record {
-      told = λ h s x. tells-unreadable (view_by a.geometry a.table.now a.image.now) a.table.now (λ z. refl) (view-sized _ _ _) a.geometry a.first a.from (length a.out.now) c.word_at-size.result c.least-count.result (entry_of a.page.now) c.word_at-size.ensures c.least-count.ensures _ c.cluster_at-start.ensures _ c.first_unreadable-bad.ensures.0 h s x (sym c.is_directory.ensures ∙ c.if-is_directory.false) (omega (arith, c.if-size-from.false)) c.if-count-eq0.false _ _ _ c.in-At.is (omega (arith, c.image_page.ensures, (within _ _ _ _ c.first_unreadable-bad.ensures.1 c.in-At.is).0)) _;
-      counted = λ h s x. tt;
-    }
-
-pub returns-in-Nowhere : goal.returns-in-Nowhere
-returns-in-Nowhere c =
+pub returns : goal.returns
+returns c =
     let a = c.args in
+    let card = a.card.now in
     let file = sym c.is_directory.ensures ∙ c.if-is_directory.false in
-    let within-file = least-within c.least-count.result (length a.out.now) (c.word_at-size.result - a.from) c.least-count.ensures in
-    let few : pages_for (a.from % 512) c.least-count.result < 4294967296 = omega (arith, within-file.1, c.if-size-from.false) in record {
-      told = λ h s x. tells-bytes (view_by a.geometry a.table.now a.image.now) a.table.now (λ z. refl) (view-sized _ _ _) a.geometry a.first a.from (length a.out.now) c.word_at-size.result c.least-count.result (entry_of a.page.now) c.word_at-size.ensures c.least-count.ensures _ c.cluster_at-start.ensures _ c.first_unreadable-bad.ensures.0 h s x file (omega (arith, c.if-size-from.false)) c.if-count-eq0.false c.in-Nowhere.is _ _ refl c.copy_pages.ensures.copied;
-      counted = λ h s x. counted-bytes (view_by a.geometry a.table.now a.image.now) a.table.now (λ z. refl) (view-sized _ _ _) a.geometry a.first a.from (length a.out.now) c.word_at-size.result c.least-count.result (entry_of a.page.now) c.word_at-size.ensures c.least-count.ensures _ c.cluster_at-start.ensures _ c.first_unreadable-bad.ensures.0 h s x file (omega (arith, c.if-size-from.false)) c.if-count-eq0.false (mended_page a.geometry a.image.now) (λ p. mended-most a.geometry.format a.image.now _) _ _ few c.copy_pages.ensures.counted;
+    let none : c.first_unreadable.result ≡ None = grind arith in
+    let long : length (take c.min-count.result a.out.now) ≡ c.min-count.result = omega (arith, length-take c.min-count.result a.out.now, c.min-count.ensures) in
+    let few : pages_for (a.from % 512) c.min-count.result < 4294967296 = omega (arith, c.min-count.ensures) in record {
+      told = λ h s x. tells-bytes card a.file.now a.from (length a.out.now) c.word_at-size.result c.min-count.result c.word_at-size.ensures c.min-count.ensures _ _ c.cluster_at-start.ensures c.div_ceil-high.ensures _ c.first_unreadable.ensures.0 h s x file c.if-size-from.false c.if-count-eq0.false none _ c.copy_pages.new.out (rw long at c.copy_pages.ensures.copied);
+      counted = λ h s x. counted-bytes card a.file.now a.from (length a.out.now) c.word_at-size.result c.min-count.result c.word_at-size.ensures c.min-count.ensures _ _ c.cluster_at-start.ensures c.div_ceil-high.ensures _ c.first_unreadable.ensures.0 h s x file c.if-size-from.false c.if-count-eq0.false _ _ few (rw long at c.copy_pages.ensures.counted);
     }

@@ -1,39 +1,39 @@
 -- The answer of `stand`, asked for a step.
-use Rattle.model.specs.Entry.{entry_of}
-use mathlib.Core.Path.{◌∙◌, sym}
-use Rattle.layout.specs.Mended.{mended_of}
-use Rattle.lookup.specs.Answers.{slot_in}
-use Prim.Native.Nat.{ℕ}
+use Rattle.std.specs.Prelude.{Ok, Err}
+use mathlib.Core.Path.{◌∙◌, ◌≡◌}
 use native.Mathlib.Omega.{arith}
-use Rattle.model.specs.View.{most_clusters}
-use lib.ListN.{length-replicate}
+use Rattle.layout.specs.Mended.{mended_of}
+use Rattle.lookup.specs.Answers.{stepped_in}
 use Rattle.lookup.specs.Step.{step_from}
-use Rattle.lookup.proofs.MendedLaws.{reports}
-use Rattle.lookup.proofs.StepLaws.{step-at, step-refused}
-use Rattle.lookup.proofs.AskLaws.{ask-at, ask-refused, fits-at, room-length}
+use Rattle.lookup.proofs.AnswerLaws.{tells-refused}
+use Rattle.lookup.proofs.AskLaws.{ask-at, ask-refused}
+use Rattle.lookup.proofs.MendedLaws.{kept, reports}
+use Rattle.lookup.proofs.StepLaws.{step-at}
 use Rattle.lookup.proofs.stepping.step.Goals as goal
 
-pub slice_bounds-step_words-end : goal.slice_bounds-step_words-end
-slice_bounds-step_words-end c =
-    sym (room-length c.args.format c.args.image.now _ _ c.stand-stood.ensures.working_room (length-replicate {A = ℕ} most_clusters 0))
-
-pub step_words-stepped-requires : goal.step_words-stepped-requires
-step_words-stepped-requires c =
-    omega (arith, room-length c.args.format c.args.image.now _ _ c.stand-stood.ensures.working_room (length-replicate {A = ℕ} most_clusters 0), fits-at c.stand-stood.result.standing c.in-At.end c.in-At.geometry c.in-At.first c.stand-stood.ensures.fits c.in-At.is)
-
-pub returns-in-Refused : goal.returns-in-Refused
-returns-in-Refused c =
+pub returns-in_err-stood : goal.returns-in_err-stood
+returns-in_err-stood c =
     let a = c.args in
-    let refusal = c.in-Refused.refusal in
-    let answer = step-refused _ refusal _ (ask-refused (λ geometry. step_from a.slot) a.format _ a.image.now a.path.now c.stand-stood.result c.stand-stood.ensures.told refusal c.in-Refused.is) c.no_entry.ensures in record {
-      told = answer;
-      counted = reports _ slot_in (mended_of a.format a.image.now) a.mended.now answer.slot;
+    let refused = ask-refused (λ geometry. step_from a.slot) a.format a.image.now a.path.now c.in_err-stood.field-0.0 c.in_err-stood.ensures.told in record {
+      told = tells-refused _ stepped_in c.in_err-stood.field-0.0 _ (grind arith) refused;
+      counted = kept _ _ _ _ _ refused;
     }
 
-pub returns-in-At : goal.returns-in-At
-returns-in-At c =
+pub returns-in_err-stepped : goal.returns-in_err-stepped
+returns-in_err-stepped c =
     let a = c.args in
-    let answer = step-at a.slot _ _ _ (entry_of c.stand-stood.result.page) _ (ask-at (λ geometry. step_from a.slot) a.format _ a.image.now a.path.now c.stand-stood.result c.stand-stood.ensures.told c.in-At.end c.in-At.geometry c.in-At.first c.in-At.is) c.step_words-stepped.ensures in record {
+    let there = ask-at (λ geometry. step_from a.slot) a.format a.image.now a.path.now c.in_ok-stood.stood c.in_ok-stood.ensures.told in
+    let answer = step-at a.slot _ _ c.in_ok-stood.stood.entry _ (Err c.in_err-stepped.field-0.0) c.in_err-stepped.was there c.step_in.ensures in
+    let same : c.from_residual-in_err-stepped.result ≡ Err c.in_err-stepped.field-0.0 = grind arith in record {
+      told = rw same answer;
+      counted = reports _ stepped_in (mended_of a.format a.image.now) a.mended.now answer;
+    }
+
+pub returns : goal.returns
+returns c =
+    let a = c.args in
+    let there = ask-at (λ geometry. step_from a.slot) a.format a.image.now a.path.now c.in_ok-stood.stood c.in_ok-stood.ensures.told in
+    let answer = step-at a.slot _ _ c.in_ok-stood.stood.entry _ (Ok c.in_ok-stepped.stepped) c.in_ok-stepped.was there c.step_in.ensures in record {
       told = answer;
-      counted = rw c.stand-stood.ensures.counted.0 at c.report_step.ensures ∙ reports _ slot_in (mended_of a.format a.image.now) a.mended.now answer.slot;
+      counted = c.in_ok-stood.ensures.counted.0 ∙ reports _ stepped_in (mended_of a.format a.image.now) a.mended.now answer;
     }

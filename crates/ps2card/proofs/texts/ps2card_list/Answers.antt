@@ -1,4 +1,4 @@
--- The listing in the image's format; an image of no bytes has the line of refusal 1.
+-- An image of no bytes has the line of refusal 1.
 use mathlib.Core.Path.{◌∙◌, ◌≡◌, ap, refl, sym}
 use mathlib.Core.List.{List, []}
 use Prim.Native.Nat.{ℕ}
@@ -12,7 +12,7 @@ use Rattle.layout.specs.See.{check_image}
 use Rattle.layout.specs.Table.{open_card, unless}
 use Rattle.model.specs.Check.{and_then}
 use Rattle.listing.specs.Text.{listing_of, refusal_text}
-use Rattle.ps2card.proofs.FormatLaws.{known_so, unknown-so}
+use Rattle.ps2card.proofs.FormatLaws.{unknown-so}
 use Rattle.ps2card.proofs.texts.ps2card_list.Goals as goal
 
 -- no card, by the minutes
@@ -23,22 +23,12 @@ none-listed : (minutes : ℤ) → listing_of Raw [] minutes ≡ none minutes
 unfolding listing_of check_image open_card unless and_then
 none-listed minutes = refl
 
-pub returns-in-Unknown : goal.returns-in-Unknown
-returns-in-Unknown c =
+pub returns-in-None : goal.returns-in-None
+returns-in-None c =
     let a = c.args in
     let image = a.image.now in
-    let e = unknown-so (none a.minutes) (λ f. listing_of f image a.minutes) a.format c.format_of-named.ensures c.in-Unknown.is ∙ sym (none-listed a.minutes) ∙ ap (listing_of Raw []) (sym (to_z-of_z w32 a.minutes c.ranges.minutes)) in
+    let e = unknown-so (none a.minutes) (λ f. listing_of f image a.minutes) a.format c.format_of.ensures c.in-None.is ∙ sym (none-listed a.minutes) ∙ ap (listing_of Raw []) (sym (to_z-of_z w32 a.minutes c.ranges.minutes)) in
     rw e (record {
-      value = c.list.ensures.length;
-      out_after = c.list.ensures.text;
-    })
-
-pub returns-in-Known : goal.returns-in-Known
-returns-in-Known c =
-    let a = c.args in
-    let image = a.image.now in
-    let e = known_so (none a.minutes) (λ f. listing_of f image a.minutes) a.format c.format_of-named.ensures c.in-Known.is ∙ ap (listing_of _ image) (sym (to_z-of_z w32 a.minutes c.ranges.minutes)) in
-    rw e (record {
-      value = c.list-in-Known.ensures.length;
-      out_after = c.list-in-Known.ensures.text;
+      value = c.list-in-None.ensures.length;
+      out_after = c.list-in-None.ensures.text;
     })

@@ -7,12 +7,10 @@ pub returns-then-whole-mark : goal.returns-then-whole-mark
 unfolding is_same
 returns-then-whole-mark c = rw (ne_eqb _ _ c.if-whole-mark.true)
 
-pub returns-then-not-named_at : goal.returns-then-not-named_at
+pub returns-then-named_at : goal.returns-then-named_at
 unfolding is_same
-returns-then-not-named_at c =
-    rw (eq-eqb _ _ c.if-whole-mark.false, sym c.named_at.ensures ∙ c.if-not-named_at.true)
+returns-then-named_at c = rw (eq-eqb _ _ c.if-whole-mark.false, sym c.named_at.ensures ∙ c.if-named_at.true) c.is_slot.ensures
 
-pub returns : goal.returns
+pub returns-else-named_at : goal.returns-else-named_at
 unfolding is_same
-returns c =
-    rw (eq-eqb _ _ c.if-whole-mark.false, sym c.named_at.ensures ∙ c.if-not-named_at.false) c.is_slot.ensures
+returns-else-named_at c = rw (eq-eqb _ _ c.if-whole-mark.false, sym c.named_at.ensures ∙ c.if-named_at.false) c.if-named_at.false

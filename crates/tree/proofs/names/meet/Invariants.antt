@@ -1,13 +1,12 @@
-use Rattle.std.proofs.Common.{◌≡◌, ◌≤◌}
-use Rattle.layout.specs.See.{view_by}
-use Rattle.tree.specs.Met.{Small, known, learnt}
+use Rattle.std.proofs.Common.{◌≡◌, ◌-◌}
+use Rattle.tree.specs.Card.{view_of}
+use Rattle.tree.specs.Met.{Small, is_met, known, learnt, most_pages, with_name}
 use Rattle.tree.proofs.names.meet.Given as goal
 
-abbrev pub invariant-loop-left : goal.invariant-loop-left
-invariant-loop-left l =
-    (known (view_by l.geometry l.table l.image) l.table l.start l.k l.name l.mark l.initial.cells l.initial.h l.initial.left ≡ known (view_by l.geometry l.table l.image) l.table l.start l.k l.name l.mark l.cells l.h l.left)
-    × (learnt (view_by l.geometry l.table l.image) l.table l.start l.k l.name l.mark l.page l.initial.cells l.initial.h l.initial.left ≡ learnt (view_by l.geometry l.table l.image) l.table l.start l.k l.name l.mark l.page l.cells l.h l.left)
-    × Small l.h × (l.mark ≤ 32767)
-
-abbrev pub decreases-loop-left : goal.decreases-loop-left
-decreases-loop-left l = l.left
+-- what is left of the search gives what the whole of it gives
+abbrev pub invariant-loop : goal.invariant-loop
+invariant-loop l = record {
+  small : Small l.h;
+  met : is_met (view_of l.card) l.card.table.now l.first l.start l.k l.name l.fn.cells ≡ known (view_of l.card) l.card.table.now l.start l.k l.name l.mark l.cells l.h (most_pages - l.counter);
+  learnt : with_name (view_of l.card) l.card.table.now l.first l.start l.k l.name l.page l.fn.cells ≡ learnt (view_of l.card) l.card.table.now l.start l.k l.name l.mark l.page l.cells l.h (most_pages - l.counter);
+}

@@ -1,9 +1,7 @@
-use Rattle.std.proofs.Common.{◌≡◌, ◌-◌, ◌≤◌}
-use Rattle.tree.specs.Met.{Small, hash_from}
+use Rattle.std.proofs.Common.{◌≡◌, ◌-◌}
+use Rattle.tree.specs.Met.{Small, hash_from, seed_of}
 use Rattle.tree.proofs.names.name_hash.Given as goal
 
+-- the threes that are left give the whole
 abbrev pub invariant-loop-k : goal.invariant-loop-k
-invariant-loop-k l = (l.k ≤ l.turns) × Small l.h × (hash_from l.name l.initial.k (l.turns - l.initial.k) l.initial.h ≡ hash_from l.name l.k (l.turns - l.k) l.h)
-
-abbrev pub decreases-loop-k : goal.decreases-loop-k
-decreases-loop-k l = l.turns - l.k
+invariant-loop-k l = record { small : Small l.h; hash : hash_from l.name 0 l.turns (seed_of l.first) ≡ hash_from l.name l.k (l.turns - l.k) l.h }

@@ -1,131 +1,163 @@
 -- The walk of a directory's inside: the model's walk, slot by slot.
-use Rattle.std.proofs.Common.{◌≡◌, ℕ, ◌+◌, ◌<◌, ◌≤◌, Bool, true, false, ◌&&◌, ltb, sym, refl, ◌∙◌, inl, inr, arith, ltb-false, ltb-true}
-use Rattle.layout.specs.See.{on_image, view_by}
-use Rattle.model.proofs.Equality.{and_l, and_r}
-use Rattle.reached.specs.Marks.{Sound, marks_of}
+use Rattle.std.proofs.Common.{◌≡◌, ◌+◌, ◌-◌, sym, ap, ◌∙◌, refl, inl, inr, arith}
+use Rattle.std.proofs.lemmas.Result.{err_from_is_err_and}
+use Rattle.std.specs.Prelude.{Ok}
+use Rattle.reached.specs.Marks.{marks_of}
 use Rattle.reached.proofs.NearLaws.{near-joined}
+use Rattle.tree.specs.Card.{view_of}
 use Rattle.tree.specs.Mended.{mended_page}
 use Rattle.tree.specs.Met.{Grows, Knows}
-use Rattle.tree.specs.Walk.{Tells, entered_look, inside_of}
+use Rattle.tree.specs.Walk.{Tells, entered_look}
 use Rattle.tree.proofs.MetLaws.{grows_self, knows-none, knows_on}
 use Rattle.tree.proofs.ScanLaws.{cluster-start, cluster-step}
-use Rattle.tree.proofs.TaskLaws.{task-chain, task-idle, task-inside}
-use Rattle.tree.proofs.TellLaws.{inside-stands, slot-on, stands-end, stands-sound}
+use Rattle.tree.proofs.TaskLaws.{task-idle, task-led, task-refused}
+use Rattle.tree.proofs.TellLaws.{inside-go, inside-stop, slot-go, slot-stop, slots-done}
 use Rattle.tree.proofs.walk.+walk_dir.Goals as goal
-use Rattle.tree.proofs.walk.+walk_dir.Goals.{then-task+then-sound-task, then-a-gt0, else-a-gt0, then-task+else-sound-task, else-task}
+use Rattle.tree.proofs.walk.+walk_dir.Goals.{in-Some+else-not-sound+in-Some-inside+in-Ok, then-near-gt0, else-near-gt0, in-Some+else-not-sound+in_default-inside, in_default}
 
--- a loop that ends while all is sound has no slot left
-ended : (left : ℕ) (told sound : Bool) → (ltb 0 left && told) ≡ false → told ≡ sound → sound ≡ true → left ≡ 0
-ended left told sound h e f = let none : left ≤ 0 = ltb-false 0 left (go (ltb 0 left) (rw (e ∙ f) at h)) in omega arith
-  where
-    go : (b : Bool) → (b && true) ≡ false → b ≡ false
-    go true q = q
-    go false q = refl
+pub returns-in_err-judge_dots-clause-tells : goal.returns-in_err-judge_dots-clause-tells
+returns-in_err-judge_dots-clause-tells t c =
+    let a = c.args in
+    let card = a.card.now in
+    let p = err_from_is_err_and c.from_residual.result c.from_residual.ensures.1 in
+    rw (p.1, p.2) (inside-stop (view_of card) (mended_page card.geometry card.image.now) card.geometry a.below card.table.now a.first a.entries (marks_of a.reached) a.mended.now _ _ c.in_err-judge_dots.ensures.judged)
 
--- a slot is left where the loop's body is entered
-slot-left : (left : ℕ) (told : Bool) → (ltb 0 left && told) ≡ true → 0 < left
-slot-left left told h = ltb-true 0 left (and_l (ltb 0 left) told h)
+pub loop-k-init : goal.loop-k-init
+loop-k-init t c =
+    let a = c.args in
+    let all : a.entries - 2 - 0 ≡ a.entries - 2 = omega arith in
+    (rw all, c.requires.1, cluster-start _ _, knows-none (view_of a.card.now) a.card.now.table.now a.first c.next_of-start.result a.cells.now c.requires.2, grows_self _)
 
-pub loop-left-init : goal.loop-left-init
-loop-left-init t c =
-    let v = view_by c.args.geometry c.args.table.now c.args.image.now in (
-      λ whole h. h,
-      cluster-start _ _,
-      omega arith,
-      knows-none v c.args.table.now c.args.first c.next_of-start.result c.args.cells.now c.requires.2,
-      grows_self _,
-    )
+-- a slot whose page is unreadable
+pub returns-in_err-kind-clause-tells : goal.returns-in_err-kind-clause-tells
+returns-in_err-kind-clause-tells t c =
+    let a = c.args in
+    let card = a.card.now in
+    let v = view_of card in
+    let mend = mended_page card.geometry card.image.now in
+    let w = c.loop-k in
+    let p = err_from_is_err_and c.from_residual-in_err-kind.result c.from_residual-in_err-kind.ensures.1 in
+    let whole = inside-go v mend card.geometry a.below card.table.now a.first a.entries (marks_of a.reached) a.mended.now c.in_ok-judge_dots.ensures.judged _ c.in_ok-judge_dots.ensures.counted _ (a.entries - 2) c.next_of-start.ensures refl ∙ w.invariant.0 in
+    rw (p.1, p.2) (slot-stop v mend card.geometry a.below card.table.now (λ n. refl) c.next_of-start.result w.c w.k (a.entries - 2 - w.k) _ w.r w.mended whole (omega (arith, c.slots_of-k-end.ensures)) w.invariant.2 _ c.in_err-kind.ensures.value c.look_at.new.mended tt _ c.look_at.new.mended _ (refl, refl))
 
-pub look_at-requires : goal.look_at-requires
-look_at-requires t c = (c.requires.0, c.loop-left.invariant.1, c.loop-left.invariant.3)
+-- a slot that is refused before its chain
+pub returns-in_err-task-clause-tells : goal.returns-in_err-task-clause-tells
+returns-in_err-task-clause-tells t c =
+    let a = c.args in
+    let card = a.card.now in
+    let v = view_of card in
+    let mend = mended_page card.geometry card.image.now in
+    let w = c.loop-k in
+    let p = err_from_is_err_and c.from_residual-in_err-task.result c.from_residual-in_err-task.ensures.1 in
+    let whole = inside-go v mend card.geometry a.below card.table.now a.first a.entries (marks_of a.reached) a.mended.now c.in_ok-judge_dots.ensures.judged _ c.in_ok-judge_dots.ensures.counted _ (a.entries - 2) c.next_of-start.ensures refl ∙ w.invariant.0 in
+    let refused = task-refused card.table.now c.requires.0 v mend (λ n. refl) card.geometry a.below w.r w.invariant.1 c.look_at.new.mended c.in_ok-kind.kind c.in_err-task.field-0.0 (sym c.in_err-task.ensures) in
+    rw (p.1, p.2) (slot-stop v mend card.geometry a.below card.table.now (λ n. refl) c.next_of-start.result w.c w.k (a.entries - 2 - w.k) _ w.r w.mended whole (omega (arith, c.slots_of-k-end.ensures)) w.invariant.2 _ c.in_ok-kind.ensures.value c.look_at.new.mended c.in_ok-kind.ensures.look_adds _ _ _ refused)
+
+-- a chain that is not sound
+pub returns-then-not-sound-clause-tells : goal.returns-then-not-sound-clause-tells
+returns-then-not-sound-clause-tells t c =
+    let a = c.args in
+    let card = a.card.now in
+    let v = view_of card in
+    let mend = mended_page card.geometry card.image.now in
+    let w = c.loop-k in
+    let joined = c.if-near-gt0 in
+    let whole = inside-go v mend card.geometry a.below card.table.now a.first a.entries (marks_of a.reached) a.mended.now c.in_ok-judge_dots.ensures.judged _ c.in_ok-judge_dots.ensures.counted _ (a.entries - 2) c.next_of-start.ensures refl ∙ w.invariant.0 in
+    let chain = near-joined card.table.now w.r c.in-Some.task.first c.in-Some.task.clusters w.invariant.1.at c.walk_near-near.result c.walk_near-near.ensures joined.r joined.sound
+    (elim joined.branch [
+      | then-near-gt0 y ↦ inl (y.walk_chain-far.result, y.if-near-gt0.true, y.walk_chain-far.ensures, y.r-is, y.sound-is)
+      | else-near-gt0 y ↦ inr (y.if-near-gt0.false, y.r-is, y.sound-is)
+    ]) in
+    let led = task-led card.table.now c.requires.0 v mend (λ n. refl) card.geometry a.below w.r w.invariant.1 c.look_at.new.mended (record { sound = joined.sound; reached = joined.r }) c.in-Some.task chain c.in_ok-kind.kind (sym c.in_ok-task.ensures ∙ ap Ok c.in-Some.is) in
+    slot-stop v mend card.geometry a.below card.table.now (λ n. refl) c.next_of-start.result w.c w.k (a.entries - 2 - w.k) _ w.r w.mended whole (omega (arith, c.slots_of-k-end.ensures)) w.invariant.2 _ c.in_ok-kind.ensures.value c.look_at.new.mended c.in_ok-kind.ensures.look_adds _ _ _ (led.broken c.if-not-sound.true)
 
 -- a directory that is entered: another level is left below, and its chain keeps the record sound
-pub walk_dir-b-requires : goal.walk_dir-b-requires
-walk_dir-b-requires t c =
+pub walk_dir-requires : goal.walk_dir-requires
+walk_dir-requires t c =
     let a = c.args in
-    let v = view_by a.geometry a.table.now a.image.now in
-    let mend = mended_page a.geometry a.image.now in
-    let w = c.loop-left in
-    let joined = c.if-a-gt0 in
-    let task = c.task_of-task.ensures in
-    let sound = sym c.is_sound.ensures ∙ and_r (ltb 0 w.left) c.is_sound.result c.loop-left-test.true in
-    let stands = stands-sound v mend a.geometry a.below a.table.now c.next_of-start.result w.c w.k w.left (on_image a.geometry (inside_of v mend a.below a.table.now a.first a.entries (marks_of a.reached) a.mended.now)) w.v w.r w.mended
-    (w.invariant.0 _ (inside-stands v mend a.geometry a.below a.table.now a.first a.entries a.reached a.mended.now c.requires.1 _ c.judge_dots-v.ensures.judged _ c.judge_dots-v.ensures.counted c.next_of-start.result c.slots_of-left.result c.next_of-start.ensures c.slots_of-left.ensures)) sound in
-    let chain = near-joined a.table.now w.r c.task_of-task.result.first c.task_of-task.result.clusters stands.1.at c.walk_near-a.result c.walk_near-a.ensures joined.r joined.sound
+    let card = a.card.now in
+    let v = view_of card in
+    let mend = mended_page card.geometry card.image.now in
+    let w = c.loop-k in
+    let joined = c.if-near-gt0 in
+    let chain = near-joined card.table.now w.r c.in-Some.task.first c.in-Some.task.clusters w.invariant.1.at c.walk_near-near.result c.walk_near-near.ensures joined.r joined.sound
     (elim joined.branch [
-      | then-a-gt0 y ↦ inl (y.walk_chain-far.result, y.if-a-gt0.true, y.walk_chain-far.ensures, y.r-is, y.sound-is)
-      | else-a-gt0 y ↦ inr (y.if-a-gt0.false, y.r-is, y.sound-is)
+      | then-near-gt0 y ↦ inl (y.walk_chain-far.result, y.if-near-gt0.true, y.walk_chain-far.ensures, y.r-is, y.sound-is)
+      | else-near-gt0 y ↦ inr (y.if-near-gt0.false, y.r-is, y.sound-is)
     ]) in
-    let go = task-inside a.table.now c.requires.0 v mend (λ n. refl) a.geometry a.below w.r stands.1 0 (record { sound = joined.sound; reached = joined.r }) c.look_at.result (rw task at c.if-task.true) (rw task at chain) (rw task at c.if-sound-task.true) in
-    let filled = (knows_on v a.table.now a.first _ _ _ _ _ _ w.invariant.4 c.look_at.ensures.knows (grows_self _)).1 in
+    let led = task-led card.table.now c.requires.0 v mend (λ n. refl) card.geometry a.below w.r w.invariant.1 c.look_at.new.mended (record { sound = joined.sound; reached = joined.r }) c.in-Some.task chain c.in_ok-kind.kind (sym c.in_ok-task.ensures ∙ ap Ok c.in-Some.is) in
+    let go = led.inside c.if-not-sound.false c.in-Some-inside.inside c.in-Some-inside.is in
+    let filled = (knows_on v card.table.now a.first _ _ _ _ _ _ w.invariant.4 c.look_at.ensures.knows (grows_self _)).1 in
     (omega (arith, go.0, c.decreases), (c.requires.0, go.1, filled.room ∙ c.requires.2))
 
-pub overflow_add-k : goal.overflow_add-k
-overflow_add-k t c =
-    omega (arith, c.loop-left.invariant.2, slot-left c.loop-left.left _ c.loop-left-test.true)
-
-pub loop-left-preserved : goal.loop-left-preserved
-loop-left-preserved t c =
+-- a directory whose inside is refused
+pub returns-in-Err-clause-tells : goal.returns-in-Err-clause-tells
+returns-in-Err-clause-tells t c =
     let a = c.args in
-    let g = a.geometry in
-    let tb = a.table.now in
-    let b = a.below in
-    let v = view_by g tb a.image.now in
-    let mend = mended_page g a.image.now in
-    let w = c.loop-left in
-    let seen = c.look_at in
-    let joined = c.if-task in
-    let count = seen.new.mended in
-    let made = c.task_of-task.result in
-    let task = c.task_of-task.ensures in
-    let more = slot-left w.left _ c.loop-left-test.true in
-    let sound = sym c.is_sound.ensures ∙ and_r (ltb 0 w.left) c.is_sound.result c.loop-left-test.true in
-    let told : Sound w.r → Tells (entered_look v mend g b tb (marks_of w.r) count seen.result) joined.v joined.r joined.mended =
-    λ kept. elim joined.branch [
-      | then-task+then-sound-task z ↦
-          let chain = near-joined tb w.r made.first made.clusters kept.at z.walk_near-a.result z.walk_near-a.ensures z.if-a-gt0.r z.if-a-gt0.sound
-          (elim z.if-a-gt0.branch [
-            | then-a-gt0 y ↦ inl (y.walk_chain-far.result, y.if-a-gt0.true, y.walk_chain-far.ensures, y.r-is, y.sound-is)
-            | else-a-gt0 y ↦ inr (y.if-a-gt0.false, y.r-is, y.sound-is)
+    let card = a.card.now in
+    let v = view_of card in
+    let mend = mended_page card.geometry card.image.now in
+    let w = c.loop-k in
+    let joined = c.if-near-gt0 in
+    let whole = inside-go v mend card.geometry a.below card.table.now a.first a.entries (marks_of a.reached) a.mended.now c.in_ok-judge_dots.ensures.judged _ c.in_ok-judge_dots.ensures.counted _ (a.entries - 2) c.next_of-start.ensures refl ∙ w.invariant.0 in
+    let chain = near-joined card.table.now w.r c.in-Some.task.first c.in-Some.task.clusters w.invariant.1.at c.walk_near-near.result c.walk_near-near.ensures joined.r joined.sound
+    (elim joined.branch [
+      | then-near-gt0 y ↦ inl (y.walk_chain-far.result, y.if-near-gt0.true, y.walk_chain-far.ensures, y.r-is, y.sound-is)
+      | else-near-gt0 y ↦ inr (y.if-near-gt0.false, y.r-is, y.sound-is)
+    ]) in
+    let led = task-led card.table.now c.requires.0 v mend (λ n. refl) card.geometry a.below w.r w.invariant.1 c.look_at.new.mended (record { sound = joined.sound; reached = joined.r }) c.in-Some.task chain c.in_ok-kind.kind (sym c.in_ok-task.ensures ∙ ap Ok c.in-Some.is) in
+    let go = led.inside c.if-not-sound.false c.in-Some-inside.inside c.in-Some-inside.is in
+    slot-stop v mend card.geometry a.below card.table.now (λ n. refl) c.next_of-start.result w.c w.k (a.entries - 2 - w.k) _ w.r w.mended whole (omega (arith, c.slots_of-k-end.ensures)) w.invariant.2 _ c.in_ok-kind.ensures.value c.look_at.new.mended c.in_ok-kind.ensures.look_adds _ _ _ (go.2 _ _ c.in-Err.ensures.tells)
+
+pub loop-k-preserved : goal.loop-k-preserved
+loop-k-preserved t c =
+    let a = c.args in
+    let card = a.card.now in
+    let g = card.geometry in
+    let tb = card.table.now in
+    let v = view_of card in
+    let mend = mended_page g card.image.now in
+    let w = c.loop-k in
+    let count = c.look_at.new.mended in
+    let kind = c.in_ok-kind.kind in
+    let joined = c.match-branch-4 in
+    let told : Tells (entered_look v mend g a.below tb (marks_of w.r) count kind) (Ok joined.r) joined.mended =
+    elim joined.branch [
+      | in-Some+else-not-sound+in-Some-inside+in-Ok z ↦
+          let chain = near-joined tb w.r z.in-Some.task.first z.in-Some.task.clusters w.invariant.1.at z.walk_near-near.result z.walk_near-near.ensures z.if-near-gt0.r z.if-near-gt0.sound
+          (elim z.if-near-gt0.branch [
+            | then-near-gt0 y ↦ inl (y.walk_chain-far.result, y.if-near-gt0.true, y.walk_chain-far.ensures, y.r-is, y.sound-is)
+            | else-near-gt0 y ↦ inr (y.if-near-gt0.false, y.r-is, y.sound-is)
           ]) in
-          let go = task-inside tb c.requires.0 v mend (λ n. refl) g b w.r kept count (record { sound = z.if-a-gt0.sound; reached = z.if-a-gt0.r }) seen.result (rw task at z.if-task.true) (rw task at chain) (rw task at z.if-sound-task.true) in
-          rw (z.mended-is, z.v-is, z.r-is) (go.2 _ _ _ (rw task at z.walk_dir-b.ensures.tells))
-      | then-task+else-sound-task z ↦
-          let chain = near-joined tb w.r made.first made.clusters kept.at z.walk_near-a.result z.walk_near-a.ensures z.if-a-gt0.r z.if-a-gt0.sound
-          (elim z.if-a-gt0.branch [
-            | then-a-gt0 y ↦ inl (y.walk_chain-far.result, y.if-a-gt0.true, y.walk_chain-far.ensures, y.r-is, y.sound-is)
-            | else-a-gt0 y ↦ inr (y.if-a-gt0.false, y.r-is, y.sound-is)
+          let led = task-led tb c.requires.0 v mend (λ n. refl) g a.below w.r w.invariant.1 count (record { sound = z.if-near-gt0.sound; reached = z.if-near-gt0.r }) z.in-Some.task chain kind (sym c.in_ok-task.ensures ∙ ap Ok z.in-Some.is) in
+          rw (z.mended-is, z.r-is) ((led.inside z.if-not-sound.false z.in-Some-inside.inside z.in-Some-inside.is).2 _ _ z.in-Ok.ensures.tells)
+      | in-Some+else-not-sound+in_default-inside z ↦
+          let chain = near-joined tb w.r z.in-Some.task.first z.in-Some.task.clusters w.invariant.1.at z.walk_near-near.result z.walk_near-near.ensures z.if-near-gt0.r z.if-near-gt0.sound
+          (elim z.if-near-gt0.branch [
+            | then-near-gt0 y ↦ inl (y.walk_chain-far.result, y.if-near-gt0.true, y.walk_chain-far.ensures, y.r-is, y.sound-is)
+            | else-near-gt0 y ↦ inr (y.if-near-gt0.false, y.r-is, y.sound-is)
           ]) in
-          rw (z.mended-is, z.v-is, z.r-is, z.sound_by-v.ensures) (task-chain tb c.requires.0 v mend (λ n. refl) g b w.r kept count (record { sound = z.if-a-gt0.sound; reached = z.if-a-gt0.r }) seen.result (rw task at z.if-task.true) (rw task at chain) (rw task at z.if-sound-task.false))
-      | else-task z ↦
-          rw (z.mended-is, z.v-is, z.r-is, task) (task-idle tb c.requires.0 v mend (λ n. refl) g b w.r kept count seen.result (rw task at z.if-task.false))
+          let led = task-led tb c.requires.0 v mend (λ n. refl) g a.below w.r w.invariant.1 count (record { sound = z.if-near-gt0.sound; reached = z.if-near-gt0.r }) z.in-Some.task chain kind (sym c.in_ok-task.ensures ∙ ap Ok z.in-Some.is) in
+          rw (z.mended-is, z.r-is) (led.file z.if-not-sound.false z.in_default-inside.is)
+      | in_default z ↦ rw (z.mended-is, z.r-is) (task-idle tb c.requires.0 v mend (λ n. refl) g a.below w.r w.invariant.1 count kind (sym c.in_ok-task.ensures ∙ ap Ok z.in_default.is))
     ] in
     let cells : Knows v tb a.first c.next_of-start.result (w.k + 1) joined.cells × Grows a.cells.now joined.cells =
     elim joined.branch [
-      | then-task+then-sound-task z ↦
-          rw z.cells-is (knows_on v tb a.first _ _ _ _ _ _ w.invariant.4 seen.ensures.knows z.walk_dir-b.ensures.grows)
-      | then-task+else-sound-task z ↦
-          rw z.cells-is (knows_on v tb a.first _ _ _ _ _ _ w.invariant.4 seen.ensures.knows (grows_self _))
-      | else-task z ↦
-          rw z.cells-is (knows_on v tb a.first _ _ _ _ _ _ w.invariant.4 seen.ensures.knows (grows_self _))
-    ] in (
-      λ whole h.
-          let here = stands-sound v mend g b tb c.next_of-start.result w.c w.k w.left whole w.v w.r w.mended (w.invariant.0 whole h) sound in
-          rw c.cluster_after-c.ensures
-          (slot-on v mend g b tb (λ n. refl) c.next_of-start.result w.c w.k w.left whole w.r w.mended here.0 more w.invariant.1 seen.result seen.ensures.value count seen.ensures.look_adds joined.v joined.r joined.mended (told here.1)),
-      cluster-step tb c.next_of-start.result w.c w.k _ w.invariant.1 c.cluster_after-c.ensures,
-      omega (arith, w.invariant.2, more),
-      cells.0,
-      cells.1,
-    )
+      | in-Some+else-not-sound+in-Some-inside+in-Ok z ↦
+          rw z.cells-is (knows_on v tb a.first _ _ _ _ _ _ w.invariant.4 c.look_at.ensures.knows z.walk_dir.ensures.grows)
+      | in-Some+else-not-sound+in_default-inside z ↦ rw z.cells-is (knows_on v tb a.first _ _ _ _ _ _ w.invariant.4 c.look_at.ensures.knows (grows_self _))
+      | in_default z ↦ rw z.cells-is (knows_on v tb a.first _ _ _ _ _ _ w.invariant.4 c.look_at.ensures.knows (grows_self _))
+    ] in
+    let less : a.entries - 2 - (w.k + 1) ≡ a.entries - 2 - w.k - 1 = omega arith in
+    let on = slot-go v mend g a.below tb (λ n. refl) c.next_of-start.result w.c w.k (a.entries - 2 - w.k) _ w.r w.mended w.invariant.0 (omega (arith, c.slots_of-k-end.ensures)) w.invariant.2 _ c.in_ok-kind.ensures.value count c.in_ok-kind.ensures.look_adds joined.r joined.mended told in
+    (rw (c.cluster_after-c.ensures, less) on.0, on.1, cluster-step tb c.next_of-start.result w.c w.k _ w.invariant.2 c.cluster_after-c.ensures, cells.0, cells.1)
 
-pub returns : goal.returns
-returns t c =
+pub returns-clause-tells : goal.returns-clause-tells
+returns-clause-tells t c =
     let a = c.args in
-    let v = view_by a.geometry a.table.now a.image.now in
-    let mend = mended_page a.geometry a.image.now in
-    let w = c.loop-left in record {
-      tells = stands-end v mend a.geometry a.below a.table.now _ w.c w.k w.left _ w.v w.r w.mended
-          (w.invariant.0 _ (inside-stands v mend a.geometry a.below a.table.now a.first a.entries a.reached a.mended.now c.requires.1 _ c.judge_dots-v.ensures.judged _ c.judge_dots-v.ensures.counted c.next_of-start.result c.slots_of-left.result c.next_of-start.ensures c.slots_of-left.ensures)) (ended w.left _ _ c.loop-left-test.false c.is_sound.ensures);
-      grows = w.invariant.4;
-    }
+    let card = a.card.now in
+    let v = view_of card in
+    let mend = mended_page card.geometry card.image.now in
+    let w = c.loop-k in
+    let whole = inside-go v mend card.geometry a.below card.table.now a.first a.entries (marks_of a.reached) a.mended.now c.in_ok-judge_dots.ensures.judged _ c.in_ok-judge_dots.ensures.counted _ (a.entries - 2) c.next_of-start.ensures refl ∙ w.invariant.0 in
+    slots-done v mend card.geometry a.below card.table.now c.next_of-start.result w.c w.k (a.entries - 2 - w.k) _ w.r w.mended whole (omega (arith, c.slots_of-k-end.ensures)) w.invariant.1

@@ -1,23 +1,19 @@
--- The loop keeps where the walk stands: sound so far, and what is left of the slots gives what the whole inside gives; or refused.
--- The count at the loop's begin has the first two entries already, so that the whole is any that the walk stood in there.
-use Rattle.std.proofs.Common.{◌≡◌, ℕ, ◌+◌}
-use Rattle.layout.specs.See.{view_by}
-use Rattle.model.specs.Check.{Marks, Result}
+-- What is left of the slots gives what all of them give, from the first two entries on.
+use Rattle.std.proofs.Common.{◌≡◌, ◌-◌}
+use Rattle.reached.specs.Marks.{Sound, marks_of}
+use Rattle.tree.specs.Card.{view_of}
 use Rattle.tree.specs.Mended.{mended_page}
 use Rattle.tree.specs.Met.{Grows, Knows}
 use Rattle.tree.specs.Slots.{cluster_at}
-use Rattle.tree.proofs.TellLaws.{Stands}
+use Rattle.tree.proofs.TellLaws.{rest}
 use Rattle.tree.proofs.walk.+walk_dir.Given as goal
 
 abbrev pub decreases-walk_dir : goal.decreases-walk_dir
 decreases-walk_dir l = l.below
 
-abbrev pub invariant-loop-left : goal.invariant-loop-left
-invariant-loop-left l =
-    ((whole : Result (Marks × ℕ)) → Stands (view_by l.geometry l.table l.image) (mended_page l.geometry l.image) l.geometry l.below l.table l.start l.initial.c l.initial.k l.initial.left whole l.initial.v l.initial.r l.initial.mended
-    → Stands (view_by l.geometry l.table l.image) (mended_page l.geometry l.image) l.geometry l.below l.table l.start l.c l.k l.left whole l.v l.r l.mended)
-    × (l.c ≡ cluster_at l.table l.start l.k) × (l.k + l.left ≡ l.initial.left)
-    × Knows (view_by l.geometry l.table l.image) l.table l.first l.start l.k l.cells × Grows l.initial.cells l.cells
-
-abbrev pub decreases-loop-left : goal.decreases-loop-left
-decreases-loop-left l = l.left
+abbrev pub invariant-loop-k : goal.invariant-loop-k
+invariant-loop-k l =
+    (rest (view_of l.card) (mended_page l.card.geometry l.card.image.now) l.card.geometry l.below l.card.table.now l.start l.start 0 (l.entries - 2) (marks_of l.initial.r) l.initial.mended
+    ≡ rest (view_of l.card) (mended_page l.card.geometry l.card.image.now) l.card.geometry l.below l.card.table.now l.start l.c l.k (l.entries - 2 - l.k) (marks_of l.r) l.mended)
+    × Sound l.r × (l.c ≡ cluster_at l.card.table.now l.start l.k)
+    × Knows (view_of l.card) l.card.table.now l.first l.start l.k l.cells × Grows l.initial.cells l.cells

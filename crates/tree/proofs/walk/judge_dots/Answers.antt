@@ -1,31 +1,30 @@
 -- `tree::walk::judge_dots` meets its contract: `.` before `..`.
-use Rattle.std.proofs.Common.{◌≡◌, ◌+◌, ◌*◌, sym, ◌∙◌, arith}
-use Rattle.layout.specs.See.{view_by}
+use Rattle.std.proofs.Common.{◌≡◌, ◌+◌, ◌*◌, arith}
+use Rattle.std.proofs.lemmas.Result.{err_from_is_err_and}
 use Rattle.model.specs.Check.{judge_dot}
 use Rattle.model.specs.Names.{dot_dot_name, dot_name}
+use Rattle.tree.specs.Card.{view_of}
 use Rattle.tree.specs.Mended.{mended_page}
-use Rattle.tree.proofs.TellLaws.{adds-stop, adds-two, dots-go, dots-stop}
+use Rattle.tree.proofs.TellLaws.{adds-two, dots-go, dots-stop}
 use Rattle.tree.proofs.walk.judge_dots.Goals as goal
 
-pub returns-then-not-is_sound : goal.returns-then-not-is_sound
-returns-then-not-is_sound c =
-    let a = c.args in
-    let v = view_by a.geometry a.table.now a.image.now in
-    let f = a.first in
+pub returns-in_err-judge_dot : goal.returns-in_err-judge_dot
+returns-in_err-judge_dot c =
+    let card = c.args.card.now in
+    let v = view_of card in
+    let f = c.args.first in
     let p : f * 2 ≡ 2 * f = omega arith in
-    let bad = sym c.is_sound.ensures ∙ c.if-not-is_sound.true in record {
-      judged = dots-stop a.geometry (λ x. judge_dot v dot_dot_name (2 * f + 1) (v.entry (2 * f + 1))) (judge_dot v dot_name (2 * f) (v.entry (2 * f))) c.judge_dot-a.result (rw p at c.judge_dot-a.ensures.judged) bad;
-      counted = adds-stop c.judge_dot-a.result _ _ _ bad;
-    }
+    let refused = err_from_is_err_and c.from_residual.result c.from_residual.ensures.1 in
+    let told = dots-stop card.geometry (λ x. judge_dot v dot_dot_name (2 * f + 1) (v.entry (2 * f + 1))) (judge_dot v dot_name (2 * f) (v.entry (2 * f))) _ _ (rw p at c.in_err-judge_dot.ensures.judged) in
+    rw (refused.1, refused.2) (record { judged = told; counted = tt })
 
 pub returns : goal.returns
 returns c =
-    let a = c.args in
-    let v = view_by a.geometry a.table.now a.image.now in
-    let f = a.first in
+    let card = c.args.card.now in
+    let v = view_of card in
+    let f = c.args.first in
     let p : f * 2 ≡ 2 * f = omega arith in
-    let mend = mended_page a.geometry a.image.now in
-    let good = sym c.is_sound.ensures ∙ c.if-not-is_sound.false in record {
-      judged = dots-go a.geometry (λ x. judge_dot v dot_dot_name (2 * f + 1) (v.entry (2 * f + 1))) (judge_dot v dot_name (2 * f) (v.entry (2 * f))) c.judge_dot-a.result c.judge_dot.result (rw p at c.judge_dot-a.ensures.judged) good (rw p at c.judge_dot.ensures.judged);
-      counted = adds-two c.judge_dot-a.result c.judge_dot.result a.mended.now (mend (2 * f)) (mend (2 * f + 1)) _ _ good (rw p at c.judge_dot-a.ensures.counted) (rw p at c.judge_dot.ensures.counted);
+    let mend = mended_page card.geometry card.image.now in record {
+      judged = dots-go card.geometry (λ x. judge_dot v dot_dot_name (2 * f + 1) (v.entry (2 * f + 1))) (judge_dot v dot_name (2 * f) (v.entry (2 * f))) _ (rw p at c.in_ok-judge_dot.ensures.judged) (rw p at c.judge_dot-2.ensures.judged);
+      counted = adds-two c.judge_dot-2.result c.args.mended.now (mend (2 * f)) (mend (2 * f + 1)) _ _ (rw p at c.in_ok-judge_dot.ensures.counted) (rw p at c.judge_dot-2.ensures.counted);
     }

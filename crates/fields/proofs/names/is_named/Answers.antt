@@ -1,5 +1,0 @@
--- The name is the model's, and so is the comparison.
-use Rattle.fields.proofs.names.is_named.Goals as goal
-
-pub returns : goal.returns
-returns c = cc
