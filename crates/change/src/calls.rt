@@ -17,7 +17,7 @@ use tree::card::Card;
 use tree::open_checked;
 
 // A change, with what it takes beside its path: a time, and the bytes of a file. One value, and no closure for each, because one
-// definition, `changed`, is of all five.
+// definition, `changed`, covers all five.
 #[derive(Clone, Copy)]
 pub(crate) enum Change<'a> {
     Create { time: &'a [u8], bytes: &'a [u8] },
@@ -43,9 +43,9 @@ impl Change<'_> {
         ensures { result ≡ takes_time self.entry }
     {
         match self {
-            Change::Create { time, .. } => is_valid_time(time),
-            Change::Make { time } => is_valid_time(time),
-            Change::Replace { time, .. } => is_valid_time(time),
+            Change::Create { time, .. } | Change::Make { time } | Change::Replace { time, .. } => {
+                is_valid_time(time)
+            }
             Change::Delete | Change::Remove => true,
         }
     }

@@ -12,7 +12,7 @@ use layout::table::Indirect;
 use page::{Format, read_page, rewrite_page};
 
 // How many words of a table of `end` words are in its page t. Here and below t is so small that its first word's number fits: a
-// bound of the loop of `store_pages`, which no type has.
+// bound of the loop of `store_pages`, which no type says.
 fn words_in(end: usize, t: usize) -> usize
     requires { t < 65536 }
     ensures { result ≡ words_in end t }

@@ -47,7 +47,7 @@ pub(crate) fn link_chain(table: &mut [u32], clusters: &[u32])
     }
 }
 
-// Frees `count` clusters of the chain that begins with cluster `first`.
+// Frees `count` clusters of the chain that begins with cluster `first`. One outside the table is passed over as in `link_chain`.
 pub(crate) fn clear_chain(table: &mut [u32], first: u32, count: usize)
     ensures { table.new ≡ cleared_from first count table.old }
 {

@@ -75,7 +75,7 @@ pub fn is_dot(page: &[u8; 512]) -> bool
     is_named(page, b".")
 }
 
-// Whether an entry is named `..`, as the second one of a directory is.
+// Whether an entry is named `..`, as the second one of a directory is: `is_named` too.
 pub fn is_dot_dot(page: &[u8; 512]) -> bool
     ensures { result ≡ same_name (entry_of page.now).name dot_dot_name }
 {

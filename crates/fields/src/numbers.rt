@@ -2,7 +2,7 @@
 ghost use Rattle.std.specs.Prelude.{◌≡◌, get_or};
 ghost use Rattle.model.specs.Bytes.{half, word};
 
-// The byte at a place. A missing byte counts as zero.
+// The byte at a place. A missing byte counts as zero. `ecc` has its own: neither crate stands on the other.
 pub fn byte_in(bytes: &[u8], at: usize) -> u8
     ensures { result ≡ get_or bytes.now at 0 }
 {

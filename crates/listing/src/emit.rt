@@ -15,7 +15,7 @@ impl Text<'_> {
     ghost use Rattle.listing.specs.Emit.{Writes};
     ghost use Rattle.listing.specs.Text.{decimal_of, digits_of};
 
-    // One byte, where it fits.
+    // One byte, where it fits: a test, since of what is written through `get_mut` no proof knows the other bytes.
     pub(crate) fn put_byte(&mut self, byte: u8)
         ensures { Writes self.old (byte ∷ []) self.new }
     {

@@ -10,7 +10,7 @@ const NAME_ROOM: usize = 33;
 
 const PATH_ROOM: usize = NAME_ROOM * MOST_NAMES;
 
-// So many bytes of an array: the library takes no memory but what it is lent.
+// So many bytes of an array: there is no heap.
 #[derive(Drop)]
 pub(crate) struct Path {
     pub(crate) bytes: [u8; PATH_ROOM],

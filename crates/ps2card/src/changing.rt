@@ -1,25 +1,14 @@
 // The five changes, as C and Rust call them.
 ghost use Rattle.std.specs.Prelude.{◌≡◌};
 ghost use Rattle.change.specs.Changed.{path_in};
-ghost use Rattle.layout.specs.Refusal.{told};
 ghost use Rattle.model.specs.Change as is;
 ghost use Rattle.ps2card.specs.Answer.{number_in, page_after};
 ghost use Rattle.ps2card.specs.Formats.{change_by};
 
 use crate::formats::format_of;
-use crate::tell_refusal;
+use crate::{tell_answer, tell_refusal};
 use change::{create, delete, make_dir, remove_dir, replace};
 use layout::Refusal;
-
-// 0 where the change is made, or what its refusal tells.
-fn tell_answer(answer: Result<(), Refusal>, page: &mut usize) -> u32
-    ensures { (result ≡ number_in (told answer)) × (page.new ≡ page_after (told answer) page.old) }
-{
-    match answer {
-        Ok(()) => 0,
-        Err(refusal) => tell_refusal(refusal, page),
-    }
-}
 
 // Creates a file of these bytes at a path, with this time. A refusal leaves the whole image as it was, as in every change.
 #[unsafe(no_mangle)]

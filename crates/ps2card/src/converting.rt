@@ -4,7 +4,7 @@ ghost use Rattle.page.specs.declared.Format.TheVariants.{Plain, Raw};
 ghost use Rattle.convert.specs.Converted.{converted, output_after};
 ghost use Rattle.ps2card.specs.Answer.{number_in, page_after};
 
-use crate::tell_refusal;
+use crate::tell_answer;
 use convert::{to_plain, to_raw};
 
 // A raw image without its spare bytes; a refusal leaves the whole output.
@@ -14,10 +14,7 @@ pub extern "C" fn ps2card_to_plain(image: &[u8], out: &mut [u8], page: &mut usiz
     ensures page_after { page.new ≡ page_after (converted Raw Plain image.now (length out.old)) page.old }
     ensures out_after { out.new ≡ output_after (converted Raw Plain image.now (length out.old)) out.old }
 {
-    match to_plain(image, out) {
-        Err(refusal) => tell_refusal(refusal, page),
-        Ok(()) => 0,
-    }
+    tell_answer(to_plain(image, out), page)
 }
 
 // A plain image with spare bytes: fresh codes, then zeros. No page of it is unreadable.

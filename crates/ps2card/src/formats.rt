@@ -4,7 +4,7 @@ ghost use Rattle.ps2card.specs.Named.{named_by};
 
 use page::Format;
 
-// 0 and 1 are C's interface; every other number names no format. Each call tells so itself: a Result here would be as long there.
+// 0 and 1 are C's interface; every other number names no format. Each call answers that itself: with a Result it would be as long.
 pub(crate) fn format_of(number: u32) -> Option<Format>
     ensures { result ≡ named_by number }
 {

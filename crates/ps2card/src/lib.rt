@@ -9,7 +9,7 @@ pub mod reading;
 pub mod texts;
 
 ghost use Rattle.std.specs.Prelude.{◌≡◌};
-ghost use Rattle.layout.specs.Refusal.{number_of, page_of};
+ghost use Rattle.layout.specs.Refusal.{number_of, page_of, told};
 ghost use Rattle.ps2card.specs.Answer.{number_in, page_after, page_left, value_after};
 ghost use Rattle.ps2card.specs.Formats.{check_by};
 
@@ -26,6 +26,16 @@ pub(crate) fn tell_refusal(refusal: Refusal, page: &mut usize) -> u32
         *page = refusal.page();
     }
     number
+}
+
+// 0 for what is done, or what its refusal tells.
+pub(crate) fn tell_answer(answer: Result<(), Refusal>, page: &mut usize) -> u32
+    ensures { (result ≡ number_in (told answer)) × (page.new ≡ page_after (told answer) page.old) }
+{
+    match answer {
+        Ok(()) => 0,
+        Err(refusal) => tell_refusal(refusal, page),
+    }
 }
 
 // The check of a card: N, free, reached, orphaned and held back, and the corrected chunks; a refusal leaves them as they were.

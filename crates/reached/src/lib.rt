@@ -50,7 +50,8 @@ fn has_current(current: u64, c: usize) -> bool
     (current >> (c % 64)) % 2 == 1
 }
 
-// A word put in its place, where it is one of the record's.
+// A word put in its place, where it is one of the record's: a test, since of what is written through `get_mut` no proof knows
+// the other words.
 fn put_word(words: &mut [u64; MARK_WORDS], at: usize, word: u64)
     ensures { words.new ≡ put_word words.old at word }
 {
@@ -115,7 +116,7 @@ impl Reached {
 }
 
 // What the walk of a chain does at a cluster: whether it marks it, which cluster is next, and how many are left from that one on.
-// Where none is left the chain is over, sound or not. The flags are numbers of the hottest loop: an enum is no plainer there.
+// Where none is left the chain is over, sound or not. Its fields go one by one into the walk's own, so an enum would be no plainer.
 #[derive(Drop)]
 struct Step {
     marks: bool,
@@ -182,6 +183,7 @@ pub fn walk_near(table: &[u32], reached: Reached, first: u32, clusters: u32) -> 
     let mut sound = (clusters == 0) & (first == END_MARK);
     let mut c = first;
     let mut left = clusters;
+    // No `for`: it also ends where the next cluster lies in another word, and what is left goes on from there.
     while (0 < left) & (c as usize / 64 == r.at) {
         let step = step_at(table, r.current, c, left);
         if step.marks {
@@ -200,7 +202,7 @@ pub fn walk_near(table: &[u32], reached: Reached, first: u32, clusters: u32) -> 
 }
 
 // The record with the clusters that the walk of a chain passed, and whether the chain is sound. An Option of the record is
-// copied: with it the whole check took 10 to 14 percent more instructions, over its bar. So for `Near`.
+// copied: with it the whole check took 10 to 14 percent more instructions, and it is held to a bar that is near. So for `Near`.
 #[derive(Drop)]
 pub struct Chain {
     pub reached: Reached,
@@ -216,6 +218,7 @@ pub fn walk_chain(table: &[u32], reached: Reached, first: u32, clusters: u32) ->
     let mut sound = (clusters == 0) & (first == END_MARK);
     let mut c = first;
     let mut left = clusters;
+    // No `for`: as many clusters are left as `walk_near` did not pass, and a cluster beyond all ends it.
     while (0 < left) & ((c as usize) < MOST_CLUSTERS) {
         let k = c as usize / 64;
         let at = r.at;

@@ -48,7 +48,7 @@ impl Card<'_> {
         }
     }
 
-    // The same for its data alone.
+    // `read_needed`, for who counts nothing: a bool too, since not every caller refuses.
     pub fn read_slot(&self, page: usize, out: &mut [u8; 512]) -> bool
         ensures { Read ((view_of self.now).page page) out.old result out.new }
     {
@@ -64,7 +64,7 @@ impl Card<'_> {
         Refusal::UnreadablePage(image_page(self.geometry, page))
     }
 
-    // Whether a page of the allocatable clusters has data.
+    // Whether a page of the allocatable clusters has data: a question, so a bool.
     pub fn judge_slot(&self, page: usize) -> bool
         ensures { result ≡ is_some ((view_of self.now).page page) }
     {

@@ -17,8 +17,8 @@ pub(crate) const CELLS: usize = 2 * MOST_CLUSTERS;
 // Marks of names; one of them and a page fit a word.
 const MARKS: u64 = 32_767;
 
-// What a name's bytes are mixed into: a residue for each of three primes. That they are residues is said where two hashes are
-// made, and is no ghost field: the specs make hashes too, and each would have to prove it.
+// What a name's bytes are mixed into: a residue for each of three primes. That they are residues stands in the clauses
+// of the functions that make hashes, and is no ghost field: the definitions make hashes too, and each would have to prove it.
 #[derive(Drop)]
 pub(crate) struct Hash {
     pub(crate) a: u64,

@@ -92,7 +92,7 @@ fn at(k: usize) -> Verdict {
     }
 }
 
-// Counts one more where `yes`, which is what is counted.
+// Counts one more if `yes`.
 fn count(n: &mut u64, yes: bool) {
     *n = n.wrapping_add(u64::from(yes));
 }
