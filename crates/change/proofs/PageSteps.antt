@@ -1,7 +1,7 @@
 -- The pages that a change writes, as its code makes them: bytes put into a page of zeros, and data page by page.
 use Rattle.layout.specs.See.{image_page}
 use Rattle.layout.specs.declared.Geometry.{Geometry}
-use Prim.Native.Nat.{ℕ, zero, suc, ◌%◌, ◌*◌, ◌+◌, ◌-◌, ◌/◌, ◌<◌, ◌≤◌}
+use Prim.Native.Nat.{ℕ, zero, suc, min, ◌%◌, ◌*◌, ◌+◌, ◌-◌, ◌/◌, ◌<◌, ◌≤◌}
 use mathlib.Core.Bool.{true}
 use mathlib.Core.List.{List, [], ◌++◌, ◌∷◌}
 use mathlib.Core.Path.{◌∙◌, ◌≡◌, ap, ap₂, refl, sym}
@@ -80,6 +80,12 @@ module _ (mode length first : ℕ) (time : List ℕ) where
       m ∙ ap (λ (p : List ℕ). sets p 0x00 (little_bytes 2 mode)) (l ∙ ap (λ (p : List ℕ). sets p 0x04 (little_bytes 4 length))
       (j ∙ ap (λ (p : List ℕ). sets p 0x10 (little_bytes 4 first)) h))
 
+-- by other names for its numbers
+pub altered-so : (page : List ℕ) (mode length first : ℕ) (time : List ℕ) {mode' length' first' : ℕ} {time' r : List ℕ} → mode' ≡ mode → length' ≡ length
+    → first' ≡ first → time' ≡ time → r ≡ altered_page page (altered_entry (entry_of page) mode' length' first' time')
+    → r ≡ altered_page page (altered_entry (entry_of page) mode length first time)
+altered-so page mode length first time m l f t e = rw (m, l, f, t) at e
+
 -- ---- one page of data
 front : (d : List ℕ) → length d ≤ 512 → sets zero_page 0 d ≡ take 512 (d ++ zero_page)
 unfolding zero_page
@@ -110,6 +116,16 @@ module _ (bytes : List ℕ) (k : ℕ) {blank : List ℕ} (blank-zero : blank ≡
       padded d (no long) =
           take-append-le 512 (take 512 d) zero_page (omega (arith, length-take-le 512 d (omega arith)))
           ∙ take-take 512 512 d (omega arith) ∙ sym (take-append-le 512 d zero_page (omega arith))
+
+  -- a page with the first 512 bytes of the data that is left, or all of it
+  pub page-from : {page rest : List ℕ} {n : ℕ} → page ≡ sets blank 0 (take n rest) → n ≡ min (length rest) 512 → rest ≡ drop (512 * k) bytes → page ≡ data_page bytes k
+  page-from {page} {rest} {n} e size from =
+      let there : 512 * k ≡ k * 512 = omega arith in
+      page-of e (piece (dec_lt (length rest) 512) ∙ ap (λ (d : List ℕ). take 512 d) (from ∙ ap (λ m. drop m bytes) there))
+    where
+      piece : Dec (length rest < 512) → take n rest ≡ take 512 rest
+      piece (yes short) = take_all n rest (omega (arith, size)) ∙ sym (take_all 512 rest (omega arith))
+      piece (no long) = let most : n ≡ 512 = omega (arith, size) in ap (λ m. take m rest) most
 
 -- ---- page by page: what is left to write, from page k on
 module _ (geometry : Geometry) (clusters bytes : List ℕ) where

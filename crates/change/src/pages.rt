@@ -20,13 +20,13 @@ pub(crate) fn zero_page() -> [u8; 512]
     [0u8; 512]
 }
 
-// Page k of data as it is written.
+// Page k of data as it is written. Its piece is lent by its place: the library's `nth` of the chunks steps over all before it.
 fn data_page(bytes: &[u8], k: usize) -> [u8; 512]
     ensures { result ≡ data_page bytes.now k }
 {
     let mut page = zero_page();
-    if let Some(data) = bytes.chunks(512).nth(k) {
-        put_bytes(&mut page, 0, data);
+    if let Some(rest) = bytes.get(k.saturating_mul(512)..) {
+        put_bytes(&mut page, 0, &rest[..rest.len().min(512)]);
     }
     page
 }

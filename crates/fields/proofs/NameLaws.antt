@@ -4,7 +4,7 @@ use mathlib.Core.Bool.{Bool, ◌&&◌, ◌||◌, cond, false, not, true}
 use mathlib.Core.List.{List, [], ◌∷◌}
 use mathlib.Core.Path.{◌∙◌, ◌≡◌, ap, refl, sym}
 use native.Mathlib.Omega.{arith}
-use borrow.Author.Tests.{ltb-false}
+use borrow.Author.Tests.{ltb-false, ltb-true}
 use lib.Dec.{eqb, leb, ltb}
 use lib.ListN.{length, length-take, take}
 use Rattle.std.specs.List.{list_all, position_or_len}
@@ -12,7 +12,8 @@ use Rattle.std.specs.Option.{unwrap_or}
 use Rattle.std.specs.Prelude.{None, Option, Some, position}
 use Rattle.std.proofs.lemmas.List.Recursion.{is_position_or_len}
 use Rattle.model.specs.Bytes.{before_zero}
-use Rattle.model.specs.Names.{legal_bytes}
+use Rattle.model.proofs.Equality.{and_l, and_r}
+use Rattle.model.specs.Names.{Name, good_name, legal_bytes}
 
 -- a name is the beginning of its field, and no longer
 pub name-in-field : (l : List ℕ) → take (length (before_zero l)) l ≡ before_zero l
@@ -49,3 +50,7 @@ all-legal (b ∷ l) = rw (all-legal l) (go (leb 0x20 b && leb b 0x7E && not (eqb
     go : (x : Bool) → (x && true && legal_bytes l) ≡ (x && legal_bytes l)
     go true = refl
     go false = refl
+
+-- a good name has at most 31 bytes
+pub good-short : (n : Name) → good_name n ≡ true → length n ≤ 31
+good-short n h = let l = ltb-true (length n) 32 (and_r (ltb 0 (length n)) _ (and_l _ _ (and_l _ _ (and_l _ _ h)))) in omega arith

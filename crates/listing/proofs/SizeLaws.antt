@@ -6,7 +6,7 @@ use mathlib.Core.List.{List, [], ◌++◌, ◌∷◌}
 use mathlib.Core.Option.{Option, none, some}
 use mathlib.Core.Path.{◌∙◌, ◌≡◌, ap, refl, sym}
 use native.Mathlib.Omega.{arith}
-use borrow.Author.Tests.{le-ltb, lt-ltb, ltb-true}
+use borrow.Author.Tests.{le-ltb, lt-ltb}
 use lib.Dec.{eqb, ltb}
 use lib.IntN.{ℤ}
 use lib.ListN.{length, length-append, length-drop, length-take, take}
@@ -29,7 +29,7 @@ use Rattle.model.specs.Check.{Marks, Result, fault, ok}
 use Rattle.model.specs.Counts.{total_below}
 use Rattle.model.specs.Entry.{Entry, has_bit, is_directory, is_file, is_live, is_subdirectory}
 use Rattle.model.specs.Holds.{HoldsCard, HoldsSlots, deepest, most_names}
-use Rattle.model.specs.Names.{Name, good_name}
+use Rattle.fields.proofs.NameLaws.{good-short}
 use Rattle.model.specs.Tree.{Root, Slot, Tree, chain_of, cluster_uses, end, entry_pages, node, reached, root_slot, times}
 use Rattle.model.specs.View.{Link, View, most_clusters, pages_of}
 use Rattle.reached.proofs.Totalling.{total-zero}
@@ -107,9 +107,6 @@ slot_total (node h s t) = 1 + slot_total s + slot_total t
 chain_total : Tree → ℕ
 chain_total end = 0
 chain_total (node h s t) = length (chain_of h) + chain_total s + chain_total t
-
-good-short : (n : Name) → good_name n ≡ true → length n ≤ 31
-good-short n h = let l = ltb-true (length n) 32 (and_r (ltb 0 (length n)) _ (and_l _ _ (and_l _ _ (and_l _ _ h)))) in omega arith
 
 file-short : (e : Entry) → is_file e ≡ true → length e.name ≤ 31
 file-short e h = good-short e.name (and_r (is_live e && has_bit e.mode 0x10 && not (has_bit e.mode 0x20)) _ (and_l _ _ h))

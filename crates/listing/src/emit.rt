@@ -2,6 +2,8 @@
 ghost use Rattle.std.specs.Prelude.{◌≤◌, length};
 ghost use Rattle.listing.specs.Sizes.{most};
 
+use fields::writes::put_bytes;
+
 // A text in writing: its buffer, and the place after all of it, which stands still at the greatest number.
 #[derive(Drop)]
 pub(crate) struct Text<'a> {
@@ -25,13 +27,12 @@ impl Text<'_> {
         self.at = self.at.saturating_add(1);
     }
 
-    // Bytes, as many as fit.
+    // Bytes, as many as fit, at once: one by one, place and buffer would go through memory for each.
     pub(crate) fn put(&mut self, bytes: &[u8])
         ensures { Writes self.old bytes.now self.new }
     {
-        for byte in bytes {
-            self.put_byte(*byte);
-        }
+        put_bytes(self.out, self.at, bytes);
+        self.at = self.at.saturating_add(bytes.len());
     }
 
     // The last `count` digits of a number, without zeros in front.
