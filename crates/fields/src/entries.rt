@@ -6,7 +6,7 @@ ghost use Rattle.fields.specs.Entries.{fields_of_entry};
 
 use crate::numbers::{half_at, word_at};
 
-#[derive(Drop)]
+#[derive(Clone, Copy)]
 pub struct Entry {
     pub mode: u16,
     pub length: u32,

@@ -11,6 +11,13 @@ const BYTES: usize = 59136;
 // 12:34:56 on 29 February 2000.
 const TIME: [u8; 8] = [0, 56, 34, 12, 29, 2, 0xD0, 0x07];
 
+// The listing of a card. The fresh one is listed where it lies: a copy would lie on the stack under all that comes after.
+fn show(rt: &impl Print, image: &[u8; BYTES]) -> io::Result<()> {
+    let mut text = [0u8; 1024];
+    let length = listing::list(Format::Raw, image, 0, &mut text);
+    io::writer(rt).write_all(listing::written(&text, length))
+}
+
 // A card of its own, and where it is told what is done to it: a method for each call, which reads as the figures do.
 #[derive(Drop)]
 struct Trial<'a, P: Print> {
@@ -82,9 +89,7 @@ impl<'a, P: Print> Trial<'a, P> {
     }
 
     fn tell_listing(&self) -> io::Result<()> {
-        let mut text = [0u8; 1024];
-        let length = listing::list(Format::Raw, &self.image, 0, &mut text);
-        io::writer(self.rt).write_all(listing::written(&text, length))
+        show(self.rt, &self.image)
     }
 
     fn tell_read(&self, path: &str, from: usize) -> io::Result<()> {
@@ -164,7 +169,7 @@ fn save(rt: &impl Print, fresh: &[u8; BYTES]) -> io::Result<()> {
 
 fn run(rt: &impl Print, fresh: &[u8; BYTES]) -> io::Result<()> {
     println!(rt; "== fresh")?;
-    Trial::on(rt, fresh).tell_listing()?;
+    show(rt, fresh)?;
     println!(rt; "== the greatest file")?;
     greatest(rt, fresh)?;
     println!(rt; "== removed first")?;

@@ -18,7 +18,7 @@ use tree::card::Card;
 use tree::slots::{next_of, slots_of};
 
 // The slot that a directory step leads to, and the entry in it.
-#[derive(Drop)]
+#[derive(Clone, Copy)]
 pub struct Stepped {
     pub slot: u32,
     pub entry: Entry,

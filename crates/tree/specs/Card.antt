@@ -1,7 +1,8 @@
 -- A card by its image and the words of its table.
-use Rattle.std.specs.Prelude.{◌≡◌, ℕ, Option, None, Some}
+use Rattle.std.specs.Prelude.{◌≡◌, ℕ, List, Option, None, Some}
 use Rattle.std.proofs.Math.Option.{none}
-use Rattle.layout.specs.See.{image_page, view_by}
+use Rattle.layout.specs.See.{image_page, page_in, view_by}
+use Rattle.layout.specs.declared.Geometry.{Geometry}
 use Rattle.model.specs.View.{View}
 use Rattle.page.specs.Page.{page_at}
 use Rattle.tree.specs.declared.card.Card.{Card}
@@ -10,7 +11,7 @@ use Rattle.tree.specs.declared.card.Card.{Card}
 abbrev pub view_of : Card → View
 view_of card = view_by card.geometry card.table.now card.image.now
 
--- where a page of the view lies in the image; it is none where it lies nowhere
-abbrev pub Lies : Card → ℕ → Option ℕ → Type 0
-Lies card page None = (view_of card).page page ≡ none
-Lies card page (Some p) = (p ≡ image_page card.geometry page) × ((view_of card).page page ≡ page_at card.geometry.format card.image.now p)
+-- where a page of the `count` allocatable clusters lies in the image; it has no data where it lies nowhere
+abbrev pub Lies : Geometry → ℕ → List ℕ → ℕ → Option ℕ → Type 0
+Lies geometry count image page None = page_in geometry count image page ≡ none
+Lies geometry count image page (Some p) = (p ≡ image_page geometry page) × (page_in geometry count image page ≡ page_at geometry.format image p)

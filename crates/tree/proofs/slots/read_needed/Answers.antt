@@ -7,7 +7,7 @@ use Rattle.page.specs.Mended.{chunks_in, mended_chunks, wrapped}
 use Rattle.page.specs.Page.{Read}
 use Rattle.page.proofs.Puts.{read_none, read_some}
 use Rattle.tree.specs.Mended.{count_after, mended_page}
-use Rattle.tree.proofs.card.Card.read_needed.Goals as goal
+use Rattle.tree.proofs.slots.read_needed.Goals as goal
 
 -- without data the buffer and the count stay
 none_read : (o : Option (List ℕ)) (out : List ℕ) (chunks before : ℕ) → o ≡ none → Read o out false out × (before ≡ count_after o chunks before)
@@ -21,7 +21,7 @@ adds geometry image page p before e f g k = rw (f, ← e, ← g) k
 pub returns-in_default : goal.returns-in_default
 returns-in_default c =
     let a = c.args in
-    let kept = none_read _ a.out.now (mended_page a.self.now.geometry a.self.now.image.now a.page) a.mended.now c.in_default.ensures in
+    let kept = none_read _ a.out.now (mended_page a.geometry a.image.now a.page) a.mended.now c.in_default.ensures in
     record { read = kept.0; counted = kept.1 }
 
 pub returns-in-None : goal.returns-in-None
@@ -29,7 +29,7 @@ returns-in-None c =
     let a = c.args in
     let here = c.in-Some.ensures.1 in
     let read = c.in-None.ensures.read in
-    let kept = none_read _ a.out.now (mended_page a.self.now.geometry a.self.now.image.now a.page) a.mended.now (here ∙ read_none _ read refl) in
+    let kept = none_read _ a.out.now (mended_page a.geometry a.image.now a.page) a.mended.now (here ∙ read_none _ read refl) in
     record { read = rw here read; counted = kept.1 }
 
 pub returns-in-Some-read_page : goal.returns-in-Some-read_page
@@ -39,4 +39,4 @@ returns-in-Some-read_page c =
     let here = c.in-Some.ensures.1 in
     let read = c.in-Some-read_page.ensures.read in
     let found = here ∙ read_some _ read refl in
-    record { read = rw here read; counted = adds a.self.now.geometry a.self.now.image.now a.page _ a.mended.now c.in-Some.ensures.0 found (c.count.ensures.0 ∙ ap chunks_in c.in-Some-read_page.ensures.mended) refl }
+    record { read = rw here read; counted = adds a.geometry a.image.now a.page _ a.mended.now c.in-Some.ensures.0 found (c.count.ensures.0 ∙ ap chunks_in c.in-Some-read_page.ensures.mended) refl }
