@@ -44,7 +44,7 @@ module _ (s : Superblock) (image table : List ℕ) (directory : EntryAt) (name :
   -- as the code has found it
   module _ (is-so : is_directory (entry_of directory.page) ≡ true) {start count entries : ℕ} (starts : start ≡ next_of table directory.first) (counted : count ≡ entries - 2)
       (entries-are : entries ≡ entries_of directory) {found : Option Place} (looked : found ≡ scan (bearing (view_by s.geometry table image) name) (slot_pages table start 0 count) 0) where
-    there-so : place_of (view_by s.geometry table image) table directory name ≡ found
+    pub there-so : place_of (view_by s.geometry table image) table directory name ≡ found
     there-so = scan-so table directory starts counted entries-are (bearing (view_by s.geometry table image) name) looked
 
     pub vacant-there : (place : Place) → found ≡ Some place → Err is.Exists ≡ vacancy s image table directory name

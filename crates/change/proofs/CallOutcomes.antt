@@ -181,18 +181,21 @@ module _ (format : Format) (image : List ℕ) (s : Superblock) (root : Root) (m 
               no-directory K f
               ∙ sym (refused-way K 10 (omega arith) fine (lookup.site-file (see s image) (table_of image s) (λ c. refl) (λ q. refl) root holds path' names k parsed count a led here e f))
 
-      -- only a directory is entered
+      -- no entry is entered from a file
+      not_entered : (lands : EntryAt → Type 0) → is_directory (entry_of here.page) ≡ false → CanEditIn s image (table_of image s) here (last_name names) lands
+      unfolding entered
+      not_entered lands f entry there = let z = sym no-way ∙ there in cc
+        where
+          no-way : entry_of_name s image (table_of image s) here (last_name names) ≡ Err is.WrongKind
+          no-way = rw f
+
       edits : (lands : EntryAt → Type 0) → (is_directory (entry_of here.page) ≡ true → CanEditIn s image (table_of image s) here (last_name names) lands)
           → CanEditIn s image (table_of image s) here (last_name names) lands
-      unfolding entered
       edits lands can entry there = go (bool (is_directory (entry_of here.page)))
         where
-          no-way : is_directory (entry_of here.page) ≡ false → entry_of_name s image (table_of image s) here (last_name names) ≡ Err is.WrongKind
-          no-way f = rw f
-
           go : (is_directory (entry_of here.page) ≡ true) ⊎ (is_directory (entry_of here.page) ≡ false) → Open s image (table_of image s) × lands entry
           go (inl d) = can d entry there
-          go (inr f) = let z = sym (no-way f) ∙ there in cc
+          go (inr f) = not_entered lands f entry there
 
       can-here : (K : Asked) → static (change_of K names) ≡ 0 → CanChange s image (table_of image s) here (last_name names) K
       can-here (asked.Create time bytes) fine =

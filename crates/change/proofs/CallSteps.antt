@@ -17,6 +17,7 @@ use Rattle.layout.specs.Refusal.{number_of, page_of}
 use Rattle.layout.specs.declared.Refusal.{Refusal}
 use Rattle.layout.specs.Table.{open_card, table_after, table_of}
 use Rattle.layout.proofs.OpenFacts.{open-format}
+use Rattle.layout.proofs.TableLaws.{length-table}
 use Rattle.lookup.specs.declared.way.EntryAt.{EntryAt}
 use Rattle.lookup.specs.Descend.{descended, names_from}
 use Rattle.lookup.proofs.CardLaws as card
@@ -34,7 +35,7 @@ use Rattle.change.specs.Calls.{refused_by}
 use Rattle.change.specs.Changed.{changed, changed_by, or_root, path_in}
 use Rattle.change.specs.Kinds.{CanChange, Loaded, Ready, change_of, changed_in, takes_names, takes_time}
 use Rattle.change.proofs.CallOutcomes.{call-can, call-in, call-refused, no-path, path-good, static-deep, static-fine, static-late, static-refused}
-use Rattle.change.proofs.ChangedLaws.{own-checked}
+use Rattle.change.proofs.ChangedLaws.{checked-parts, own-checked}
 
 -- a call takes no path without a name
 pub takes-some : (K : Asked) (n : ℕ) → takes_names K n ≡ true → 0 < n
@@ -46,6 +47,12 @@ takes-some asked.Remove n e = ltb-true 0 n e
 
 -- ---- of a card that is loaded
 module _ (image : List ℕ) (s : Superblock) (table : List ℕ) (l : Loaded image s table) where
+  pub loaded-open : open_card s.geometry.format image ≡ ok s
+  loaded-open = (checked-parts s.geometry.format image s l.root l.marks l.checked).0
+
+  pub loaded-long : length table ≡ s.end
+  loaded-long = ap length l.words ∙ length-table image s
+
   module _ (K : Asked) (path : List ℕ) where
     pub malformed : path_of path ≡ none → changed s.geometry.format (change_of K (path_in path)) image ≡ refused_by 8 image
     malformed e = rw e (static-refused s.geometry.format image s l.root l.marks l.checked (change_of K []) 7 (no-path K))

@@ -1,15 +1,16 @@
 -- A change put down, step by step: the table's words linked anew, the pages written, and then the table's pages.
 use Rattle.std.specs.Prelude.{Some, slice_get}
 use Rattle.page.specs.declared.Format.{Format}
+use Rattle.layout.specs.See.{image_page}
 use Rattle.layout.specs.declared.Geometry.{Geometry}
 use Prim.Native.Nat.{ℕ, ◌*◌, ◌+◌, ◌<◌, ◌≤◌}
 use mathlib.Core.Bool.{true}
 use mathlib.Core.List.{List, [], ◌++◌, ◌∷◌}
 use mathlib.Core.Option.{some}
-use mathlib.Core.Path.{◌∙◌, ◌≡◌, ap, ap₂, sym}
+use mathlib.Core.Path.{◌∙◌, ◌≡◌, ap, ap₂, refl, sym}
 use native.Mathlib.Omega.{arith}
-use lib.ListN.{get_or}
-use Rattle.page.specs.Page.{is_some, page_at}
+use lib.ListN.{get_or, length}
+use Rattle.page.specs.Page.{is_some, page_at, put}
 use Rattle.layout.specs.declared.Superblock.{Superblock}
 use Rattle.layout.specs.Table.{names_of, open_card, table_clusters}
 use Rattle.layout.proofs.OpenFacts.{names-kept, open-facts}
@@ -19,8 +20,9 @@ use Rattle.model.specs.Tree.{hit, times}
 use Rattle.model.specs.View.{most_clusters, pages_of, top_bit}
 use Rattle.model.specs.Writes.{PageWrite, cluster_writes}
 use Rattle.model.proofs.Frame.{hit-0}
-use Rattle.change.specs.Deeds.{image_by, writes_of}
+use Rattle.change.specs.Deeds.{grown, image_by, relinked, writes_of}
 use Rattle.change.specs.Image.{Lands, store_table, write_pages}
+use Rattle.change.specs.Words.{chained, cleared_from}
 use Rattle.change.proofs.PageWrites.{low-page-kept}
 use Rattle.change.proofs.WriteLaws.{written-append}
 
@@ -29,8 +31,41 @@ pub pair-low : (last : ℕ) (growth : List ℕ) (added : ℕ) → last < top_bit
 pair-low last [] added low first x high none = cc
 pair-low last (g ∷ gs) added low first x high none = let e : added ≡ g = cc in rw e (omega (arith, hit-0 last x (λ z. omega arith)))
 
+module _ (last : ℕ) where
+  led_on : (growth table : List ℕ) → 0 < length growth → chained (last ∷ get_or growth 0 0 ∷ []) table ≡ grown last growth table
+  led_on [] table more = absurd (omega arith)
+  led_on (g ∷ gs) table more = refl
+
+  not-led : (growth table : List ℕ) → length growth ≤ 0 → table ≡ grown last growth table
+  not-led [] table none = refl
+  not-led (g ∷ gs) table none = absurd (omega arith)
+
+module _ (back count : ℕ) (taken : List ℕ) (last : ℕ) (growth table : List ℕ) {freed linked : List ℕ}
+    (free : freed ≡ cleared_from back count table) (link : linked ≡ chained taken freed) where
+  so_far : linked ≡ chained taken (cleared_from back count table)
+  so_far = link ∙ ap (chained taken) free
+
+  pub relinked-grown : {led : List ℕ} → 0 < length growth → led ≡ chained (last ∷ get_or growth 0 0 ∷ []) linked → led ≡ relinked back count taken last growth table
+  relinked-grown more lead = lead ∙ led_on last growth linked more ∙ ap (grown last growth) so_far
+
+  pub relinked-only : length growth ≤ 0 → linked ≡ relinked back count taken last growth table
+  relinked-only none = so_far ∙ not-led last growth (chained taken (cleared_from back count table)) none
+
 -- ---- the pages
 module _ (geometry : Geometry) (image : List ℕ) where
+  pub no-zeros : (growth : List ℕ) → length growth ≡ 0 → image ≡ write_pages geometry (cluster_writes (pages_of growth) (some zero_page ∷ some zero_page ∷ [])) image
+  no-zeros [] h = refl
+  no-zeros (g ∷ gs) h = absurd (omega arith)
+
+  pub zeros-written : (growth : List ℕ) {at : ℕ} {zeros one both : List ℕ} → (length growth ≡ 0 → ⊥) → length growth ≤ 1 → zeros ≡ zero_page
+      → at ≡ image_page geometry (2 * get_or growth 0 0) → one ≡ put geometry.format true at zeros image → both ≡ put geometry.format true (at + 1) zeros one
+      → both ≡ write_pages geometry (cluster_writes (pages_of growth) (some zero_page ∷ some zero_page ∷ [])) image
+  zeros-written [] h k z p e f = absurd (h refl)
+  zeros-written (g ∷ []) {at} {zeros} {one} h k z p e f =
+      let place : at + 1 ≡ image_page geometry (2 * g + 1) = omega arith in
+      f ∙ ap₂ (λ (q : ℕ) (d : List ℕ). put geometry.format true q d one) place z ∙ ap (put geometry.format true (image_page geometry (2 * g + 1)) zero_page) (e ∙ ap₂ (λ (q : ℕ) (d : List ℕ). put geometry.format true q d image) p z)
+  zeros-written (g ∷ h ∷ gs) n k z p e f = absurd (omega arith)
+
   -- growth, data, the directory's entry and the change's own, one after the other
   pub all-written : (growth taken bytes : List ℕ) (directory own : PageWrite) {zeroed filled entered whole : List ℕ}
       → zeroed ≡ write_pages geometry (cluster_writes (pages_of growth) (some zero_page ∷ some zero_page ∷ [])) image

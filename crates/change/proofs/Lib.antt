@@ -8,6 +8,7 @@ pub mod ChangedLaws
 pub mod WordSteps
 pub mod PageSteps
 pub mod StoreSteps
+pub mod SizeSteps
 pub mod DeedSteps
 pub mod ChainWords
 pub mod PlanTable

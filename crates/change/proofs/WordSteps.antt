@@ -7,8 +7,8 @@ use native.Mathlib.Decide.{dec_lt}
 use native.Mathlib.Numerals.{add-one}
 use native.Mathlib.Omega.{arith}
 use lib.Dec.{eqb, ltb}
-use lib.ListN.{get_or, length, set, take}
-use lib.Seq.{set_out, take-suc-set}
+use lib.ListN.{drop, get_or, length, set, take}
+use lib.Seq.{drop-cons, set_out, take-suc-set}
 use Rattle.model.specs.Counts.{takeable}
 use Rattle.model.specs.Entry.{end_mark}
 use Rattle.model.specs.Plan.{free_below, if_free}
@@ -83,6 +83,26 @@ module _ {clusters before left : List ℕ} {word : ℕ} {table : List ℕ} (l : 
         go : Dec (c < top_bit) → c < top_bit
         go (yes u) = u
         go (no u) = absurd (omega (arith, low c (omega arith), ap (λ cs. times cs c) next-whole, times-append fewer (c ∷ l.behind) c, hit-self c))
+
+-- the same by the number of those that are left
+module _ (clusters : List ℕ) (left : ℕ) (some : 0 < left) (inside : left ≤ length clusters) where
+  first_of : drop (left - 1) clusters ≡ get_or clusters (left - 1) 0 ∷ drop left clusters
+  first_of =
+      let e : suc (left - 1) ≡ left = omega arith in
+      drop-cons clusters (left - 1) 0 (omega arith) ∙ ap (λ n. get_or clusters (left - 1) 0 ∷ drop n clusters) e
+
+  pub word-to : top_bit + get_or clusters (left - 1) 0 ≡ word_to (drop (left - 1) clusters)
+  word-to = rw first_of
+
+-- clusters below a number, as a count and one by one
+pub each_below : (n : ℕ) (cs : List ℕ) → ((x : ℕ) → n ≤ x → times cs x ≡ 0) → (i : ℕ) → i < length cs → get_or cs i 0 < n
+each_below n [] low i h = absurd (omega arith)
+each_below n (c ∷ cs) low zero h = go (dec_lt c n)
+  where
+    go : Dec (c < n) → c < n
+    go (yes u) = u
+    go (no u) = absurd (omega (arith, low c (omega arith), hit-self c))
+each_below n (c ∷ cs) low (suc i) h = each_below n cs (λ x u. omega (arith, low x u)) i (omega arith)
 
 -- ---- a chain freed, from its first cluster on
 module _ (table : List ℕ) (c left : ℕ) (some : 0 < left) where

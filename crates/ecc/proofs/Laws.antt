@@ -1,13 +1,13 @@
 -- What the layer above may use of `judge`, and the theorem that carries the rest: the search over all flips and the syndrome say the same.
 use mathlib.Core.Path.{◌≡◌, refl, sym, ap, ◌∙◌}
-use mathlib.Core.Bool.{Bool, true, false}
+use mathlib.Core.Bool.{Bool, true, false, cond}
 use mathlib.Core.List.{List}
 use mathlib.Core.Option.{Option, none, some}
 use Prim.Native.Nat.{ℕ, ◌<◌, ◌^◌}
 use native.Mathlib.Omega.{arith}
 use borrow.Author.Tests.{eq-eqb, ne_eqb}
 use lib.Bits.{bit_xor}
-use lib.Dec.{T}
+use lib.Dec.{T, eqb}
 use lib.ListN.{length, get_or, length-set}
 use Rattle.ecc.specs.declared.Code.{Code}
 use Rattle.ecc.specs.declared.Verdict.{Verdict}
@@ -78,6 +78,14 @@ judge-placed d c = go (matches d c) (find_below 1024 (λ k. matches (flip_bit d 
     go false (some k) e y = let r = find-some 1024 (λ k. matches (flip_bit d k) c) k e in (omega (arith, r.0), omega arith)
     go false none e (some k) = tt
     go false none e none = tt
+
+pub slice-placed : (d : List ℕ) (c : Code) → Placed (judge_slice d c)
+unfolding judge_slice
+slice-placed d c = go (eqb (length d) 128)
+  where
+    go : (b : Bool) → Placed (cond b (judge d c) Unreadable)
+    go true = judge-placed d c
+    go false = tt
 
 -- ---- a chunk beside its own fresh code is good
 pub fresh-matches : (d : List ℕ) → T (matches d (code_of d))

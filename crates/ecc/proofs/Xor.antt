@@ -4,7 +4,7 @@ use Prim.Native.Nat.{ℕ, zero, suc, ◌+◌, ◌*◌, ◌/◌, ◌%◌, ◌<◌
 use native.Mathlib.Nat.{mod-lt, zero-lt-suc}
 use native.Mathlib.Omega.{arith}
 use lib.Arith.{bin_ind, digits_div, digits_mod}
-use lib.Bits.{bit_and, bit_xor, differ, xor_step, and_step, xor_self, xor_block}
+use lib.Bits.{bit_and, bit_xor, differ, xor_step, and_step, xor_self, xor_zero_r, xor_block}
 use lib.Count.{ones_in}
 
 -- the two digits
@@ -101,6 +101,9 @@ and_xor =
 -- what cancels
 pub xor-back : (a b : ℕ) → bit_xor a (bit_xor a b) ≡ b
 xor-back a b = sym (xor_assoc a a b) ∙ ap (λ (x : ℕ). bit_xor x b) (xor_self a)
+
+pub xor-zero→eq : (a b : ℕ) → bit_xor a b ≡ 0 → a ≡ b
+xor-zero→eq a b e = sym (xor_zero_r a) ∙ ap (bit_xor a) (sym e) ∙ xor-back a b
 
 min_again : {x z : ℕ} → Digit x → Digit z → min (min x z) z ≡ min x z
 min_again d0 d0 = refl

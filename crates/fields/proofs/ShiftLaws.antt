@@ -1,34 +1,48 @@
 -- A minute after a shift that a listing takes: in the day before, in the day itself, or in the day after; and the code's signed numbers there.
 use Prim.Native.Nat.{◌%◌, ◌-◌, ◌/◌, ◌<◌, ◌≤◌, suc, ℕ}
-use mathlib.Core.Bool.{Bool, ◌||◌, false, not, true}
+use mathlib.Core.Bool.{Bool, ◌||◌, and-false, false, not, true}
 use mathlib.Core.List.{List}
-use mathlib.Core.Path.{◌∙◌, ◌≡◌, ap, refl, sym}
+use mathlib.Core.Path.{◌∙◌, ◌≡◌, ap, ap₂, refl, sym}
 use native.Mathlib.Omega.{arith}
 use borrow.Author.Tests.{leb-true, ltb-false, ltb-true}
-use lib.Dec.{eqb, leb, ltb}
+use lib.Dec.{T, eqb, leb, ltb}
 use lib.IntN.{◌+ℤ◌, ◌-ℤ◌, nat_abs, negsuc, pos, sub_ℕ, ℤ}
 use lib.ListN.{get_or, length}
-use lib.Signed.{lt_z, mag}
+use lib.Signed.{lt_z, mag, non_neg}
 use mir.Syntax.{w32}
-use mir.Val.{SFits, of_z, to_z}
+use mir.Val.{Fits, SFits, of_z, to_z}
 use mir.ValLaws.{to_z-of_z}
+use Rattle.std.specs.Prelude.{None, Some}
+use Rattle.model.specs.declared.Date.{Date}
 use Rattle.model.specs.declared.Moment.{Moment}
-use Rattle.model.specs.Time.{moment_of, valid_moment, valid_time}
-use Rattle.model.specs.Calendar.{clock_at, day_after, day_before, days_earlier, days_later, from_midnight, is_shift, minute_of_day, moved}
+use Rattle.model.specs.Time.{in_years, moment_of, valid_date, valid_moment, valid_time}
+use Rattle.model.specs.Calendar.{clock_at, day_after, day_before, days_earlier, days_later, from_midnight, is_shift, minute_of_day, moved, shifted, shown}
+use Rattle.model.proofs.Calendar.{Dated}
 use Rattle.model.proofs.Equality.{and_l, and_r, tf}
-use Rattle.model.proofs.Shifts.{Valid, earlier-by, minute-below, sub-less, sub_more, valid-facts}
+use Rattle.model.proofs.Shifts.{Valid, date-facts, earlier-by, minute-below, sub-less, sub_more, valid-facts}
+use Rattle.fields.specs.Calendar.{shown_as}
 
 -- ---- a number in reach, and its bits
 
 abbrev read : ℤ → ℤ
 read z = to_z w32 (of_z w32 z)
 
-small-read : (z : ℤ) → mag z < 4000 → read z ≡ z
-small-read z h = to_z-of_z w32 z (record { sfits = omega (arith, h) })
+pub small-fits : (z : ℤ) → mag z < 4000 → SFits w32 z
+small-fits z h = record { sfits = omega (arith, h) }
+
+pub small-read : (z : ℤ) → mag z < 4000 → read z ≡ z
+small-read z h = to_z-of_z w32 z (small-fits z h)
 
 -- a sum or difference that is known to be a small natural
-lands : (x : ℤ) (k : ℕ) → x ≡ pos k → k < 4000 → nat_abs (read x) ≡ k
-lands x k e h = ap nat_abs (ap read e ∙ small-read (pos k) h)
+pub record Lands (x : ℤ) (k : ℕ) : Type 0 where
+  pub fits : SFits w32 x
+  pub cast : T (non_neg (read x)) × Fits w32 (nat_abs (read x))
+  pub value : nat_abs (read x) ≡ k
+
+pub lands : (x : ℤ) (k : ℕ) → x ≡ pos k → k < 4000 → Lands x k
+lands x k e h =
+    let same : read x ≡ pos k = ap read e ∙ small-read (pos k) h in
+    record { fits = rw e (small-fits (pos k) h); cast = rw same (tt, record { fits = omega (arith, h) }); value = ap nat_abs same }
 
 -- ---- the shifted minute
 
@@ -39,7 +53,7 @@ shift-ahead j e = leb-true j 300 e
 shift_behind : (j : ℕ) → is_shift (negsuc j) ≡ true → j ≤ 1259
 shift_behind j e = leb-true j 1259 (and_l (leb j 1259) true e)
 
-near : (t : ℕ) (s : ℤ) → t < 1440 → is_shift s ≡ true → mag (pos t +ℤ s) < 1740
+pub near : (t : ℕ) (s : ℤ) → t < 1440 → is_shift s ≡ true → mag (pos t +ℤ s) < 1740
 near t (pos j) h e = omega (arith, h, shift-ahead j e)
 near t (negsuc j) h e = go (ltb t (suc j)) refl
   where
@@ -79,7 +93,7 @@ module _ {m : Moment} {s z : ℤ} (known : Shifts m s z) where
   day-left b n e f = ap (λ (y : ℤ). lt_z y (pos 1440)) (sym (small-read z reach ∙ e)) ∙ f
 
   -- in the day before
-  pub lands-before : lt_z (read z) (pos 0) ≡ true → (k : ℕ) × (nat_abs (read (read z +ℤ pos 1440)) ≡ k) × (clock_at m (day_before m.date) k ≡ moved s m)
+  pub lands-before : lt_z (read z) (pos 0) ≡ true → (k : ℕ) × Lands (read z +ℤ pos 1440) k × (clock_at m (day_before m.date) k ≡ moved s m)
   unfolding from_midnight days_earlier
   lands-before e =
       let w = behind e in
@@ -90,7 +104,7 @@ module _ {m : Moment} {s z : ℤ} (known : Shifts m s z) where
       (1440 - suc n, lands _ (1440 - suc n) sum (omega arith), sym (ap (λ (y : ℤ). from_midnight y m) (sym known.sum ∙ w.1) ∙ rw (days, minute)))
 
   -- in the day itself
-  pub lands_within : lt_z (read z) (pos 0) ≡ false → lt_z (read z) (pos 1440) ≡ true → (k : ℕ) × (nat_abs (read z) ≡ k) × (clock_at m m.date k ≡ moved s m)
+  pub lands_within : lt_z (read z) (pos 0) ≡ false → lt_z (read z) (pos 1440) ≡ true → (k : ℕ) × Lands z k × (clock_at m m.date k ≡ moved s m)
   unfolding from_midnight days_later
   lands_within e f =
       let w = on-day e in
@@ -101,7 +115,7 @@ module _ {m : Moment} {s z : ℤ} (known : Shifts m s z) where
       (n, lands z n w.1 (omega (arith, below)), sym (ap (λ (y : ℤ). from_midnight y m) (sym known.sum ∙ w.1) ∙ rw (days, minute)))
 
   -- in the day after
-  pub lands-after : lt_z (read z) (pos 0) ≡ false → lt_z (read z) (pos 1440) ≡ false → (k : ℕ) × (nat_abs (read (read z -ℤ pos 1440)) ≡ k) × (clock_at m (day_after m.date) k ≡ moved s m)
+  pub lands-after : lt_z (read z) (pos 0) ≡ false → lt_z (read z) (pos 1440) ≡ false → (k : ℕ) × Lands (read z -ℤ pos 1440) k × (clock_at m (day_after m.date) k ≡ moved s m)
   unfolding from_midnight days_later
   lands-after e f =
       let w = on-day e in
@@ -113,11 +127,47 @@ module _ {m : Moment} {s z : ℤ} (known : Shifts m s z) where
       let minute : n % 1440 ≡ n - 1440 = omega (arith, from, to) in
       (n - 1440, lands _ (n - 1440) sum (omega (arith, to)), sym (ap (λ (y : ℤ). from_midnight y m) (sym known.sum ∙ w.1) ∙ rw (days, minute)))
 
+-- ---- what the code's functions ask
+
+-- a day's month is in the table, and its year can be counted on and back
+pub date-room : (d : Date) → valid_date d ≡ true → Dated d × (1980 ≤ d.year) × (d.year ≤ 9999)
+date-room d e =
+    let facts = date-facts d e in
+    (facts.0, leb-true 1980 d.year (and_l (leb 1980 d.year) _ facts.1), leb-true d.year 9999 (and_r (leb 1980 d.year) _ facts.1))
+
+pub moment-date : (m : Moment) → valid_moment m ≡ true → valid_date m.date ≡ true
+moment-date m e = and_r (leb m.hour 23) _ (and_r (leb m.minute 59) _ (and_r (leb m.second 59) _ e))
+
 pub shifts_by : (m : Moment) (s z : ℤ) → (valid_moment m ≡ true) × (is_shift s ≡ true) → SFits w32 s → z ≡ pos (minute_of_day m) +ℤ read s → Shifts m s z
 shifts_by m s z pre fits e =
     record { valid = valid-facts m pre.0; allowed = pre.1; sum = e ∙ ap (λ (y : ℤ). pos (minute_of_day m) +ℤ y) (to_z-of_z w32 s fits) }
 
 -- ---- what is shown
+
+module _ (s : ℤ) (t : List ℕ) where
+  pub shown-invalid : valid_time t ≡ false → None ≡ shown_as (shown s t)
+  unfolding shown
+  shown-invalid e = rw e
+
+  pub shown-elsewhere : is_shift s ≡ false → None ≡ shown_as (shown s t)
+  unfolding shown
+  shown-elsewhere e = rw e (simp and-false)
+
+  module _ (valid : valid_time t ≡ true) (allowed : is_shift s ≡ true) where
+    pub shown-out : in_years (moved s (moment_of t)).date.year ≡ false → None ≡ shown_as (shown s t)
+    unfolding shown shifted
+    shown-out e = rw (valid, allowed, e)
+
+    pub shown-in : in_years (moved s (moment_of t)).date.year ≡ true → Some (moved s (moment_of t)) ≡ shown_as (shown s t)
+    unfolding shown shifted
+    shown-in e = rw (valid, allowed, e)
+
+pub valid-shown : (t : List ℕ) → valid_time t ≡ true → valid_moment (moment_of t) ≡ true
+unfolding valid_time
+valid-shown t e = and_r (eqb (get_or t 0 0) 0) _ (and_r (eqb (length t) 8) _ e)
+
+pub moved_by : {s told : ℤ} (t : List ℕ) {m n : Moment} → told ≡ s → m ≡ moment_of t → n ≡ moved told m → n ≡ moved s (moment_of t)
+moved_by t e f g = g ∙ ap₂ moved e f
 
 -- the moment of a valid time, and a shift that a listing takes
 pub takes-shift : (s : ℤ) (t : List ℕ) (valid allowed : Bool) → valid ≡ valid_time t → allowed ≡ is_shift s → (not valid || not allowed) ≡ false

@@ -1,13 +1,23 @@
--- Bytes put one after the other are a part of the list written over, as far as the list goes.
+-- Bytes put one after the other, and that they are a part of the list written over, as far as the list goes.
 use Prim.Native.Nat.{◌+◌, ◌-◌, ◌<◌, ◌≤◌, min, suc, zero, ℕ}
 use mathlib.Core.List.{List, [], ◌∷◌}
 use mathlib.Core.Path.{◌∙◌, ◌≡◌, ap, refl, sym}
+use native.Mathlib.Numerals.{add-one}
 use native.Mathlib.Omega.{arith}
 use borrow.Rule.Slice.PartMut.{put_mid}
-use lib.ListN.{drop, length, length-set, set, take}
-use lib.Seq.{drop-drop, length-take-le, set_out, sets, take-nil}
+use lib.ListN.{drop, drop_of_length-le, get_or, length, length-set, set, take}
+use lib.Seq.{drop-cons, drop-drop, length-take-le, set_out, sets, take-nil}
 use Rattle.std.proofs.Common.{append_assoc}
 use Rattle.std.proofs.lemmas.List.Edits.{sets-eq}
+
+-- one law for each way of a turn
+pub puts-more : (l : List ℕ) (at : ℕ) (f : List ℕ) (i : ℕ) → i < length f → sets l (at + i) (drop i f) ≡ sets (set l (at + i) (get_or f i 0)) (at + (i + 1)) (drop (i + 1) f)
+puts-more l at f i h =
+    let next : at + (i + 1) ≡ suc (at + i) = omega arith in
+    rw (drop-cons f i 0 h, next, add-one i)
+
+pub puts-done : (l : List ℕ) (at : ℕ) (f : List ℕ) (i : ℕ) → i ≡ length f → sets l (at + i) (drop i f) ≡ l
+puts-done l at f i h = rw (drop_of_length-le f {i = i} (omega arith))
 
 -- past the end nothing is put
 pub puts-past : (l : List ℕ) (at : ℕ) (f : List ℕ) → length l ≤ at → sets l at f ≡ l

@@ -1,5 +1,6 @@
 -- The count of corrected chunks as the check up to the table grows it, page by page.
 use Rattle.std.proofs.Common.{◌≡◌, ℕ, suc, ◌+◌, ◌*◌, ◌^◌, ◌<◌, ◌≤◌, List, [], ◌∷◌, length, drop, sym, ap, ◌∙◌, add-one, arith, drop_of_length-le, drop-cons}
+use Rattle.std.specs.Prelude.{Err, Ok, Result as Returned}
 use Rattle.page.specs.declared.Format.{Format}
 use Rattle.page.specs.Mended.{mended_chunks, wrapped}
 use Rattle.page.proofs.Mending.{count-on, mended-most}
@@ -8,12 +9,18 @@ use Rattle.model.specs.Needed.{total_over}
 use Rattle.model.specs.View.{pages_of}
 use Rattle.model.proofs.NeededPages.{total-most}
 use Rattle.model.proofs.PlanFits.{length-pages}
+use Rattle.layout.specs.declared.Refusal.{Refusal}
 use Rattle.layout.specs.declared.Superblock.{Superblock}
-use Rattle.layout.specs.Mended.{mended_over, opening_mended}
+use Rattle.layout.specs.Mended.{Adds, mended_over, opening_mended}
 use Rattle.layout.specs.Needed.{opening_pages}
 use Rattle.layout.specs.Table.{open_card, table_page}
 use Rattle.layout.proofs.NeededOnce.{opening-few}
 use Rattle.layout.proofs.TablePages.{get_or-pages}
+
+-- a page before the others
+pub adds_on : (r : Returned (Unit {0}) Refusal) (m x y after : ℕ) {n : ℕ} → n ≡ wrapped (m + x) → Adds r n y after → Adds r m (x + y) after
+adds_on (Ok u) m x y after e h = h ∙ count-on m x y e
+adds_on (Err f) m x y after e h = tt
 
 -- ---- the table's pages in turn
 module _ (f : ℕ → ℕ) (names : List ℕ) where

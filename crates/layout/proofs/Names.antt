@@ -1,5 +1,5 @@
 -- The names of the table's clusters, judged one by one: one law for each way of a turn.
-use Rattle.std.proofs.Common.{◌≡◌, ℕ, zero, suc, ◌+◌, ◌<◌, ◌≤◌, Bool, true, false, not, ◌&&◌, eqb, ltb, leb, List, [], ◌∷◌, length, get_or, drop, sym, refl, ap, ◌∙◌, add-one, arith, drop_of_length-le, ltb-true, ne_eqb, eqb-true, leb-true}
+use Rattle.std.proofs.Common.{◌≡◌, ℕ, zero, suc, ◌+◌, ◌-◌, ◌<◌, ◌≤◌, Bool, true, false, cond, not, ◌&&◌, eqb, ltb, leb, List, [], ◌∷◌, length, get_or, drop, sym, refl, ap, ◌∙◌, add-one, sub-one, arith, drop_of_length-le, ltb-true, ne_eqb, eqb-true, leb-true}
 use native.Mathlib.Decide.{ℕ_discrete}
 use Rattle.model.specs.Counts.{block_of, is_listed}
 use Rattle.model.specs.Tree.{hit, times}
@@ -26,6 +26,21 @@ module _ (f : ℕ → ℕ) (indirect name : ℕ) where
       go : Dec (i ≡ n) → (i < n → 1 ≤ times (up_to f n) name) → 1 ≤ times (up_to f (suc n)) name
       go (yes l) before = let last : hit (f n) name ≡ 1 = rw (← l, e) (hit-self name) in omega (arith, times-next f n name)
       go (no l) before = omega (arith, times-next f n name, before (omega arith))
+
+  pub new_none : (n : ℕ) → n ≡ 0 → not (eqb indirect name) ≡ is_new n
+  unfolding up_to
+  new_none n e = rw e (go (eqb indirect name))
+    where
+      go : (b : Bool) → not b ≡ eqb (cond b 1 0 + 0) 0
+      go true = refl
+      go false = refl
+
+  pub new-later : (n : ℕ) → 0 < n → (f (n - 1) ≡ name → ⊥) → is_new n ≡ is_new (n - 1)
+  new-later zero h e = absurd (omega arith)
+  new-later (suc n) h e =
+      let none : hit (f n) name ≡ 0 = hit-0 (f n) name (rw (sub-one (suc n)) at e) in
+      let same : times (indirect ∷ up_to f (suc n)) name ≡ times (indirect ∷ up_to f n) name = omega (arith, times-next f n name) in
+      rw (sub-one (suc n)) (ap (λ (x : ℕ). eqb x 0) same)
 
   pub new-stop : (n i : ℕ) → i < n → f i ≡ name → is_new n ≡ false
   new-stop n i h e = ne_eqb _ 0 (λ (z : times (indirect ∷ up_to f n) name ≡ 0). omega (arith, met n i h e))

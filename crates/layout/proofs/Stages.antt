@@ -1,9 +1,13 @@
 -- The stages of the check: what passing each one says, and that a card with all of that passes.
 use Rattle.std.proofs.Common.{◌≡◌, ℕ, zero, suc, ◌<◌, Bool, true, false, List, [], ◌∷◌, length, get_or, refl, arith}
+use Rattle.std.specs.Prelude.{Result as Returned}
 use mathlib.Core.Option.{Option, none, some}
 use Rattle.page.specs.declared.Format.{Format}
 use Rattle.page.specs.Page.{page_at, is_some, or_kept}
 use Rattle.model.specs.Check.{Result, fault, ok}
+use Rattle.layout.specs.declared.Refusal.{Refusal}
+use Rattle.layout.specs.declared.Superblock.{Superblock}
+use Rattle.layout.specs.Refusal.{told_by}
 use Rattle.layout.specs.Table.{unless, with_page, need_pages, data_of}
 
 -- a page that is there
@@ -24,6 +28,10 @@ not-ok n p a e = absurd (let z : ◌≡◌ {A = ℕ} 0 1 = cc in omega arith)
 
 pub same_ok : {A : Type 0} (a b : A) → ◌≡◌ {A = Result A} (ok a) (ok b) → a ≡ b
 same_ok a b e = cc
+
+-- what an answer says, where it is known
+pub as-told : (s : Superblock) {v w : Returned (Unit {0}) Refusal} {card : Result Superblock} → v ≡ w → told_by (λ u. s) v ≡ card → told_by (λ u. s) w ≡ card
+as-told s known e = rw (← known) e
 
 module _ {A : Type 0} where
   pub unless-ok : (b : Bool) (n : ℕ) (rest : Result A) (a : A) → unless b n rest ≡ ok a → (b ≡ true) × (rest ≡ ok a)

@@ -1,5 +1,5 @@
 -- The values of a function in order: how many, which stands where, and a list whose front they replace one by one.
-use Rattle.std.proofs.Common.{◌≡◌, ℕ, zero, suc, ◌+◌, ◌<◌, ◌≤◌, true, false, ltb, List, [], ◌∷◌, ◌++◌, length, get_or, drop, set, sym, refl, ap, ◌∙◌, ⊎_elim, add-one, arith, length-append, length-drop, drop-cons, ltb-false, ltb-true}
+use Rattle.std.proofs.Common.{◌≡◌, ℕ, zero, suc, ◌+◌, ◌<◌, ◌≤◌, true, false, ltb, List, [], ◌∷◌, ◌++◌, length, get_or, drop, set, sym, refl, ap, ◌∙◌, ⊎_elim, append-nil, add-one, arith, length-append, length-drop, drop_of_length-le, drop-cons, ltb-false, ltb-true}
 use Rattle.std.proofs.lemmas.List.FromFn.{fill_by_all}
 use Rattle.std.specs.Array.{IsFromFnResult, IsFromFnResultFrom}
 use Rattle.std.specs.Fn.{Called}
@@ -63,3 +63,6 @@ filled_more f list n h =
 
 pub length-filled : (f : ℕ → ℕ) (list : List ℕ) (n : ℕ) → n ≤ length list → length (filled f list n) ≡ length list
 length-filled f list n h = simp (length-append, length-up_to f n, length-drop) (omega arith)
+
+pub filled-whole : (f : ℕ → ℕ) (list : List ℕ) (n : ℕ) → length list ≡ n → filled f list n ≡ up_to f n
+filled-whole f list n h = rw (drop_of_length-le list {i = n} (omega arith)) (append-nil (up_to f n))

@@ -9,7 +9,7 @@ use native.Mathlib.Omega.{arith}
 use borrow.Author.Tests.{eq-eqb, le-ltb, leb-false, leb-true, lt-ltb, ne_eqb}
 use lib.Dec.{leb}
 use lib.ListN.{drop, get_or, length, length-append, set, take}
-use lib.Seq.{append_snoc, length-sets, length-take-le, set-append_seam, set_out, sets, sets-eq, take_at, take-nil, take-suc}
+use lib.Seq.{append_snoc, length-sets, length-take-le, set-append_seam, set_out, sets, sets-eq, take_at, take-length, take-nil, take-suc}
 use Rattle.listing.specs.Emit.{Writes}
 use Rattle.listing.specs.Sizes.{most}
 use Rattle.listing.specs.declared.emit.Text.{Text}
@@ -43,6 +43,9 @@ module _ {a b : Text} {s : List ℕ} where
         place = w.place ∙ rw (length-append s t, v.place) (omega arith);
       }
 
+  pub writes-length : Writes a s b → length b.out.now ≡ length a.out.now
+  writes-length w = ap length w.out ∙ length-sets a.out.now a.at s
+
   -- the same bytes, said otherwise
   pub writes_as : {t : List ℕ} → s ≡ t → Writes a s b → Writes a t b
   writes_as e w = rw e at w
@@ -51,6 +54,9 @@ module _ {a b : Text} {s : List ℕ} where
 module _ (s : List ℕ) (i : ℕ) {a b : Text} where
   pub writes-more : {c : Text} → i < length s → Writes a (take i s) b → Writes b (get_or s i 0 ∷ []) c → Writes a (take (i + 1) s) c
   writes-more l v w = writes_as (sym (take-suc s i 0 l) ∙ ap (λ (n : ℕ). take n s) (sym (add-one i))) (writes-append v w)
+
+  pub writes-whole : i ≡ length s → Writes a (take i s) b → Writes a s b
+  writes-whole e w = writes_as (ap (λ (n : ℕ). take n s) e ∙ take-length s) w
 
 -- what stands in a buffer that had room for the bytes
 pub writes-fits : {a b : Text} {s : List ℕ} → a.at + length s ≤ length a.out.now → Writes a s b

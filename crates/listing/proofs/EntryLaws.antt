@@ -19,7 +19,7 @@ use Rattle.tree.specs.Slots.{next_of}
 use Rattle.listing.specs.declared.path.Path.{Path}
 use Rattle.listing.specs.Paths.{path_bytes}
 use Rattle.listing.specs.Sizes.{name_room}
-use Rattle.listing.specs.Render.{Leads, line_at}
+use Rattle.listing.specs.Render.{Leads, Texts, inside_at, line_at}
 use Rattle.listing.specs.Stamps.{shown_text}
 use Rattle.listing.specs.Text.{directory_letter, entry_line, file_letter, stamp_text, within}
 
@@ -35,6 +35,17 @@ module _ (path : List ℕ) (o : Option Entry) (quiet : false ≡ lives o) where
       go : (o : Option Entry) → false ≡ lives o → [] ≡ line_at minutes path o
       go none h = refl
       go (some e) h = rw (← h)
+
+  no-inside : (table : List ℕ) (deeper : Texts) → [] ≡ inside_at table deeper path o
+  no-inside table deeper = go o quiet
+    where
+      go : (o : Option Entry) → false ≡ lives o → [] ≡ inside_at table deeper path o
+      go none h = refl
+      go (some e) h = rw (← h)
+
+-- it leads to no directory
+pub leads-nowhere : (table : List ℕ) (o : Option Entry) (path : Path) → false ≡ lives o → Leads table (path_bytes path) o path.len code.None
+leads-nowhere table o path quiet = record { grows = tt; text = λ deeper. no-inside (path_bytes path) o quiet table deeper }
 
 -- ---- a live entry
 
@@ -61,6 +72,10 @@ module _ {path : List ℕ} {o : Option Entry} {e : Entry} {size : ℕ} {own : Li
 
     pub directory-line : true ≡ is_directory e → entry_line directory_letter size own (shown_text changed) ≡ line_at minutes path o
     directory-line kind = rw (seen.shown, ← kind, ← seen.live, seen.length-is, seen.path-is, stamp, shown-text (shown minutes e.modified))
+
+  -- a file leads to none
+  pub file-leads : (table : List ℕ) (len : ℕ) → false ≡ is_directory e → Leads table path o len code.None
+  file-leads table len kind = record { grows = tt; text = λ deeper. rw (seen.shown, ← kind) }
 
   pub directory-leads : {at : Path} (table : List ℕ) (len first start count : ℕ) → true ≡ is_directory e → path_bytes at ≡ own → at.len ≤ len + name_room
       → first ≡ e.first_cluster → start ≡ next_of table first → count ≡ size - 2

@@ -21,6 +21,11 @@ use Rattle.listing.proofs.EmitLaws.{writes-append, writes_as, writes_none}
 abbrev pub Remains : Text → List ℕ → Text → List ℕ → Type 0
 Remains first whole now left = (last : Text) → Writes now left last → Writes first whole last
 
+pub remains-as : {first : Text} {whole : List ℕ} {now now' : Text} {left : List ℕ} → now'.out ≡ now.out → now'.at ≡ now.at
+    → Remains first whole now left → Remains first whole now' left
+remains-as e f remains last w =
+    remains last (record { same_reference = rw e at w.same_reference; out = rw (e, f) at w.out; place = rw f at w.place })
+
 module _ (minutes : ℤ) (v : View) (t : List ℕ) where
   pub slots-none : (below : ℕ) (path : List ℕ) → slots_text minutes v t below path [] ≡ []
   unfolding slots_text joined
@@ -43,6 +48,9 @@ module _ (minutes : ℤ) (v : View) (t : List ℕ) where
     -- the text of slots k to n - 1, slot k in cluster c
     abbrev pub left : ℕ → ℕ → ℕ → List ℕ
     left c k n = slots_text minutes v t below path (slot_pages t c k (n - k))
+
+    pub left-all : (c n : ℕ) → left c 0 n ≡ slots_text minutes v t below path (slot_pages t c 0 n)
+    left-all c n = let z : n - 0 ≡ n = omega arith in rw z
 
     pub left-none : (c k n : ℕ) → n ≤ k → left c k n ≡ []
     unfolding slot_pages

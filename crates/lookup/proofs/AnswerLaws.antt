@@ -27,7 +27,7 @@ unfolding and_then
 tells-value x see a b e f = rw (e, f)
 
 -- the entry that stands there is the one found
-stands-entry : (v : View) (first : ℕ) (e : Entry) (h : Slot) (s : Tree) → Stands v first e h s → found_entry h s ≡ ok e
+pub stands-entry : (v : View) (first : ℕ) (e : Entry) (h : Slot) (s : Tree) → Stands v first e h s → found_entry h s ≡ ok e
 stands-entry v first e Slot.dead s x = absurd x
 stands-entry v first e (Slot.file d cs ds) s x = ap {B = Result Entry} ok x.0
 stands-entry v first e (Slot.directory d cs) s x = ap {B = Result Entry} ok x.0

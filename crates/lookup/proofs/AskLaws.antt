@@ -6,23 +6,25 @@ use mathlib.Core.List.{List, [], ◌∷◌}
 use mathlib.Core.Option.{Option as Maybe, none, some}
 use mathlib.Core.Path.{◌∙◌, ◌≡◌, ap, refl, sym}
 use native.Mathlib.Omega.{arith}
-use lib.ListN.{take}
+use lib.ListN.{drop, length, length-append, length-drop, take}
 use Rattle.page.specs.declared.Format.{Format}
 use Rattle.fields.specs.PathBytes.{parsed_of, path_of}
 use Rattle.layout.specs.Refusal.{number_of, page_of}
 use Rattle.layout.specs.See.{check_image, on_image, view_by}
-use Rattle.layout.specs.Table.{open_card, table_after}
+use Rattle.layout.specs.Table.{open_card, table_after, table_of}
 use Rattle.layout.proofs.OpenFacts.{open-facts}
+use Rattle.layout.proofs.TableLaws.{length-table}
 use Rattle.layout.specs.declared.Geometry.{Geometry}
 use Rattle.layout.specs.declared.Refusal.{Refusal}
 use Rattle.layout.specs.declared.Refusal.TheVariants.{BadPath}
 use Rattle.layout.specs.declared.Superblock.{Superblock}
 use Rattle.model.specs.Check.{Marks, Result, and_then, fault, ok}
+use Rattle.model.specs.Holds.{HoldsCard}
 use Rattle.model.specs.Lookup.{Found, absent, found, look_in, look_up, tell}
 use Rattle.model.specs.Names.{Path}
 use Rattle.model.specs.Refusal.{way}
 use Rattle.model.specs.Tree.{Root, Slot, Tree, root_slot}
-use Rattle.model.specs.View.{most_clusters}
+use Rattle.model.specs.View.{View, most_clusters}
 use Rattle.tree.specs.Card.{view_of}
 use Rattle.tree.specs.Counted.{superblock_in}
 use Rattle.lookup.proofs.CardLaws.{accepted, call-accepted, call-refused, words-hold}
@@ -38,6 +40,18 @@ use Rattle.lookup.proofs.Arrivals.{arrive}
 use Rattle.lookup.proofs.PathWalk.{at_path_lem}
 
 -- ---- what `stand` answers
+
+-- on a card whose view holds some tree: a refusal, or an entry at which the path ends
+pub way-refused : (v : View) (card : Superblock) (image bytes : List ℕ) (f : Refusal) (r : Returned Stood Refusal) → r ≡ Err f
+    → ((root : Root) → HoldsCard v root → with_path (path_of bytes) (found_at card root) ≡ fault (number_of f) (page_of f))
+    → (root : Root) → HoldsCard v root → TellsAs image (with_path (path_of bytes) (found_at card root)) r
+way-refused v card image bytes f r e z root holds = rw (e, z root holds) (refl, refl)
+
+pub way_at : (card : Superblock) (bytes : List ℕ) (r : Stood) → r.card.geometry ≡ card.geometry
+    → ((root : Root) → HoldsCard (view_of r.card) root → (h : Slot) × (t : Tree) × StandsAt (view_of r.card) r.entry h t × (with_path (path_of bytes) (found_at card root) ≡ ok (card, h, t)))
+    → (root : Root) → HoldsCard (view_of r.card) root → TellsAs r.card.image.now (with_path (path_of bytes) (found_at card root)) (Ok r)
+way_at card bytes r g y root holds = let z = y root holds in rw z.3 (refl, sym g, z.2)
+
 module _ (format : Format) (image bytes : List ℕ) (r : Returned Stood Refusal) where
   pub stand-refused : (f : Refusal) → r ≡ Err f → fault (number_of f) (page_of f) ≡ superblock_in (check_image format image) → TellsStood format image bytes r
   stand-refused f e h = rw (e, call-refused format image bytes found_at (number_of f) (page_of f) h) (refl, refl)
@@ -46,6 +60,11 @@ module _ (format : Format) (image bytes : List ℕ) (r : Returned Stood Refusal)
     -- on a card that is accepted the path says what stands there
     on-tree : standing_of format image bytes ≡ with_path (path_of bytes) (found_at s (accepted format image s h).root)
     on-tree = let y = accepted format image s h in call-accepted format image bytes found_at s y.root y.marks y.checked
+
+    -- what is told of whatever tree the card's view holds is told of the whole call
+    pub stand-accepted : (before words : List ℕ) → words ≡ table_after image (open_card format image) before
+        → ((root : Root) → HoldsCard (view_by s.geometry (take s.end words) image) root → TellsAs image (with_path (path_of bytes) (found_at s root)) r) → TellsStood format image bytes r
+    stand-accepted before words l w = rw on-tree (w (accepted format image s h).root (words-hold format image s h before words l))
 
     module _ (o : Option ℕ) (parsed : o ≡ parsed_of (path_of bytes)) where
       pub stand-malformed : r ≡ Err BadPath → o ≡ None → TellsStood format image bytes r
@@ -69,6 +88,16 @@ module _ (format : Format) (image bytes : List ℕ) (r : Returned Stood Refusal)
 -- the card's words fit the room
 pub fits-room : (format : Format) (image : List ℕ) (s : Superblock) → ok s ≡ superblock_in (check_image format image) → s.end ≤ most_clusters
 fits-room format image s h = let facts = open-facts format image s (sym (accepted format image s h).opened) in omega (arith, facts.room, facts.most)
+
+-- the room keeps its length
+pub room-length : (format : Format) (image before words : List ℕ) → words ≡ table_after image (open_card format image) before → length before ≡ most_clusters → length words ≡ most_clusters
+room-length format image before words l e = go (open_card format image) refl l
+  where
+    go : (o : Result Superblock) → open_card format image ≡ o → words ≡ table_after image o before → length words ≡ most_clusters
+    go (fault n p) f h = ap length h ∙ e
+    go (ok s) f h =
+        let facts = open-facts format image s f in
+        ap length h ∙ length-append (table_of image s) (drop s.end before) ∙ omega (arith, length-table image s, length-drop s.end before, facts.room, facts.most)
 
 -- what stands there, and on which card
 pub stood-at : (format : Format) (image bytes : List ℕ) (r : Stood) → TellsStood format image bytes (Ok r)

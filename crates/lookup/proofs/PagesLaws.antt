@@ -1,7 +1,7 @@
 -- A file's pages: the scan for an unreadable one, and the data of the readable ones.
 use Rattle.std.specs.Prelude.{Some, None}
 use Rattle.std.specs.Prelude.{Option}
-use Prim.Native.Nat.{◌*◌, ◌+◌, ◌-◌, ◌<◌, suc, zero, ℕ}
+use Prim.Native.Nat.{◌*◌, ◌+◌, ◌-◌, ◌<◌, ◌≤◌, suc, zero, ℕ}
 use mathlib.Core.Bool.{Bool, cond, false, not, true}
 use mathlib.Core.List.{List, [], ◌++◌, ◌∷◌, map}
 use mathlib.Core.Logic.{⊎_elim}
@@ -10,6 +10,7 @@ use mathlib.Core.Path.{◌∙◌, ◌≡◌, ap, refl, sym}
 use native.Mathlib.Numerals.{add-one}
 use native.Mathlib.Omega.{arith}
 use lib.ListN.{length, length-append}
+use lib.Seq.{sets}
 use Rattle.model.proofs.Equality.{tf}
 use Rattle.model.specs.Bytes.{slice}
 use Rattle.model.specs.Check.{Result, and_then, fault, ok}
@@ -21,7 +22,7 @@ use Rattle.tree.specs.Scan.{scan, unread}
 use Rattle.lookup.specs.Read.{data_of_pages}
 use Rattle.tree.specs.Slots.{slot_page, slot_pages, cluster_after}
 use Rattle.tree.specs.declared.along.Place.{Place}
-use Rattle.lookup.proofs.CopyLaws.{slice-piece}
+use Rattle.lookup.proofs.CopyLaws.{sets-join, slice-length, slice-piece}
 
 module _ (v : View) where
   -- the first page of pages that are all readable is, and so are the others
@@ -102,3 +103,14 @@ module _ (v : View) where
             later = rw (e, s) all.1;
             fewer = f;
           }
+
+      -- the piece put into the buffer, and what is left, give the whole copy
+      pub copy_more : (c k skip left n x less : ℕ) {after : List ℕ} → CopyStep c k skip left n x after less → skip + n ≤ 512 → (out out' : List ℕ) (done to : ℕ)
+          → out' ≡ sets out done (slice after skip n) → to ≡ done + n
+          → sets out' to (slice (data_along v (slot_pages t x (k + 1) (pages_for 0 less))) 0 less) ≡ sets out done (slice (data_along v (slot_pages t c k (pages_for skip left))) skip left)
+      copy_more c k skip left n x less {after} s h out out' done to e f =
+          rw (e, s.bytes)
+          (sets-join out done (slice after skip n) (slice (data_along v (slot_pages t x (k + 1) (pages_for 0 less))) 0 less) to (omega (arith, slice-length after skip n (omega (arith, s.long)))))
+
+pub copy-end : (bytes out : List ℕ) (done skip left : ℕ) → left ≡ 0 → out ≡ sets out done (slice bytes skip left)
+copy-end bytes out done skip left e = rw e

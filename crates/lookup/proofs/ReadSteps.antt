@@ -1,6 +1,6 @@
 -- What the code computes on the way of a read, as the definitions have it.
 use Rattle.std.specs.Prelude.{Some, None, Ok, Err, min}
-use Rattle.std.specs.Prelude.{Option}
+use Rattle.std.specs.Prelude.{Option, Result as Returned}
 use Rattle.layout.specs.declared.Refusal.{Refusal}
 use Prim.Native.Nat.{◌%◌, ◌*◌, ◌+◌, ◌-◌, ◌/◌, ◌<◌, ◌≤◌, ℕ}
 use mathlib.Core.Bool.{Bool, false, true}
@@ -14,7 +14,7 @@ use Rattle.page.specs.Mended.{wrapped}
 use Rattle.layout.specs.See.{image_page, on_image}
 use Rattle.layout.specs.declared.Refusal.TheVariants.{UnreadablePage}
 use Rattle.model.specs.Bytes.{slice}
-use Rattle.model.specs.Check.{ok}
+use Rattle.model.specs.Check.{Result, ok}
 use Rattle.model.specs.Entry.{entry_of, is_directory}
 use Rattle.model.specs.Needed.{total_over}
 use Rattle.model.specs.Tree.{Slot, Tree}
@@ -64,7 +64,7 @@ module _ (card : Card) (file : EntryAt) (from room size n : ℕ) (is_size : size
     same-scan : scan (unread (view_of card)) (data_pages (view_of card) card.table.now (λ z. refl) file.first from room (entry_of file.page)) (from / 512) ≡ r
     same-scan = sym (rw (begins, pages-are, count-is) at scanned)
 
-    copy-ready : r ≡ None → scan (unread (view_of card)) (slot_pages card.table.now start (from / 512) (pages_for (from % 512) n)) (from / 512) ≡ None
+    pub copy-ready : r ≡ None → scan (unread (view_of card)) (slot_pages card.table.now start (from / 512) (pages_for (from % 512) n)) (from / 512) ≡ None
     copy-ready q = sym (rw pages-are at scanned) ∙ q
 
     module _ (h : Slot) (s : Tree) (x : StandsAt (view_of card) file h s) (f : is_directory (entry_of file.page) ≡ false) (a : from ≤ size) (b : n ≡ 0 → ⊥) where
@@ -94,3 +94,7 @@ module _ (card : Card) (file : EntryAt) (from room size n : ℕ) (is_size : size
             rw pages c,
             rw pages (omega (arith, total-most (mended_page card.geometry card.image.now) 4 (λ p. mended-most card.geometry.format card.image.now _) (slot_pages card.table.now start (from / 512) (pages_for (from % 512) n)), pages-count (view_of card) (view-sized card.geometry (length card.table.now) card.image.now) card.table.now start (from / 512) (pages_for (from % 512) n))),
           )
+
+-- the read at a path is the one from the slot there
+pub read_at : (x y : Result (List ℕ)) (r : Returned ℕ Refusal) (before after : List ℕ) → x ≡ y → TellsRead y r before after → TellsRead x r before after
+read_at x y r before after e told = rw e told

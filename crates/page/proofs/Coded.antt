@@ -12,7 +12,7 @@ use Rattle.page.proofs.Lists.{length_part, part_bytes, append-bytes}
 use Rattle.page.proofs.Chunks.{placed, corrected-bytes}
 
 -- ---- a raw page that is read
-length-chunk : (page : List ℕ) (v : Verdict) (k : ℕ) → length page ≡ 528 → k < 4 → length (corrected v (chunk_of page k)) ≡ 128
+pub length-chunk : (page : List ℕ) (v : Verdict) (k : ℕ) → length page ≡ 528 → k < 4 → length (corrected v (chunk_of page k)) ≡ 128
 length-chunk page v k h b = length-corrected v (chunk_of page k) ∙ length_part page (128 * k) 128 (omega arith)
 
 length-joined : (page : List ℕ) (v0 v1 v2 v3 : Verdict) → length page ≡ 528 → length (corrected_data page v0 v1 v2 v3) ≡ 512

@@ -1,5 +1,5 @@
 -- Laws of `part` and `put_at` on any list, and what a copy or a lent part leaves, in their words.
-use Rattle.std.proofs.Common.{◌≡◌, ℕ, zero, suc, ◌+◌, ◌-◌, ◌*◌, ◌<◌, ◌≤◌, ◌⊎◌, List, [], ◌∷◌, ◌++◌, length, get_or, take, drop, set, sym, refl, ap, ◌∙◌, ap₂, inl, inr, ⊎_elim, append_assoc, suc-le-suc, zero-le, le_trans, arith, lit<, length-append, length-drop, take-append-drop, length-take-le, get_or-drop, get_or-take, take-take, drop-drop, take_at, ext_get_or, drop_at}
+use Rattle.std.proofs.Common.{◌≡◌, ℕ, zero, suc, ◌+◌, ◌-◌, ◌*◌, ◌<◌, ◌≤◌, ◌⊎◌, List, [], ◌∷◌, ◌++◌, length, get_or, take, drop, set, sym, refl, ap, ◌∙◌, ap₂, inl, inr, ⊎_elim, append_assoc, append-nil, suc-le-suc, zero-le, le_trans, arith, lit<, length-append, length-drop, take-append-drop, drop_of_length-le, length-take-le, get_or-drop, take_all, get_or-take, take-take, drop-drop, take_at, ext_get_or, drop_at}
 use native.Mathlib.Decide.{dec_lt}
 use lib.ListN.{get_or-append, get_or-eq_default}
 use lib.Seq.{take-append_seam, drop-append_seam, sets-eq}
@@ -194,6 +194,11 @@ put-commute l a s b t h k =
 -- a lent part comes back
 pub lent_back : (l : List ℕ) (a n : ℕ) (s : List ℕ) → length s ≡ n → put_mid a (a + n - a) l s ≡ put_at l a s
 lent_back l a n s e = ap (λ (t : List ℕ). take a l ++ (s ++ t)) (Post-is a (a + n) l (omega arith)) ∙ ap (λ (k : ℕ). take a l ++ (s ++ drop (a + k) l)) (sym e)
+
+-- a copy over something as long
+pub copied : (s d : List ℕ) → length d ≡ length s → take (length s) s ++ drop (length s) d ≡ s
+copied s d e =
+    ap₂ ◌++◌ (take_all (length s) s (omega arith)) (drop_of_length-le d {i = length s} (omega arith)) ∙ append-nil s
 
 -- three stores in a row
 pub stored : (l : List ℕ) (a x y z : ℕ) → a + 3 ≤ length l → set (set (set l a x) (a + 1) y) (a + 2) z ≡ put_at l a (x ∷ y ∷ z ∷ [])

@@ -13,9 +13,9 @@ use lib.ListN.{get_or, length}
 use Rattle.model.proofs.Equality.{tf}
 use Rattle.model.proofs.Frame.{hit-0}
 use Rattle.model.specs.Check.{Marks, follow_chain, mark, marks, prepend}
-use Rattle.model.specs.Entry.{end_mark}
+use Rattle.model.specs.Entry.{Entry, end_mark}
 use Rattle.model.specs.Tree.{times}
-use Rattle.model.specs.View.{Link, View, most_clusters, top_bit}
+use Rattle.model.specs.View.{Link, View, first_link, most_clusters, top_bit}
 use Rattle.reached.specs.Chain.{broken, chain_from, chain_behind}
 use Rattle.reached.specs.Marks.{Keeps, marked, reach, turned}
 use Rattle.reached.specs.Table.{first_link_of, table_links}
@@ -55,6 +55,13 @@ module _ (t : List ℕ) (c : ℕ) where
 
       link-next : (get_or t c 0 ≡ end_mark → ⊥) → table_links t c ≡ Link.next (get_or t c 0 - top_bit)
       link-next n = rw (lt-ltb c (length t) inside, le-ltb (get_or t c 0) top_bit used, ne_eqb (get_or t c 0) end_mark n)
+
+-- an entry's first link, and the root's
+pub link-entry : (e : Entry) → first_link e ≡ first_link_of e.first_cluster
+link-entry e = refl
+
+pub link-root : Link.next 0 ≡ first_link_of 0
+link-root = refl
 
 -- ---- one cluster more in front
 

@@ -1,5 +1,5 @@
 -- The bits of a word of marks: a bit that is set is set, and no other changes.
-use Prim.Native.Nat.{◌%◌, ◌+◌, ◌-◌, ◌/◌, ◌<◌, ◌^◌, suc, zero, ℕ}
+use Prim.Native.Nat.{◌%◌, ◌*◌, ◌+◌, ◌-◌, ◌/◌, ◌<◌, ◌^◌, suc, zero, ℕ}
 use mathlib.Core.Bool.{true}
 use mathlib.Core.Logic.{◌≢◌}
 use mathlib.Core.Path.{◌∙◌, ◌≡◌, ap, refl, sym}
@@ -8,8 +8,12 @@ use native.Mathlib.Nat.{div-eq_of_lt, div_self, mod-lt, one-mul}
 use native.Mathlib.Omega.{arith}
 use lib.Bits.{bit_or, or_mod, or_shr, or_zero_r, shifted_even}
 use lib.Dec.{eqb}
-use lib.Pow.{pow-add, pow-lt, pow_pos, shl-shr}
+use lib.Pow.{pow-add, pow-lt, pow_pos, shl_exact, shl-shr}
 use Rattle.reached.specs.Marks.{bit}
+
+-- a shift of 1 by less than the width
+pub one_shl : (b : ℕ) → b < 64 → (1 * 2 ^ b) % 2 ^ 64 ≡ 2 ^ b
+one_shl b h = shl_exact 1 b 64 (omega arith) (omega arith) ∙ one-mul (2 ^ b)
 
 bit-or : (w v x : ℕ) → bit (bit_or w v) x ≡ bit_or (bit w x) (bit v x)
 bit-or w v x = rw (or_shr w v x) (or_mod (w / 2 ^ x) (v / 2 ^ x) 1)

@@ -2,6 +2,7 @@
 use Rattle.layout.specs.declared.Geometry.{Geometry}
 use Rattle.std.proofs.Common.{◌≡◌, ℕ, zero, suc, pred, ◌+◌, ◌-◌, ◌/◌, ◌^◌, ◌<◌, ◌≤◌, Bool, true, false, cond, ◌&&◌, ltb, List, [], ◌∷◌, ◌++◌, length, sym, refl, ap, ◌∙◌, add-one, sub-one, arith, lt-ltb}
 use Rattle.std.specs.Prelude.{Result as Returned, Ok, Err}
+use Rattle.std.specs.Result.{is_ok}
 use mathlib.Core.Option.{Option, none, some}
 use mathlib.Core.Path.{fun_ext}
 use native.Mathlib.Nat.{mod-mod}
@@ -157,6 +158,28 @@ module _ (v : View) (mend : ℕ → ℕ) (geometry : Geometry) (below : ℕ) (t 
   pub slots-done : (start c k left : ℕ) (whole : Result (Marks × ℕ)) (r : Reached) (n : ℕ) → whole ≡ rest start c k left (marks_of r) n → left ≡ 0 → Sound r → Tells whole (Ok r) n
   slots-done start c k left whole r n w e s = rw (w ∙ rest-done start c k left (marks_of r) n e) (keeps_self r s, refl)
 
+  -- Where the walk of the slots stands: sound so far, and what is left gives the whole; or refused.
+  abbrev pub Stands : ℕ → ℕ → ℕ → ℕ → Result (Marks × ℕ) → Returned Reached Refusal → ℕ → Type 0
+  Stands start c k left whole (Ok r) n = (whole ≡ rest start c k left (marks_of r) n) × Sound r
+  Stands start c k left whole (Err f) n = Tells whole (Err f) n
+
+  -- the end: no slot is left, or one was refused
+  pub stands-end : (start c k left : ℕ) (whole : Result (Marks × ℕ)) (x : Returned Reached Refusal) (n : ℕ) → Stands start c k left whole x n → (is_ok x ≡ true → left ≡ 0) → Tells whole x n
+  stands-end start c k left whole (Ok r) n h e = slots-done start c k left whole r n h.0 (e refl) h.1
+  stands-end start c k left whole (Err f) n h e = h
+
+  pub stands-sound : (start c k left : ℕ) (whole : Result (Marks × ℕ)) (x : Returned Reached Refusal) (r : Reached) (n : ℕ) → Stands start c k left whole x n → x ≡ Ok r
+      → (whole ≡ rest start c k left (marks_of r) n) × Sound r
+  stands-sound start c k left whole x r n h e = rw e at h
+
+  -- one slot more
+  pub slot-on : (links : (c : ℕ) → v.link c ≡ table_links t c) (start c k left : ℕ) (whole : Result (Marks × ℕ)) (r : Reached) (n : ℕ) → whole ≡ rest start c k left (marks_of r) n
+      → 0 < left → c ≡ cluster_at t start k → (seen : Returned Kind Refusal) → seen ≡ looked_at (live_before v t start k) (image_page geometry (slot_page c k)) (v.entry (slot_page c k))
+      → (count : ℕ) → LookAdds seen n (mend (slot_page c k)) count
+      → (x : Returned Reached Refusal) (later : ℕ) → Tells (entered_read v mend geometry below t (marks_of r) count seen) x later → Stands start (cluster_after t c k) (k + 1) (left - 1) whole x later
+  slot-on links start c k left whole r n w l here seen f count adds (Ok q) later h = slot-go links start c k left whole r n w l here seen f count adds q later h
+  slot-on links start c k left whole r n w l here seen f count adds (Err g) later h = slot-stop links start c k left whole r n w l here seen f count adds g later later h
+
   -- ---- the first two entries, before the slots
 
   dots-only : (pages : List ℕ) (n : ℕ) (r : Result (Unit {0})) (w : Result (Tree × Marks)) → ok tt ≡ on_image geometry r
@@ -187,6 +210,18 @@ module _ (v : View) (mend : ℕ → ℕ) (geometry : Geometry) (below : ℕ) (t 
         ∙ tallied-on mend (dot_pages first) (slot_pages t (next_of t first) 0 (entries - 2)) n count adds (walk_directory v below (slot_pages t (next_of t first) 0 (entries - 2)) (λ n. 0) m))
         ∙ ap (λ (w : Result (Tree × Marks)). on_image geometry (tallied mend (slot_pages t (next_of t first) 0 (entries - 2)) count w)) (walk_is v below (slot_pages t (next_of t first) 0 (entries - 2)) (λ n. 0) m)
         ∙ rw (← f, ← g) (ap (λ (s : Name → ℕ). on_image geometry (tallied mend (slot_pages t start 0 left) count (walk_slots v (deeper_of v below) below (slot_pages t start 0 left) s m))) (fun_ext (λ n. refl)))
+
+-- the record so far, or why the first two entries are refused
+abbrev pub begun : Reached → Returned (Unit {0}) Refusal → Returned Reached Refusal
+begun r (Ok u) = Ok r
+begun r (Err f) = Err f
+
+-- the start of a directory's slots, by the verdict on its first two entries
+pub inside-stands : (v : View) (mend : ℕ → ℕ) (geometry : Geometry) (below : ℕ) (t : List ℕ) (first entries : ℕ) (r : Reached) (n : ℕ) → Sound r → (x : Returned (Unit {0}) Refusal) → told x ≡ on_image geometry (judge_dots v (first ∷ []))
+    → (count : ℕ) → Adds x n (total_over mend (dot_pages first)) count → (start left : ℕ) → start ≡ next_of t first → left ≡ entries - 2
+    → Stands v mend geometry below t start start 0 left (on_image geometry (inside_of v mend below t first entries (marks_of r) n)) (begun r x) count
+inside-stands v mend geometry below t first entries r n s (Ok u) h count adds start left f g = (inside-go v mend geometry below t first entries (marks_of r) n h count adds start left f g, s)
+inside-stands v mend geometry below t first entries r n s (Err q) h count adds start left f g = inside-stop v mend geometry below t first entries (marks_of r) n q count h
 
 -- ---- an entry and its chain
 
