@@ -14,7 +14,7 @@ fn is_slash(byte: &u8) -> bool
     *byte == b'/'
 }
 
-// How many names a path has, where the bytes are one; `/` has none. Of more bytes than a path has only the number is looked at.
+// How many names a path has, where the bytes are one; `/` has none. Bytes longer than any path are refused by their number.
 pub fn parse_path(path: &[u8]) -> Option<usize>
     ensures { result ≡ parsed_of (path_of path.now) }
 {

@@ -18,6 +18,7 @@ use Rattle.model.specs.Check.{Result, ok}
 use Rattle.model.specs.Entry.{entry_of, is_directory}
 use Rattle.model.specs.Needed.{total_over}
 use Rattle.model.specs.Tree.{Slot, Tree}
+use Rattle.model.specs.View.{View}
 use Rattle.model.proofs.NeededPages.{total-most}
 use Rattle.page.proofs.Mending.{mended-most}
 use Rattle.tree.specs.Card.{view_of}
@@ -35,6 +36,12 @@ use Rattle.tree.specs.declared.along.Place.{Place}
 use Rattle.lookup.proofs.CopyLaws.{slice-length}
 use Rattle.lookup.proofs.PagesLaws.{joined_length, pages-count}
 use Rattle.lookup.proofs.ReadLaws.{data_pages, pages-none, pages-read, read-bytes, read_none, read-refused, read_told, read-unreadable}
+
+-- where a scan of the pages up to the last needed byte's finds no unreadable one, none of those that are copied is
+module _ (v : View) (t : List ℕ) (from n start : ℕ) (r : Option Place)
+    (scanned : r ≡ scan (unread v) (slot_pages t start (from / 512) ((from + n + 511) / 512 - from / 512)) (from / 512)) where
+  pub copy-ready : r ≡ None → scan (unread v) (slot_pages t start (from / 512) (pages_for (from % 512) n)) (from / 512) ≡ None
+  copy-ready q = let pages : (from + n + 511) / 512 - from / 512 ≡ pages_for (from % 512) n = omega arith in sym (rw pages at scanned) ∙ q
 
 module _ (card : Card) (file : EntryAt) (from room size n : ℕ) (is_size : size ≡ (entry_of file.page).length) (is_least : n ≡ min room (size - from)) where
   count-is : n ≡ bytes_to_copy (entry_of file.page).length from room
@@ -64,8 +71,8 @@ module _ (card : Card) (file : EntryAt) (from room size n : ℕ) (is_size : size
     same-scan : scan (unread (view_of card)) (data_pages (view_of card) card.table.now (λ z. refl) file.first from room (entry_of file.page)) (from / 512) ≡ r
     same-scan = sym (rw (begins, pages-are, count-is) at scanned)
 
-    pub copy-ready : r ≡ None → scan (unread (view_of card)) (slot_pages card.table.now start (from / 512) (pages_for (from % 512) n)) (from / 512) ≡ None
-    copy-ready q = sym (rw pages-are at scanned) ∙ q
+    ready : r ≡ None → scan (unread (view_of card)) (slot_pages card.table.now start (from / 512) (pages_for (from % 512) n)) (from / 512) ≡ None
+    ready = let last : high ≡ (from + n + 511) / 512 = omega arith in copy-ready (view_of card) card.table.now from n start r (rw last at scanned)
 
     module _ (h : Slot) (s : Tree) (x : StandsAt (view_of card) file h s) (f : is_directory (entry_of file.page) ≡ false) (a : from ≤ size) (b : n ≡ 0 → ⊥) where
       pub tells-unreadable : (at : Place) (k : Refusal) → k ≡ UnreadablePage (image_page card.geometry at.page) → r ≡ Some at → (before : List ℕ)
@@ -81,7 +88,7 @@ module _ (card : Card) (file : EntryAt) (from room size n : ℕ) (is_size : size
           let g : read_from from room h s ≡ ok (slice (data_along (view_of card) (data_pages (view_of card) card.table.now (λ z. refl) file.first from room (entry_of file.page))) (from % 512) (bytes_to_copy (entry_of file.page).length from room)) =
           read-bytes (view_of card) card.table.now (λ z. refl) file.first from room (entry_of file.page) h s x f (omega arith) (omega (arith, count-is, b)) (same-scan ∙ i) in
           let j : length (data_along (view_of card) (slot_pages card.table.now start (from / 512) (pages_for (from % 512) n))) ≡ 512 * pages_for (from % 512) n =
-          joined_length (view_of card) (view-sized card.geometry (length card.table.now) card.image.now) (slot_pages card.table.now start (from / 512) (pages_for (from % 512) n)) (from / 512) (copy-ready i)
+          joined_length (view_of card) (view-sized card.geometry (length card.table.now) card.image.now) (slot_pages card.table.now start (from / 512) (pages_for (from % 512) n)) (from / 512) (ready i)
           ∙ ap (λ (m : ℕ). 512 * m) (pages-count (view_of card) (view-sized card.geometry (length card.table.now) card.image.now) card.table.now start (from / 512) (pages_for (from % 512) n)) in
           read_told card.geometry (read_from from room h s) (slice (data_along (view_of card) (slot_pages card.table.now start (from / 512) (pages_for (from % 512) n))) (from % 512) n) before (copied ++ drop n before) n
           (rw (begins, count-is) g) (slice-length (data_along (view_of card) (slot_pages card.table.now start (from / 512) (pages_for (from % 512) n))) (from % 512) n (omega arith)) (ap (λ (b : List ℕ). b ++ drop n before) c)
